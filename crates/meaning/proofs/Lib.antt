@@ -1,0 +1,11 @@
+-- Laws on the definitions, each stated so that another crate's proof can cite it.
+pub mod Writes
+pub mod SetLaws
+pub mod Examples
+pub mod ListLaws
+pub mod Local
+pub mod CutLaws
+pub mod Framed
+pub mod TableLaws
+pub mod PaLaws
+pub mod NarrowLaws

@@ -1,0 +1,394 @@
+-- Narrowed payloads and packets: read again as what they were with the narrowed message, never longer than before, and narrowing by
+-- more wishes and then by fewer is narrowing by the fewer. Then what is public of it. Rests on PaLaws.
+use Prim.Native.Nat.{ℕ, zero, suc, _+_, _-_, _*_, _/_, _%_, _≤_, _<_}
+use mathlib.Core.Path.{_≡_, refl, sym, ap, ap₂, _∙_, subst}
+use mathlib.Core.Bool.{Bool, true, false, cond, not, _&&_, _||_}
+use mathlib.Core.List.{List, [], _∷_, _++_, map, append-assoc, append-nil}
+use mathlib.Core.Option.{Option, none, some, Option·map, Option·getD, Option·none-ne-some, Option·some-injective}
+use native.Mathlib.Omega.{arith}
+use lib.ListN.{length, take, drop, getD, length-append, length-drop, take-append-drop, List·getD-append}
+use lib.Seq.{take-at, drop-at, drop-append-le, length-take-le, getD-take}
+use lib.Dec.{leb, eqb}
+use borrow.Author.Tests.{le-leb, leb-true, eqb-true}
+use Rattle.meaning.specs.Bytes.{Bytes, be16, be16At, put16, put32}
+use Rattle.meaning.specs.Readers.{Out, Reader, bind, _>>=_, give, byte, u16, u32, bytes, counted32}
+use Rattle.meaning.specs.Mmtp.{Place, byKind, compressed, udp, placeOf, Head, mmtpHead, Mmtp, mmtpFrom, mmtpAt, mmtpOf, isSignalling}
+use Rattle.meaning.specs.Messages.{Message, message, messageBody, isLong, indicator, aggregated}
+use Rattle.meaning.specs.Narrow.{narrowPa, paOf, paMessage, payloadBytes, payloadFor, narrowPayload, packetBytes, packetFor, narrowPacket, narrowedPacket, narrowTable, isSome}
+use Rattle.meaning.specs.Less.{Fewer}
+use Rattle.meaning.specs.declared.Options.{Options}
+use Rattle.meaning.proofs.ListLaws.{clash, and-both}
+use Rattle.meaning.proofs.Local.{mmtpHead-local}
+use Rattle.meaning.proofs.Framed.{Before, before}
+use Rattle.meaning.proofs.TableLaws.{Narrows, narrows-again, be16-put, be16-small, table-narrows}
+use Rattle.meaning.proofs.PaLaws.{pa-narrows}
+
+-- ---- a message of 32 bits' length
+
+u32-put : (n : ℕ) (r : Bytes) → n < 4294967296 → u32 (put32 n ++ r) ≡ some (n, r)
+unfolding u32 u16 byte put32 put16
+u32-put n r h =
+    let e : n / 65536 * 65536 + n % 65536 ≡ n = omega arith in
+    rw (be16-put (n / 65536) (omega arith), be16-put (n % 65536) (omega arith), e)
+
+pub counted32-again : (b r : Bytes) → length b < 4294967296 → counted32 (put32 (length b) ++ (b ++ r)) ≡ some (b, r)
+unfolding counted32 bytes
+counted32-again b r h =
+    let l : length b ≤ length (b ++ r) = omega (arith, length-append b r) in
+    rw (u32-put (length b) (b ++ r) h, le-leb _ _ l, take-at b r (length b) refl, drop-at b r (length b) refl)
+
+u32-split : (s : Bytes) (n : ℕ) (r : Bytes) → u32 s ≡ some (n, r) → (n < 4294967296) × (length s ≡ 4 + length r)
+unfolding u32 u16 byte
+u32-split [] n r e = absurd (Option·none-ne-some _ e)
+u32-split (a ∷ []) n r e = absurd (Option·none-ne-some _ e)
+u32-split (a ∷ b ∷ []) n r e = absurd (Option·none-ne-some _ e)
+u32-split (a ∷ b ∷ c ∷ []) n r e = absurd (Option·none-ne-some _ e)
+u32-split (a ∷ b ∷ c ∷ d ∷ s) n r e =
+    let q = Option·some-injective _ _ e in
+    let v : be16 a b * 65536 + be16 c d ≡ n = ap (λ z. z .0) q in
+    let w : length s ≡ length r = ap (λ z. length (z .1)) q in
+    (omega (arith, be16-small a b, be16-small c d), omega arith)
+
+bytes-length : (n : ℕ) (s b r : Bytes) → bytes n s ≡ some (b, r) → (length b ≡ n) × (length s ≡ n + length r)
+unfolding bytes
+bytes-length n s b r e = go (leb n (length s)) refl e
+  where
+    go : (a : Bool) → leb n (length s) ≡ a → cond {A = Out Bytes} a (some (take n s, drop n s)) none ≡ some (b, r) → (length b ≡ n) × (length s ≡ n + length r)
+    go false ea q = absurd (Option·none-ne-some _ q)
+    go true ea q =
+        let z = Option·some-injective _ _ q in
+        let k : n ≤ length s = leb-true _ _ ea in
+        let lb : length (take n s) ≡ length b = ap (λ x. length (x .0)) z in
+        let lr : length (drop n s) ≡ length r = ap (λ x. length (x .1)) z in
+        (omega (arith, length-take-le n s k), omega (arith, length-drop n s))
+
+counted32-split : (s b r : Bytes) → counted32 s ≡ some (b, r) → (length b < 4294967296) × (length s ≡ 4 + length b + length r)
+unfolding counted32
+counted32-split s b r e =
+    let x = before (u32 s) bytes b r e in
+    let u = u32-split s (x .first) (x .rest) (x .was) in
+    let v = bytes-length (x .first) (x .rest) b r (x .then-was) in
+    (omega (arith, u .0, v .0), omega (arith, u .1, v .0, v .1))
+
+-- ---- a payload that holds a whole, unaggregated PA message
+
+-- with another body in the message, it is such a payload again
+pub record PaSplit (s b : Bytes) : Type 0 where
+  pub few : length b < 4294967296
+  pub long : 9 + length b ≤ length s
+  pub again : (c : Bytes) → length c < 4294967296 → paMessage (payloadBytes s c) ≡ some c
+  pub same : (c d : Bytes) → payloadBytes (payloadBytes s c) d ≡ payloadBytes s d
+  pub size : (c : Bytes) → length (payloadBytes s c) ≡ 9 + length c
+
+message-split : (i j v : ℕ) (s b rest : Bytes) → be16 i j ≡ 0 → messageBody (isLong (be16 i j)) s ≡ some (b, rest) → counted32 s ≡ some (b, rest)
+unfolding messageBody isLong
+message-split i j v s b rest z e = rw z at e
+
+message-again : (i j v : ℕ) (c : Bytes) → be16 i j ≡ 0 → length c < 4294967296
+    → message (i ∷ j ∷ v ∷ (put32 (length c) ++ c)) ≡ some (record { number = be16 i j; body = c }, [])
+unfolding message u16 byte isLong messageBody
+message-again i j v c z h =
+    let k : counted32 (put32 (length c) ++ c) ≡ some (c, []) = ap (λ (l : Bytes). counted32 (put32 (length c) ++ l)) (sym (append-nil c)) ∙ counted32-again c [] h in
+    rw (z, k)
+
+pa-again : (f k i j v : ℕ) (d : Bytes) → (eqb (indicator f) 0 && eqb (aggregated f) 0) ≡ true → be16 i j ≡ 0 → length d < 4294967296
+    → paMessage (f ∷ k ∷ i ∷ j ∷ v ∷ (put32 (length d) ++ d)) ≡ some d
+unfolding paMessage
+pa-again f k i j v d w z h = rw (w, message-again i j v d z h, z)
+
+payload-split : (f k i j v : ℕ) (t b rest : Bytes) → (eqb (indicator f) 0 && eqb (aggregated f) 0) ≡ true → be16 i j ≡ 0 → counted32 t ≡ some (b, rest)
+    → PaSplit (f ∷ k ∷ i ∷ j ∷ v ∷ t) b
+unfolding payloadBytes put32 put16
+payload-split f k i j v t b rest w z e =
+    let c = counted32-split t b rest e in
+    record {
+      few = c .0;
+      long = omega (arith, c .1);
+      again = λ d h. pa-again f k i j v d w z h;
+      same = λ c d. refl;
+      size = λ c. simp length-append (omega arith);
+    }
+
+parts : (f k : ℕ) (s : Bytes) (m : Message) (rest : Bytes) → (eqb (indicator f) 0 && eqb (aggregated f) 0) ≡ true → m .number ≡ 0 → message s ≡ some (m, rest)
+    → PaSplit (f ∷ k ∷ s) (m .body)
+unfolding message u16 byte
+parts f k [] m rest w z e = absurd (Option·none-ne-some _ e)
+parts f k (i ∷ []) m rest w z e = absurd (Option·none-ne-some _ e)
+parts f k (i ∷ j ∷ []) m rest w z e = absurd (Option·none-ne-some _ e)
+parts f k (i ∷ j ∷ v ∷ t) m rest w z e =
+    let x = before (messageBody (isLong (be16 i j)) t) (λ body. give (record { number = be16 i j; body = body })) m rest e in
+    let q = Option·some-injective _ _ (x .then-was) in
+    let n : be16 i j ≡ 0 = ap (λ y. y .0 .number) q ∙ z in
+    subst (λ (b : Bytes). PaSplit (f ∷ k ∷ i ∷ j ∷ v ∷ t) b) (ap (λ y. y .0 .body) q)
+    (payload-split f k i j v t (x .first) (x .rest) w n (message-split i j v t (x .first) (x .rest) n (x .was)))
+
+pub pa-split : (s b : Bytes) → paMessage s ≡ some b → PaSplit s b
+unfolding paMessage
+pa-split [] b e = absurd (Option·none-ne-some _ e)
+pa-split (f ∷ []) b e = absurd (Option·none-ne-some _ e)
+pa-split (f ∷ k ∷ s) b e = go (eqb (indicator f) 0 && eqb (aggregated f) 0) refl (message s) refl e
+  where
+    inside : (m : Message) (rest : Bytes) → (eqb (indicator f) 0 && eqb (aggregated f) 0) ≡ true → (a : Bool) → eqb (m .number) 0 ≡ a
+        → cond a (some (m .body)) none ≡ some b → message s ≡ some (m, rest) → PaSplit (f ∷ k ∷ s) b
+    inside m rest w false ea q g = absurd (Option·none-ne-some _ q)
+    inside m rest w true ea q g = subst (PaSplit (f ∷ k ∷ s)) (Option·some-injective _ _ q) (parts f k s m rest w (eqb-true _ _ ea) g)
+    go : (a : Bool) → (eqb (indicator f) 0 && eqb (aggregated f) 0) ≡ a → (o : Out Message) → message s ≡ o → cond a (paOf o) none ≡ some b → PaSplit (f ∷ k ∷ s) b
+    go false ea o eo q = absurd (Option·none-ne-some _ q)
+    go true ea none eo q = absurd (Option·none-ne-some _ q)
+    go true ea (some (m, rest)) eo q = inside m rest ea (eqb (m .number) 0) refl q eo
+
+-- ---- a narrowing inside another: `inner` of a part b of s, put back by `put`
+
+module _ {f₁ f₂ : Bytes → Option Bytes} (n : Narrows f₁ f₂) (s b : Bytes) (put : Bytes → Bytes) (outer : Bytes → Option Bytes)
+    (again : (c : Bytes) → length c ≤ length b → outer (put c) ≡ Option·map (λ d. put d) (f₁ c)) where
+  pub within-twice : (o : Option Bytes) → f₂ b ≡ o → (outer s ≡ Option·map put (f₁ b)) → Option·getD (outer (Option·getD (Option·map put o) s)) (Option·getD (Option·map put o) s) ≡ Option·getD (Option·map put (f₁ b)) s
+  within-twice none e w = rw w refl
+  within-twice (some c) e w =
+      let x = narrows-again n b c e in
+      ap (λ (z : Option Bytes). Option·getD z (put c)) (again c (n .shorter b c e)) ∙ go (f₁ c) refl (x .0) (x .2) ∙ ap (λ (z : Option Bytes). Option·getD (Option·map put z) s) (sym (x .1))
+    where
+      go : (o : Option Bytes) → f₁ c ≡ o → (d : Bytes) → Option·getD (f₁ c) c ≡ d → Option·getD (Option·map put (f₁ c)) (put c) ≡ put d
+      go none eo d q = rw eo (ap put (sym (ap (λ (o : Option Bytes). Option·getD o c) eo) ∙ q))
+      go (some z) eo d q = rw eo (ap put (sym (ap (λ (o : Option Bytes). Option·getD o c) eo) ∙ q))
+
+map-some : (put : Bytes → Bytes) (a b : Option Bytes) → (isSome a ≡ true → isSome b ≡ true) → isSome (Option·map put a) ≡ true → isSome (Option·map put b) ≡ true
+map-some put none b h e = clash (cc)
+map-some put (some x) none h e = h refl
+map-some put (some x) (some y) h e = refl
+
+-- the bytes that a change puts in
+map-long : (put : Bytes → Bytes) (b s : Bytes) (o : Option Bytes) → ((c : Bytes) → o ≡ some c → length (put c) ≤ length s) → (y : Bytes) → Option·map put o ≡ some y → length y ≤ length s
+map-long put b s none h y e = absurd (Option·none-ne-some _ e)
+map-long put b s (some c) h y e = subst (λ (z : Bytes). length z ≤ length s) (Option·some-injective _ _ e) (h c refl)
+
+-- ---- payloads
+
+module _ {o₁ o₂ : Options} (fewer : Fewer o₁ o₂) (p : ℕ) where
+  payload-again : (s b : Bytes) → paMessage s ≡ some b → (c : Bytes) → length c ≤ length b
+      → narrowPayload o₁ p (payloadBytes s c) ≡ Option·map (λ d. payloadBytes s d) (narrowPa o₁ p c)
+  unfolding narrowPayload
+  payload-again s b e c l =
+      let sp = pa-split s b e in
+      rw (sp .again c (omega (arith, sp .few))) (go (narrowPa o₁ p c))
+    where
+      go : (o : Option Bytes) → Option·map (payloadBytes (payloadBytes s c)) o ≡ Option·map (λ d. payloadBytes s d) o
+      go none = refl
+      go (some d) = ap some (pa-split s b e .same c d)
+
+  payload-case : (s : Bytes) (x : Option Bytes) → paMessage s ≡ x
+      → (Option·getD (narrowPayload o₁ p (Option·getD (payloadFor o₂ p s x) s)) (Option·getD (payloadFor o₂ p s x) s) ≡ Option·getD (payloadFor o₁ p s x) s)
+      × (isSome (payloadFor o₂ p s x) ≡ true → isSome (payloadFor o₁ p s x) ≡ true)
+      × ((y : Bytes) → payloadFor o₂ p s x ≡ some y → length y ≤ length s)
+  unfolding narrowPayload
+  payload-case s none e = (rw e refl, λ h. h, λ y h. absurd (Option·none-ne-some _ h))
+  payload-case s (some b) e =
+      let n = pa-narrows fewer p in
+      let sp = pa-split s b e in
+      (within-twice n s b (payloadBytes s) (narrowPayload o₁ p) (payload-again s b e) (narrowPa o₂ p b) refl (rw e refl),
+      map-some (payloadBytes s) (narrowPa o₂ p b) (narrowPa o₁ p b) (n .more b),
+      map-long (payloadBytes s) b s (narrowPa o₂ p b) (λ c q. omega (arith, n .shorter b c q, sp .size c, sp .long)))
+
+  pub payload-narrows : Narrows (narrowPayload o₁ p) (narrowPayload o₂ p)
+  unfolding narrowPayload
+  payload-narrows = record {
+    twice = λ s. payload-case s (paMessage s) refl .0;
+    more = λ s. payload-case s (paMessage s) refl .1;
+    shorter = λ s. payload-case s (paMessage s) refl .2;
+  }
+
+-- ---- packets
+
+-- UDP is never rewritable
+udp-fixed : (header : ℕ) (s : Bytes) (at : ℕ) (w : Bool) → udp header s ≡ some (at, w) → w ≡ false
+unfolding udp
+udp-fixed header s at w e = go (leb (header + 4) (length s)) (eqb (be16At s (header + 2)) 123) e
+  where
+    go : (a b : Bool) → cond {A = Place} a (cond {A = Place} b none (some (header + 8, false))) none ≡ some (at, w) → w ≡ false
+    go false b q = absurd (Option·none-ne-some _ q)
+    go true true q = absurd (Option·none-ne-some _ q)
+    go true false q = sym (ap (λ z. z .1) (Option·some-injective _ _ q))
+
+-- a place that may be rewritten is at 3, and stays there whatever follows the first three bytes
+pub record Rewritable (type : ℕ) (s : Bytes) (at : ℕ) : Type 0 where
+  pub three : at ≡ 3
+  pub long : 3 ≤ length s
+  pub again : (t : Bytes) → 3 ≤ length t → getD t 2 0 ≡ getD s 2 0 → placeOf type t ≡ some (3, true)
+
+kind-place : (k at : ℕ) → byKind k ≡ some (at, true) → (at ≡ 3) × (byKind k ≡ some (3, true))
+unfolding byKind
+kind-place k at e = go (eqb k 0x21) (eqb k 0x61) (eqb k 0x20) (eqb k 0x60) e
+  where
+    by : Bool → Bool → Bool → Bool → Place
+    by a b c d = cond a (some (3, true)) (cond b (some (3, true)) (cond c (some (23, false)) (cond d (some (45, false)) none)))
+    go : (a b c d : Bool) → by a b c d ≡ some (at, true) → (at ≡ 3) × (by a b c d ≡ some (3, true))
+    go true b c d q = (sym (ap (λ z. z .0) (Option·some-injective _ _ q)), refl)
+    go false true c d q = (sym (ap (λ z. z .0) (Option·some-injective _ _ q)), refl)
+    go false false true d q = clash (let z : false ≡ true = ap (λ z. z .1) (Option·some-injective _ _ q) in cc)
+    go false false false true q = clash (let z : false ≡ true = ap (λ z. z .1) (Option·some-injective _ _ q) in cc)
+    go false false false false q = absurd (Option·none-ne-some _ q)
+
+compressed-place : (s : Bytes) (at : ℕ) → compressed s ≡ some (at, true)
+    → (at ≡ 3) × (3 ≤ length s) × ((t : Bytes) → 3 ≤ length t → getD t 2 0 ≡ getD s 2 0 → compressed t ≡ some (3, true))
+unfolding compressed
+compressed-place s at e = go (leb 3 (length s)) refl e
+  where
+    go : (a : Bool) → leb 3 (length s) ≡ a → cond {A = Place} a (byKind (getD s 2 0)) none ≡ some (at, true)
+        → (at ≡ 3) × (3 ≤ length s) × ((t : Bytes) → 3 ≤ length t → getD t 2 0 ≡ getD s 2 0 → cond {A = Place} (leb 3 (length t)) (byKind (getD t 2 0)) none ≡ some (3, true))
+    go false ea q = absurd (Option·none-ne-some _ q)
+    go true ea q =
+        let k = kind-place (getD s 2 0) at q in
+        (k .0, leb-true _ _ ea, λ t l g. rw (le-leb 3 (length t) l, g) (k .1))
+
+place-by : (type : ℕ) (s : Bytes) → placeOf type s
+    ≡ cond (eqb type 0x03) (compressed s) (cond (eqb type 0x01) (udp (getD s 0 0 % 16 * 4) s) (cond (eqb type 0x02) (udp 40 s) none))
+unfolding placeOf
+place-by type s = refl
+
+pub rewritable-place : (type : ℕ) (s : Bytes) (at : ℕ) → placeOf type s ≡ some (at, true) → Rewritable type s at
+rewritable-place type s at e = go (eqb type 0x03) refl (eqb type 0x01) refl (eqb type 0x02) refl (place-by type s) e
+  where
+    by : Bytes → Bool → Bool → Bool → Place
+    by t a b c = cond a (compressed t) (cond b (udp (getD t 0 0 % 16 * 4) t) (cond c (udp 40 t) none))
+    go : (a : Bool) → eqb type 0x03 ≡ a → (b : Bool) → eqb type 0x01 ≡ b → (c : Bool) → eqb type 0x02 ≡ c
+        → placeOf type s ≡ by s (eqb type 0x03) (eqb type 0x01) (eqb type 0x02) → placeOf type s ≡ some (at, true) → Rewritable type s at
+    go true ea b eb c ec w q =
+        let k = compressed-place s at (sym (w ∙ ap (λ (z : Bool). by s z (eqb type 0x01) (eqb type 0x02)) ea) ∙ q) in
+        record { three = k .0; long = k .1; again = λ t l g. place-by type t ∙ ap (λ (z : Bool). by t z (eqb type 0x01) (eqb type 0x02)) ea ∙ k .2 t l g }
+    go false ea true eb c ec w q =
+        clash (let z = udp-fixed (getD s 0 0 % 16 * 4) s at true (sym (w ∙ ap₂ (λ (x y : Bool). by s x y (eqb type 0x02)) ea eb) ∙ q) in cc)
+    go false ea false eb true ec w q =
+        clash (let z = udp-fixed 40 s at true (sym (w ∙ ap₂ (λ (x y : Bool). by s x y (eqb type 0x02)) ea eb ∙ ap (by s false false) ec) ∙ q) in cc)
+    go false ea false eb false ec w q =
+        absurd (Option·none-ne-some _ (sym (w ∙ ap₂ (λ (x y : Bool). by s x y (eqb type 0x02)) ea eb ∙ ap (by s false false) ec) ∙ q))
+
+-- the packet with another payload
+abbrev pub withPayload : Mmtp → Bytes → Mmtp
+withPayload m y = record { identifier = m .identifier; kind = m .kind; rewritable = m .rewritable; payload = y }
+
+pub record PacketSplit (p : Bytes) (m : Mmtp) : Type 0 where
+  pub again : (y : Bytes) → mmtpOf (packetBytes p m y) ≡ some (withPayload m y)
+  pub same : (y z : Bytes) → packetBytes (packetBytes p m y) (withPayload m y) z ≡ packetBytes p m z
+  pub size : (y : Bytes) → length (packetBytes p m y) + length (m .payload) ≡ length p + length y
+
+-- from its parts: four bytes, and the front f that the payload follows
+packet-front : (a t l k : ℕ) (f : Bytes) (m : Mmtp) (y : Bytes) → packetBytes (a ∷ t ∷ l ∷ k ∷ (f ++ m .payload)) m y ≡ a ∷ t ∷ (put16 (length (f ++ y)) ++ (f ++ y))
+unfolding packetBytes
+packet-front a t l k f m y =
+    let n : length (a ∷ t ∷ l ∷ k ∷ (f ++ m .payload)) - length (m .payload) - 4 ≡ length f = omega (arith, length-append f (m .payload)) in
+    rw (n, take-at f (m .payload) (length f) refl)
+
+packet-parts : (a t l k : ℕ) (f : Bytes) (m : Mmtp) → ((y : Bytes) → mmtpOf (a ∷ t ∷ (put16 (length (f ++ y)) ++ (f ++ y))) ≡ some (withPayload m y))
+    → PacketSplit (a ∷ t ∷ l ∷ k ∷ (f ++ m .payload)) m
+unfolding put16
+packet-parts a t l k f m g = record {
+  again = λ y. rw (packet-front a t l k f m y) (g y);
+  same = λ y z.
+      ap (λ (x : Bytes). packetBytes x (withPayload m y) z) (packet-front a t l k f m y)
+      ∙ packet-front a t _ _ f (withPayload m y) z ∙ sym (packet-front a t l k f m z);
+  size = λ y. rw (packet-front a t l k f m y) (simp length-append (omega arith));
+}
+
+-- the head behind the first three bytes of the front reads the same whatever payload follows
+read-again : (t : ℕ) (pl part : Bytes) (m : Mmtp) (h : Head) (y : Bytes) → Rewritable t pl 3
+    → ((y : Bytes) → mmtpHead (part ++ y) ≡ some (h, y)) → h .identifier ≡ m .identifier → h .kind ≡ m .kind → m .rewritable ≡ true
+    → mmtpAt (placeOf t ((take 3 pl ++ part) ++ y)) ((take 3 pl ++ part) ++ y) ≡ some (withPayload m y)
+read-again t pl part m h y r g ei ek ew =
+    let ev : true ≡ m .rewritable = sym ew in
+    let l3 : length (take 3 pl) ≡ 3 = length-take-le 3 pl (r .long) in
+    let s : Bytes = (take 3 pl ++ part) ++ y in
+    let long : 3 ≤ length s = omega (arith, length-append (take 3 pl ++ part) y, length-append (take 3 pl) part) in
+    let third : getD s 2 0 ≡ getD pl 2 0 =
+        ap (λ (z : Bytes). getD z 2 0) (append-assoc (take 3 pl) part y) ∙ List·getD-append (take 3 pl) (part ++ y) 0 2 (omega arith) ∙ getD-take 3 pl 2 0 (omega arith) in
+    let rest : drop 3 s ≡ part ++ y = ap (drop 3) (append-assoc (take 3 pl) part y) ∙ drop-at (take 3 pl) (part ++ y) 3 l3 in
+    rw (r .again s long third, le-leb 3 (length s) long, rest, g y)
+    (λ i. some (record { identifier = ei i; kind = ek i; rewritable = ev i; payload = y }))
+
+four : (a t n : ℕ) (s : Bytes) → mmtpOf (a ∷ t ∷ (put16 n ++ s)) ≡ mmtpAt (placeOf t s) s
+unfolding mmtpOf put16
+four a t n s = let l : 4 ≤ 4 + length s = omega arith in rw (le-leb 4 (length (a ∷ t ∷ n / 256 % 256 ∷ n % 256 ∷ s)) (omega arith))
+
+packet-whole : (a t l k : ℕ) (pl : Bytes) (at : ℕ) (h : Head) (m : Mmtp) → placeOf t pl ≡ some (at, true) → mmtpHead (drop at pl) ≡ some (h, m .payload)
+    → h .identifier ≡ m .identifier → h .kind ≡ m .kind → m .rewritable ≡ true → PacketSplit (a ∷ t ∷ l ∷ k ∷ pl) m
+unfolding mmtpOf
+packet-whole a t l k pl at h m ep eh ei ek ew =
+    let r = rewritable-place t pl at ep in
+    let eh3 : mmtpHead (drop 3 pl) ≡ some (h, m .payload) = ap (λ (n : ℕ). mmtpHead (drop n pl)) (sym (r .three)) ∙ eh in
+    let u = mmtpHead-local (drop 3 pl) h (m .payload) eh3 in
+    let f : Bytes = take 3 pl ++ u .part in
+    let whole : f ++ m .payload ≡ pl = append-assoc (take 3 pl) (u .part) (m .payload) ∙ ap (λ (z : Bytes). take 3 pl ++ z) (sym (u .whole)) ∙ take-append-drop 3 pl in
+    subst (λ (z : Bytes). PacketSplit (a ∷ t ∷ l ∷ k ∷ z) m) whole
+    (packet-parts a t l k f m (λ y. long a t f y (read-again t pl (u .part) m h y (subst (Rewritable t pl) (r .three) r) (u .again) ei ek ew)))
+  where
+    long : (a t : ℕ) (f y : Bytes) {o : Option Mmtp} → mmtpAt (placeOf t (f ++ y)) (f ++ y) ≡ o → mmtpOf (a ∷ t ∷ (put16 (length (f ++ y)) ++ (f ++ y))) ≡ o
+    long a t f y e = four a t (length (f ++ y)) (f ++ y) ∙ e
+
+-- what was read of a packet that may be rewritten
+pub packet-split : (p : Bytes) (m : Mmtp) → mmtpOf p ≡ some m → m .rewritable ≡ true → PacketSplit p m
+unfolding mmtpOf
+packet-split [] m e w = absurd (Option·none-ne-some _ e)
+packet-split (a ∷ []) m e w = absurd (Option·none-ne-some _ e)
+packet-split (a ∷ t ∷ []) m e w = absurd (Option·none-ne-some _ e)
+packet-split (a ∷ t ∷ l ∷ []) m e w = absurd (Option·none-ne-some _ e)
+packet-split (a ∷ t ∷ l ∷ k ∷ pl) m e w =
+    go (placeOf t pl) refl (sym (ap (λ (b : Bool). cond b (mmtpAt (placeOf t pl) pl) none) (le-leb 4 (length (a ∷ t ∷ l ∷ k ∷ pl)) (omega arith))) ∙ e)
+  where
+    headed : (at : ℕ) (v : Bool) → placeOf t pl ≡ some (at, v) → (o : Out Head) → mmtpHead (drop at pl) ≡ o → mmtpFrom v o ≡ some m → PacketSplit (a ∷ t ∷ l ∷ k ∷ pl) m
+    headed at v ep none eo q = absurd (Option·none-ne-some _ q)
+    headed at v ep (some (h, y)) eo q =
+        let z = Option·some-injective _ _ q in
+        let ev : v ≡ true = ap (λ x. x .rewritable) z ∙ w in
+        packet-whole a t l k pl at h m (ep ∙ ap (λ (b : Bool). some (at, b)) ev) (eo ∙ ap (λ x. some (h, x .payload)) z) (ap (λ x. x .identifier) z) (ap (λ x. x .kind) z) w
+    placed : (at : ℕ) (v : Bool) → placeOf t pl ≡ some (at, v) → (b : Bool) → cond b (mmtpFrom v (mmtpHead (drop at pl))) none ≡ some m → PacketSplit (a ∷ t ∷ l ∷ k ∷ pl) m
+    placed at v ep false q = absurd (Option·none-ne-some _ q)
+    placed at v ep true q = headed at v ep (mmtpHead (drop at pl)) refl q
+    go : (o : Place) → placeOf t pl ≡ o → mmtpAt o pl ≡ some m → PacketSplit (a ∷ t ∷ l ∷ k ∷ pl) m
+    go none ep q = absurd (Option·none-ne-some _ q)
+    go (some (at, v)) ep q = placed at v ep (leb at (length pl)) q
+
+module _ {o₁ o₂ : Options} (fewer : Fewer o₁ o₂) where
+  packet-again : (p : Bytes) (m : Mmtp) → mmtpOf p ≡ some m → (isSignalling m && m .rewritable) ≡ true → (y : Bytes)
+      → narrowPacket o₁ (packetBytes p m y) ≡ Option·map (λ z. packetBytes p m z) (narrowPayload o₁ (m .identifier) y)
+  unfolding narrowPacket
+  packet-again p m e g y =
+      let sp = packet-split p m e (and-both (isSignalling m) (m .rewritable) g .1) in
+      rw (sp .again y, g) (go (narrowPayload o₁ (m .identifier) y) (sp .same y))
+    where
+      go : (o : Option Bytes) → ((z : Bytes) → packetBytes (packetBytes p m y) (withPayload m y) z ≡ packetBytes p m z)
+          → Option·map (packetBytes (packetBytes p m y) (withPayload m y)) o ≡ Option·map (λ z. packetBytes p m z) o
+      go none s = refl
+      go (some z) s = ap some (s z)
+
+  packet-case : (p : Bytes) (x : Option Mmtp) → mmtpOf p ≡ x
+      → (Option·getD (narrowPacket o₁ (Option·getD (packetFor o₂ p x) p)) (Option·getD (packetFor o₂ p x) p) ≡ Option·getD (packetFor o₁ p x) p)
+      × (isSome (packetFor o₂ p x) ≡ true → isSome (packetFor o₁ p x) ≡ true)
+      × ((y : Bytes) → packetFor o₂ p x ≡ some y → length y ≤ length p)
+  unfolding narrowPacket
+  packet-case p none e = (rw e refl, λ h. h, λ y h. absurd (Option·none-ne-some _ h))
+  packet-case p (some m) e = go (isSignalling m && m .rewritable) refl
+    where
+      n : Narrows (narrowPayload o₁ (m .identifier)) (narrowPayload o₂ (m .identifier))
+      n = payload-narrows fewer (m .identifier)
+      go : (a : Bool) → (isSignalling m && m .rewritable) ≡ a
+          → let z : Options → Option Bytes = λ o. cond a (Option·map (packetBytes p m) (narrowPayload o (m .identifier) (m .payload))) none in
+          (Option·getD (narrowPacket o₁ (Option·getD (z o₂) p)) (Option·getD (z o₂) p) ≡ Option·getD (z o₁) p)
+          × (isSome (z o₂) ≡ true → isSome (z o₁) ≡ true)
+          × ((y : Bytes) → z o₂ ≡ some y → length y ≤ length p)
+      go false ea = (rw (e, ea) refl, λ h. h, λ y h. absurd (Option·none-ne-some _ h))
+      go true ea =
+          let sp = packet-split p m e (and-both (isSignalling m) (m .rewritable) ea .1) in
+          (within-twice n p (m .payload) (packetBytes p m) (narrowPacket o₁) (λ c l. packet-again p m e ea c) (narrowPayload o₂ (m .identifier) (m .payload)) refl (rw (e, ea) refl),
+          map-some (packetBytes p m) (narrowPayload o₂ (m .identifier) (m .payload)) (narrowPayload o₁ (m .identifier) (m .payload)) (n .more (m .payload)),
+          map-long (packetBytes p m) (m .payload) p (narrowPayload o₂ (m .identifier) (m .payload)) (λ c q. omega (arith, n .shorter (m .payload) c q, sp .size c)))
+
+  pub packet-narrows : Narrows (narrowPacket o₁) (narrowPacket o₂)
+  unfolding narrowPacket
+  packet-narrows = record {
+    twice = λ p. packet-case p (mmtpOf p) refl .0;
+    more = λ p. packet-case p (mmtpOf p) refl .1;
+    shorter = λ p. packet-case p (mmtpOf p) refl .2;
+  }
+
+  -- A table alone, too.
+  pub alone-narrows : Narrows (narrowTable o₁) (narrowTable o₂)
+  unfolding narrowTable
+  alone-narrows = table-narrows fewer 0

@@ -1,0 +1,119 @@
+-- Sets of identifiers: what an insertion changes and what not, and the sum of the words' ones is the number of identifiers in the set.
+use Prim.Native.Nat.{ℕ, zero, suc, max, _+_, _-_, _*_, _/_, _%_, _^_, _≤_, _<_}
+use mathlib.Core.Path.{_≡_, refl, sym, ap, ap₂, _∙_}
+use mathlib.Core.Bool.{Bool, true, false, cond}
+use native.Mathlib.Nat.{add-zero, add-suc, pow-succ', div-div-eq-div-mul, div-one, pow-suc, one-mul, mod-eq-of-lt, mod-lt, div-eq-of-lt, mul-div-cancel, div-self, mul-mod-left}
+use native.Mathlib.Omega.{arith}
+use native.Mathlib.Decide.{ℕ-discrete, decLt}
+use lib.Pow.{pow-lt, pow-pos, pow-add}
+use lib.Arith.{lt-one, digits-mod, lt-of-le-ne}
+use lib.Bits.{bitOr, or-shr, or-step}
+use lib.Count.{ones, onesIn, ones-step}
+use lib.Dec.{eqb}
+use lib.ListN.{length, getD, set}
+use lib.Seq.{getD-set-same, getD-set-other}
+use borrow.Author.Tests.{eq-eqb}
+use Rattle.meaning.specs.Sets.{Words, bitAt, inSet, withId, howMany}
+
+-- ---- one bit of a word
+
+pub shl-one : (k : ℕ) → k < 64 → 1 * 2 ^ k % 18446744073709551616 ≡ 2 ^ k
+shl-one k h = rw one-mul (mod-eq-of-lt (pow-lt h))
+
+bit-or : (a b k : ℕ) → bitAt (bitOr a b) k ≡ max (bitAt a k) (bitAt b k)
+bit-or a b k = rw (or-shr, or-step) (digits-mod _ (omega arith))
+
+bit-pow-same : (k : ℕ) → bitAt (2 ^ k) k ≡ 1
+bit-pow-same k = rw (div-self (pow-pos k))
+
+bit-pow-less : (j k : ℕ) → j < k → bitAt (2 ^ j) k ≡ 0
+bit-pow-less j k h = rw (div-eq-of-lt (pow-lt h))
+
+bit-pow-more : (j k : ℕ) → k < j → bitAt (2 ^ j) k ≡ 0
+bit-pow-more j k h =
+    let e : j ≡ suc (j - suc k) + k = omega arith in
+    let p : 2 ^ j ≡ 2 ^ suc (j - suc k) * 2 ^ k = ap (λ (n : ℕ). 2 ^ n) e ∙ pow-add 2 _ k in
+    rw (p, mul-div-cancel _ (pow-pos k)) (rw pow-suc (mul-mod-left (2 ^ (j - suc k)) 2))
+
+bit-pow-other : (j k : ℕ) → (j ≡ k → ⊥) → bitAt (2 ^ j) k ≡ 0
+bit-pow-other j k h =
+    elim (decLt j k) [
+      | yes l ↦ bit-pow-less j k l
+      | no l ↦ bit-pow-more j k (lt-of-le-ne (omega arith) (λ e. h (sym e)))
+    ]
+
+-- ---- get after insert
+
+pub insert-same : (ws : Words) (p : ℕ) → p / 64 < length ws → inSet (withId ws p) p ≡ true
+unfolding inSet withId
+insert-same ws p i =
+    eq-eqb (bitAt (getD (set ws (p / 64) (bitOr (getD ws (p / 64) 0) (2 ^ (p % 64)))) (p / 64) 0) (p % 64)) 1
+    (rw (getD-set-same ws (p / 64) _ 0 i, bit-or, bit-pow-same) (omega arith))
+
+pub insert-other : (ws : Words) (p q : ℕ) → p / 64 < length ws → (p ≡ q → ⊥) → inSet (withId ws p) q ≡ inSet ws q
+unfolding inSet withId
+insert-other ws p q i h =
+    elim (ℕ-discrete (q / 64) (p / 64)) [
+      | no d ↦ rw (getD-set-other ws (p / 64) (q / 64) _ 0 d)
+      | yes e ↦
+          let same : bitAt (bitOr (getD ws (p / 64) 0) (2 ^ (p % 64))) (q % 64) ≡ bitAt (getD ws (p / 64) 0) (q % 64) =
+          rw (bit-or, bit-pow-other (p % 64) (q % 64) (λ m. h (omega arith))) (omega arith) in
+          rw (e, getD-set-same ws (p / 64) _ 0 i) (ap (λ (b : ℕ). eqb b 1) same)
+    ]
+
+-- ---- counting by a test
+
+-- two tests that agree
+pub many-same : (f g : ℕ → Bool) (n : ℕ) → ((k : ℕ) → k < n → f k ≡ g k) → howMany f n ≡ howMany g n
+unfolding howMany
+many-same f g zero h = refl
+many-same f g (suc n) h = ap₂ _+_ (ap (λ (b : Bool). cond b 1 0) (h n (omega arith))) (many-same f g n (λ k l. h k (omega arith)))
+
+-- the first by itself
+many-first : (f : ℕ → Bool) (n : ℕ) → howMany f (suc n) ≡ cond (f 0) 1 0 + howMany (λ k. f (suc k)) n
+unfolding howMany
+many-first f zero = refl
+many-first f (suc n) = omega (arith, many-first f n)
+
+many-cat : (f : ℕ → Bool) (m n : ℕ) → howMany f (m + n) ≡ howMany f m + howMany (λ k. f (m + k)) n
+unfolding howMany
+many-cat f m zero = simp add-zero
+many-cat f m (suc n) = rw add-suc (omega (arith, many-cat f m n))
+
+-- ---- a word has as many ones as bits that are one
+
+bit-test : (b : ℕ) → b < 2 → cond (eqb b 1) 1 0 ≡ b
+bit-test zero h = refl
+bit-test (suc zero) h = refl
+bit-test (suc (suc b)) h = absurd (omega arith)
+
+-- a higher bit is a bit of the half
+bit-half : (w k : ℕ) → bitAt w (suc k) ≡ bitAt (w / 2) k
+bit-half w k = rw (pow-succ', ← div-div-eq-div-mul)
+
+ones-many : (j w : ℕ) → w < 2 ^ j → ones w ≡ howMany (λ k. eqb (bitAt w k) 1) j
+unfolding howMany ones onesIn
+ones-many zero w h = rw (lt-one h)
+ones-many (suc j) w h =
+    let l : w / 2 < 2 ^ j = omega (arith, pow-suc 2 j) in
+    let ih = ones-many j (w / 2) l in
+    let sm = many-same (λ k. eqb (bitAt w (suc k)) 1) (λ k. eqb (bitAt (w / 2) k) 1) j (λ k m. ap (λ (b : ℕ). eqb b 1) (bit-half w k)) in
+    let first : cond (eqb (bitAt w 0) 1) 1 0 ≡ w % 2 = bit-test (bitAt w 0) (omega arith) ∙ ap (λ (n : ℕ). n % 2) (div-one w) in
+    ones-step w ∙ ap (λ (n : ℕ). w % 2 + n) (ih ∙ sym sm) ∙ sym (many-first (λ k. eqb (bitAt w k) 1) j ∙ ap (λ (n : ℕ). n + howMany (λ k. eqb (bitAt w (suc k)) 1) j) first)
+
+-- ---- and the words as many as identifiers in the set
+
+-- identifier 64 i + k is bit k of word i
+in-word : (ws : Words) (i k : ℕ) → k < 64 → inSet ws (i * 64 + k) ≡ eqb (bitAt (getD ws i 0) k) 1
+unfolding inSet
+in-word ws i k h =
+    let q : (i * 64 + k) / 64 ≡ i = omega arith in
+    let r : (i * 64 + k) % 64 ≡ k = omega arith in
+    rw (q, r)
+
+-- the identifiers of the words up to word i: those of the words before it, and its ones
+pub ones-turn : (ws : Words) (i : ℕ) → getD ws i 0 < 2 ^ 64 → howMany (inSet ws) ((i + 1) * 64) ≡ howMany (inSet ws) (i * 64) + ones (getD ws i 0)
+ones-turn ws i h =
+    let e : (i + 1) * 64 ≡ i * 64 + 64 = omega arith in
+    let word = ones-many 64 (getD ws i 0) h ∙ sym (many-same (λ k. inSet ws (i * 64 + k)) (λ k. eqb (bitAt (getD ws i 0) k) 1) 64 (in-word ws i)) in
+    ap (howMany (inSet ws)) e ∙ many-cat (inSet ws) (i * 64) 64 ∙ ap (λ (n : ℕ). howMany (inSet ws) (i * 64) + n) (sym word)

@@ -1,0 +1,72 @@
+-- Writing one thing after another into a lent slice: nothing, a byte, one write and then a next, and the turns of the two loops that
+-- copy. Rests on Wrote alone.
+use Prim.Native.Nat.{ℕ, suc, _+_, _-_, _≤_, _<_}
+use mathlib.Core.Path.{_≡_, refl, sym, ap, _∙_}
+use mathlib.Core.List.{List, [], _∷_, _++_, append-assoc, append-nil}
+use native.Mathlib.Nat.{add-zero, add-assoc}
+use native.Mathlib.Numerals.{add-one}
+use native.Mathlib.Omega.{arith}
+use lib.ListN.{length, take, drop, getD, set, length-append, length-drop, take-append-drop}
+use lib.Seq.{take-suc, take-suc-set, drop-set-lt, drop-drop, getD-drop, length-take-le, take-length}
+use Rattle.meaning.specs.Bytes.{Bytes}
+use Rattle.meaning.specs.Writing.{Wrote}
+
+pub wrote-none : (d : Bytes) (to : ℕ) → Wrote [] d to d to
+wrote-none d to = record { end = sym (add-zero to); front = sym (append-nil (take to d)); back = refl }
+
+pub wrote-byte : (b : ℕ) (d : Bytes) (to : ℕ) → to < length d → Wrote (b ∷ []) d to (set d to b) (to + 1)
+wrote-byte b d to h =
+    record {
+      end = refl;
+      front = rw add-one (take-suc-set d to b h);
+      back = let k : to < to + 1 = omega arith in drop-set-lt (to + 1) d to b k;
+    }
+
+module _ {y z d d′ d″ : Bytes} {to r q : ℕ} where
+  pub wrote-then : Wrote y d to d′ r → Wrote z d′ r d″ q → Wrote (y ++ z) d to d″ q
+  wrote-then u v =
+      let p : q ≡ r + length z = v .end in
+      record {
+        end = omega (arith, u .end, v .end, length-append y z);
+        front = v .front ∙ ap (λ (l : Bytes). l ++ z) (u .front) ∙ append-assoc (take to d) y z;
+        back =
+            v .back ∙ ap (λ (n : ℕ). drop n d′) p ∙ sym (drop-drop (length z) r d′) ∙ ap (drop (length z)) (u .back) ∙ drop-drop (length z) r d
+            ∙ ap (λ (n : ℕ). drop n d) (sym p);
+      }
+
+-- Any two results of one write are equal.
+pub wrote-one : (y d : Bytes) (to : ℕ) (d′ d″ : Bytes) (r q : ℕ) → Wrote y d to d′ r → Wrote y d to d″ q → (d′ ≡ d″) × (r ≡ q)
+wrote-one y d to d′ d″ r q u v =
+    let e : r ≡ q = u .end ∙ sym (v .end) in (
+      sym (take-append-drop r d′) ∙ ap (λ (l : Bytes). l ++ drop r d′) (u .front) ∙ ap (λ (l : Bytes). (take to d ++ y) ++ l) (u .back ∙ ap (λ (n : ℕ). drop n d) e ∙ sym (v .back))
+          ∙ ap (λ (l : Bytes). l ++ drop q d″) (sym (v .front)) ∙ take-append-drop q d″,
+      e,
+    )
+
+-- One more byte of a copy from the front of s.
+pub copy-turn : (s d₀ d : Bytes) (to i : ℕ) → i < length s → to + i < length d → Wrote (take i s) d₀ to d (to + i)
+    → Wrote (take (i + 1) s) d₀ to (set d (to + i) (getD s i 0)) (to + (i + 1))
+copy-turn s d₀ d to i hs hd u =
+    let y : take (i + 1) s ≡ take i s ++ (getD s i 0 ∷ []) = ap (λ (n : ℕ). take n s) (add-one i) ∙ take-suc s i 0 hs in
+    rw (y, ← add-assoc to i 1) (wrote-then u (wrote-byte (getD s i 0) d (to + i) hd))
+
+-- A byte past what was written is still the old one.
+pub wrote-past : (y d d′ : Bytes) (to r j : ℕ) → Wrote y d to d′ r → r ≤ j → getD d′ j 0 ≡ getD d j 0
+wrote-past y d d′ to r j u h =
+    let z : r + (j - r) ≡ j = omega arith in
+    ap (λ (m : ℕ). getD d′ m 0) (sym z) ∙ sym (getD-drop r d′ (j - r) 0) ∙ ap (λ (l : Bytes). getD l (j - r) 0) (u .back) ∙ getD-drop r d (j - r) 0
+    ∙ ap (λ (m : ℕ). getD d m 0) z
+
+-- One more byte of a move down: what is read was not written yet.
+pub move-turn : (d₀ d : Bytes) (from to i : ℕ) → to ≤ from → from + i < length d₀ → length d ≡ length d₀ → Wrote (take i (drop from d₀)) d₀ to d (to + i)
+    → Wrote (take (i + 1) (drop from d₀)) d₀ to (set d (to + i) (getD d (from + i) 0)) (to + (i + 1))
+move-turn d₀ d from to i h k l u =
+    let g : getD d (from + i) 0 ≡ getD (drop from d₀) i 0 = wrote-past _ d₀ d to (to + i) (from + i) u (omega arith) ∙ sym (getD-drop from d₀ i 0) in
+    rw g (copy-turn (drop from d₀) d₀ d to i (omega (arith, length-drop from d₀)) (omega arith) u)
+
+-- The end of such a loop: as much as was asked for, and all of s.
+pub wrote-upto : (s d d′ : Bytes) (to i n : ℕ) → i ≡ n → Wrote (take i s) d to d′ (to + i) → Wrote (take n s) d to d′ (to + i)
+wrote-upto s d d′ to i n e u = record { end = rw (← e) (u .end); front = rw (← e) (u .front); back = u .back }
+
+pub wrote-all : (s d d′ : Bytes) (to i : ℕ) → i ≡ length s → Wrote (take i s) d to d′ (to + i) → Wrote s d to d′ (to + i)
+wrote-all s d d′ to i e u = rw (take-length s) at (wrote-upto s d d′ to i (length s) e u)

@@ -1,0 +1,109 @@
+-- What the two programs write for what they read: 01, the paragraph after the examples.
+use Prim.Native.Nat.{ℕ, zero, suc, _+_, _/_, _%_}
+use mathlib.Core.Bool.{Bool, true, false, cond, _||_}
+use mathlib.Core.List.{List, [], _∷_, _++_, flatten}
+use mathlib.Core.Option.{none, some}
+use lib.ListN.{length, take, drop, replicate}
+use lib.Dec.{leb, ltb, eqb}
+use Rattle.meaning.specs.Bytes.{Bytes, be16At}
+use Rattle.meaning.specs.Readers.{Reader, Walk, walk}
+use Rattle.meaning.specs.Learn.{Limits}
+use Rattle.meaning.specs.Record.{State}
+use Rattle.meaning.specs.Push.{Pushed, push, fresh, addCounts}
+use Rattle.meaning.specs.declared.Service.{Service}
+use Rattle.meaning.specs.declared.Service.the-variants.{Every, Only}
+use Rattle.meaning.specs.declared.Options.{Options}
+use Rattle.meaning.specs.declared.Counts.{Counts}
+
+-- ---- the input: a flag byte, a service in two bytes, the stream
+
+abbrev pub isOne : ℕ → Bool
+isOne b = eqb b 1
+
+abbrev pub serviceIf : ℕ → ℕ → Service
+serviceIf zero s = Every
+serviceIf (suc f) s = Only s
+
+-- Bits 0 to 3: caption, carousel, EIT, service named.
+unfoldable pub optionsOf : ℕ → ℕ → Options
+optionsOf flags s = record {
+  service = serviceIf (flags / 8 % 2) s;
+  caption = isOne (flags % 2);
+  carousel = isOne (flags / 2 % 2);
+  eit = isOne (flags / 4 % 2);
+}
+
+unfoldable pub inputRefused : Bytes → Bool
+inputRefused [] = true
+inputRefused (flags ∷ s) = ltb (length s) 2 || ltb 15 flags
+
+-- Chunks of 32,768 bytes; the end of the input ends the last one.
+unfoldable pub chunk : Reader Bytes
+chunk [] = none
+chunk (b ∷ s) = some (take 32768 (b ∷ s), drop 32768 (b ∷ s))
+
+unfoldable pub programLimits : Limits
+programLimits = record { work = 65536; total = 65536; most = 65536 }
+
+-- ---- all chunks in turn: what is written, the sums, and the state at the end
+
+pub record Sums : Type 0 where
+  pub out : Bytes
+  pub counts : Counts
+  pub state : State
+
+abbrev pub noCounts : Counts
+noCounts = record { bytes = 0; accepted = 0; written = 0; rewritten = 0; skipped = 0; lost = 0 }
+
+unfoldable pub pushAll : Options → State → List Bytes → Sums
+unfolding push programLimits flatten
+pushAll o st [] = record { out = []; counts = noCounts; state = st }
+pushAll o st (c ∷ cs) =
+    let p = push programLimits o st c in
+    let r = pushAll o (p .state) cs in
+    record { out = flatten (p .out) ++ r .out; counts = addCounts (p .counts) (r .counts); state = r .state }
+
+unfoldable pub sumsOf : Bytes → Sums
+unfolding pushAll optionsOf be16At walk chunk fresh
+sumsOf [] = pushAll (optionsOf 0 0) (fresh []) []
+sumsOf (flags ∷ s) =
+    pushAll (optionsOf flags (be16At s 0)) (fresh (replicate 32768 0)) (walk chunk (drop 2 s) .found)
+
+-- ---- text
+
+-- A number in decimal digits, at most twenty of them.
+unfoldable pub digits : ℕ → ℕ → Bytes
+digits zero n = []
+digits (suc most) n = let rest = digits most (n / 10) in cond (ltb n 10) ((0x30 + n) ∷ []) (rest ++ ((0x30 + n % 10) ∷ []))
+
+-- A word, a space and a number.
+unfoldable pub item : Bytes → ℕ → Bytes
+unfolding digits
+item word n = word ++ (0x20 ∷ digits 20 n)
+
+-- `refused 8` and a newline.
+unfoldable pub refusedLine : ℕ → Bytes
+unfolding item
+refusedLine n = item (0x72 ∷ 0x65 ∷ 0x66 ∷ 0x75 ∷ 0x73 ∷ 0x65 ∷ 0x64 ∷ []) n ++ (0x0A ∷ [])
+
+-- `packets 0 written 0 rewritten 0 skipped 3 held 3 lost 0` and a newline.
+unfoldable pub sumsLine : Sums → Bytes
+unfolding item
+sumsLine r =
+    item (0x70 ∷ 0x61 ∷ 0x63 ∷ 0x6B ∷ 0x65 ∷ 0x74 ∷ 0x73 ∷ []) (r .counts .accepted)
+    ++ (0x20 ∷ item (0x77 ∷ 0x72 ∷ 0x69 ∷ 0x74 ∷ 0x74 ∷ 0x65 ∷ 0x6E ∷ []) (r .counts .written))
+    ++ (0x20 ∷ item (0x72 ∷ 0x65 ∷ 0x77 ∷ 0x72 ∷ 0x69 ∷ 0x74 ∷ 0x74 ∷ 0x65 ∷ 0x6E ∷ []) (r .counts .rewritten))
+    ++ (0x20 ∷ item (0x73 ∷ 0x6B ∷ 0x69 ∷ 0x70 ∷ 0x70 ∷ 0x65 ∷ 0x64 ∷ []) (r .counts .skipped))
+    ++ (0x20 ∷ item (0x68 ∷ 0x65 ∷ 0x6C ∷ 0x64 ∷ []) (length (r .state .held)))
+    ++ (0x20 ∷ item (0x6C ∷ 0x6F ∷ 0x73 ∷ 0x74 ∷ []) (r .counts .lost))
+    ++ (0x0A ∷ [])
+
+-- ---- the programs
+
+unfoldable pub filterWrites : Bytes → Bytes
+unfolding inputRefused refusedLine sumsOf
+filterWrites s = cond (inputRefused s) (refusedLine 8) (sumsOf s .out)
+
+unfoldable pub sumsWrites : Bytes → Bytes
+unfolding inputRefused refusedLine sumsLine sumsOf
+sumsWrites s = cond (inputRefused s) (refusedLine 8) (sumsLine (sumsOf s))

@@ -1,0 +1,64 @@
+// The plain data of the filter's interface. What each stands for is said once, in specs/.
+
+// Which service a recording is of: each one of the broadcast, or the one with this number.
+pub enum Service {
+    Every,
+    Only(u16),
+}
+
+// What is wanted: a service, and the three wishes.
+pub struct Options {
+    pub service: Service,
+    pub caption: bool,
+    pub carousel: bool,
+    pub eit: bool,
+}
+
+// An asset's kind.
+pub enum Part {
+    Caption,
+    Carousel,
+    Other,
+}
+
+// What stands at a place of a run of bytes: a packet of so many bytes, no start, or bytes to keep for the next call.
+pub enum Step {
+    Packet(usize),
+    Skip,
+    Keep,
+}
+
+// What a call reports.
+pub struct Counts {
+    pub bytes: usize,
+    pub accepted: usize,
+    pub written: usize,
+    pub rewritten: usize,
+    pub skipped: usize,
+    pub lost: usize,
+}
+
+// Why a call was refused; specs/Refusals.antt gives each its number.
+pub enum Refusal {
+    WorkRoom,
+    FragmentRoom,
+    MapRoom,
+    Unsound,
+    Long,
+    Short,
+    Tally,
+    Input,
+}
+
+// What a call answers.
+pub enum Answer {
+    Done,
+    Refused(Refusal),
+}
+
+// What narrowing answers; changed, with the length of what was written.
+pub enum Narrowing {
+    Refused(Refusal),
+    Unchanged,
+    Changed(usize),
+}

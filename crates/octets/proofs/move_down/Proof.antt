@@ -1,0 +1,83 @@
+use Rattle.meaning.proofs.Writes.{wrote-none, wrote-upto, move-turn}
+use Rattle.meaning.specs.Writing.{Wrote}
+use lib.ListN.{length, take, drop, length-set}
+use native.Mathlib.Omega.{arith}
+use native.Mathlib.Nat.{add-zero}
+use mathlib.Core.Path.{_≡_, refl, sym}
+use Prim.Native.Nat.{_+_, _-_, _≤_}
+use Rattle.octets.proofs.move_down.Statement.{statement}
+use Rattle.octets.proofs.move_down.Tie as tie
+use Rattle.octets.proofs.move_down.Reads as reads
+use Rattle.octets.proofs.move_down.Lts as lts
+
+abbrev Inv-loop : tie.InvT-loop
+Inv-loop room₀ from n to i₀ room i = (i ≤ n) × (length room ≡ length room₀) × Wrote (take i (drop from room₀)) room₀ to room (to + i)
+
+abbrev μ-loop : tie.MeasureT-loop
+μ-loop room₀ from n to i₀ room i = n - i
+
+-- src/lib.rt:67:5
+loop-holds : tie.Need-loop-holds Inv-loop μ-loop
+loop-holds c = (omega arith, refl, rw add-zero (wrote-none _ _))
+
+-- src/lib.rt:68:29
+add-room : tie.Need-add-room Inv-loop μ-loop
+add-room c = omega arith
+
+-- src/lib.rt:68:24
+slice-read-room : tie.Need-slice-read-room Inv-loop μ-loop
+slice-read-room c = omega arith
+
+-- src/lib.rt:68:14
+add-room-2 : tie.Need-add-room-2 Inv-loop μ-loop
+add-room-2 c = omega arith
+
+-- src/lib.rt:68:9
+slice-write-room : tie.Need-slice-write-room Inv-loop μ-loop
+slice-write-room c = omega arith
+
+-- src/lib.rt:69:9
+add-i : tie.Need-add-i Inv-loop μ-loop
+add-i c = omega arith
+
+-- src/lib.rt:67:5
+loop-less : tie.Need-loop-less Inv-loop μ-loop
+loop-less c = omega arith
+
+-- src/lib.rt:67:5
+loop-again : tie.Need-loop-again Inv-loop μ-loop
+loop-again c =
+    let l = c .before .before .loop in
+    let a = c .before .before .before .args in
+    (omega arith, simp length-set (l .inv .1), move-turn (a .room .now) (l .room) (a .from) (a .to) (l .i) (omega arith) (omega arith) (l .inv .1) (l .inv .2))
+
+-- src/lib.rt:71:5
+add-result : tie.Need-add-result Inv-loop μ-loop
+add-result c = omega arith
+
+-- src/lib.rt:62:1
+same-length : tie.Need-same-length Inv-loop μ-loop
+same-length c = c .before .loop .inv .1
+
+-- src/lib.rt:62:1
+returns : tie.Need-returns Inv-loop μ-loop
+returns c =
+    wrote-upto _ _ _ _ (c .before .loop .i) (c .before .before .args .n) (omega arith) (c .before .loop .inv .2)
+
+pub move-down-spec : {M : Type 1} → statement M
+move-down-spec =
+    tie.close
+    (tie.spec
+    Inv-loop
+    μ-loop
+    loop-holds
+    add-room
+    slice-read-room
+    add-room-2
+    slice-write-room
+    add-i
+    loop-less
+    loop-again
+    add-result
+    same-length
+    returns)

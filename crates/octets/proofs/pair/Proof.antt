@@ -1,0 +1,25 @@
+use Rattle.meaning.specs.Bytes.{be16}
+use native.Mathlib.Omega.{arith}
+use native.Mathlib.Nat.{mod-eq-of-lt}
+use mathlib.Core.Path.{sym}
+use borrow.Author.Needs.{needs}
+use Rattle.octets.proofs.pair.Statement.{statement}
+use Rattle.octets.proofs.pair.Tie as tie
+use Rattle.octets.proofs.pair.Reads as reads
+use Rattle.octets.proofs.pair.Lts as lts
+
+-- src/lib.rt:21:5
+mul-result : tie.Need-mul-result
+mul-result c = search needs
+
+-- src/lib.rt:21:5
+add-result : tie.Need-add-result
+add-result c = search needs
+
+-- src/lib.rt:18:1
+returns : tie.Need-returns
+unfolding be16
+returns c = sym (mod-eq-of-lt (search needs))
+
+pub pair-spec : {M : Type 1} → statement M
+pair-spec = tie.close (tie.spec mul-result add-result returns)

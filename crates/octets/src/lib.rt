@@ -1,0 +1,122 @@
+// Reading and moving bytes, and sets of packet identifiers: the leaves that every other crate calls.
+ghost use mathlib.Core.Path.{_≡_};
+ghost use Prim.Native.Nat.{_+_, _≤_, _<_, _^_};
+ghost use lib.ListN.{length, take, drop, getD};
+ghost use Rattle.meaning.specs.Bytes.{be16, be16At, be32At};
+ghost use Rattle.meaning.specs.Writing.{Wrote};
+ghost use Rattle.meaning.specs.Sets.{bitAt, inSet, withId, howMany};
+ghost use lib.Count.{ones};
+
+// A byte as a size.
+pub fn wide(b: u8) -> usize
+    ensures { λ r. ⌜ (r ≡ b) × (r < 256) ⌝ }
+{
+    b as usize
+}
+
+// The number of two bytes, the upper first.
+pub fn pair(high: u8, low: u8) -> u16
+    ensures { λ r. ⌜ r ≡ be16 high low ⌝ }
+{
+    (high as u16) * 256 + (low as u16)
+}
+
+// The 16-bit number at `at`, as an identifier.
+pub fn id16(s: &[u8], at: usize) -> u16
+    requires { ⌜ at + 2 ≤ length (now s) ⌝ }
+    ensures { λ r. ⌜ r ≡ be16At (now (s .entry)) at ⌝ }
+{
+    pair(s[at], s[at + 1])
+}
+
+// The 16-bit number at `at`, as a size.
+pub fn be16(s: &[u8], at: usize) -> usize
+    requires { ⌜ at + 2 ≤ length (now s) ⌝ }
+    ensures { λ r. ⌜ (r ≡ be16At (now (s .entry)) at) × (r < 65536) ⌝ }
+{
+    id16(s, at) as usize
+}
+
+// The 32-bit number at `at`, as a size.
+pub fn be32(s: &[u8], at: usize) -> usize
+    requires { ⌜ at + 4 ≤ length (now s) ⌝ }
+    ensures { λ r. ⌜ (r ≡ be32At (now (s .entry)) at) × (r < 4294967296) ⌝ }
+{
+    be16(s, at) * 65536 + be16(s, at + 2)
+}
+
+// Copies `src` to `to` of `out`; answers the place past it.
+pub fn copy(src: &[u8], out: &mut [u8], to: usize) -> usize
+    requires { ⌜ to + length (now src) ≤ length (now out) ⌝ }
+    ensures { λ r. ⌜ Wrote (now (src .entry)) (now (out .entry)) to (now (out .exit)) r ⌝ }
+{
+    let mut i: usize = 0;
+    while i < src.len() {
+        out[to + i] = src[i];
+        i += 1;
+    }
+    to + i
+}
+
+// Moves `n` bytes of `room` from `from` down to `to`; the two places may overlap. Answers the place past them.
+pub fn move_down(room: &mut [u8], from: usize, n: usize, to: usize) -> usize
+    requires { ⌜ (to ≤ from) × (from + n ≤ length (now room)) ⌝ }
+    ensures { λ r. ⌜ Wrote (take n (drop from (now (room .entry)))) (now (room .entry)) to (now (room .exit)) r ⌝ }
+{
+    let mut i: usize = 0;
+    while i < n {
+        room[to + i] = room[from + i];
+        i += 1;
+    }
+    to + i
+}
+
+// Bit `k` of a word, 0 or 1.
+fn word_bit(w: u64, k: u64) -> u64
+    requires { ⌜ k < 64 ⌝ }
+    ensures { λ r. ⌜ r ≡ bitAt w k ⌝ }
+{
+    (w >> k) & 1
+}
+
+// Whether `id` is in the set.
+pub fn has(words: &[u64; 1024], id: u16) -> bool
+    ensures { λ r. ⌜ r ≡ inSet (now (words .entry)) id ⌝ }
+{
+    let p = id as usize;
+    let w = words[p / 64];
+    let k = (p % 64) as u64;
+    word_bit(w, k) == 1
+}
+
+// Puts `id` into the set.
+pub fn insert(words: &mut [u64; 1024], id: u16)
+    ensures { λ _. ⌜ now (words .exit) ≡ withId (now (words .entry)) id ⌝ }
+{
+    let p = id as usize;
+    let i = p / 64;
+    let w = words[i];
+    let k = (p % 64) as u64;
+    words[i] = w | (1u64 << k);
+}
+
+// The ones of a word.
+fn word_ones(w: u64) -> u32
+    ensures { λ r. ⌜ (r ≡ ones w) × (r ≤ 64) × (w < 2 ^ 64) ⌝ }
+{
+    u64::count_ones(w)
+}
+
+// How many identifiers the set holds. An array behind a reference does not tell its own length, so the contract does.
+pub fn count(words: &[u64; 1024]) -> u32
+    requires { ⌜ length (now words) ≡ 1024 ⌝ }
+    ensures { λ r. ⌜ r ≡ howMany (inSet (now (words .entry))) 65536 ⌝ }
+{
+    let mut n: u32 = 0;
+    let mut i: usize = 0;
+    while i < 1024 {
+        n += word_ones(words[i]);
+        i += 1;
+    }
+    n
+}

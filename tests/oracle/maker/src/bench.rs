@@ -1,0 +1,136 @@
+//! Clean streams for benchmarks: one like a broadcast on the air, and one dense with tables.
+//! Their broadcast never changes, so that a seed decides only the order and the media.
+
+use crate::messages::{self, Pa};
+use crate::mmtp::{MEDIA, SIGNALLING};
+use crate::rng::Rng;
+use crate::tables::{Asset, Location, Mpt, Package, Plt};
+use crate::tlv::{self, Carrier, NULL};
+
+const SERVICES: u16 = 6;
+/// Media packets between two bursts of tables.
+const BURST_EACH: usize = 60;
+const AIR_PACKET: usize = 1_400;
+/// What stands before a payload: the TLV, the compressed IP and the MMTP header.
+const HEADERS: usize = tlv::HEADER + 3 + 12;
+const KINDS: [&[u8; 4]; 6] = [b"hvc1", b"mp4a", b"mp4a", b"stpp", b"aapp", b"asgd"];
+
+/// The stream under way. It ends with a null packet, so that it has exactly the length asked for.
+struct Stream {
+    rng: Rng,
+    bytes: Vec<u8>,
+    size: usize,
+}
+
+impl Stream {
+    fn new(rng: Rng, size: usize) -> Self {
+        let bytes = Vec::with_capacity(size);
+        Self { rng, bytes, size }
+    }
+
+    fn full(&self) -> bool {
+        self.size < self.bytes.len() + tlv::HEADER
+    }
+
+    /// Once a packet no longer fits in front of a null packet, that one ends the stream.
+    fn push(&mut self, packet: &[u8]) {
+        if self.full() {
+            return;
+        }
+        let left = self.size - self.bytes.len();
+        if packet.len() + tlv::HEADER <= left {
+            self.bytes.extend_from_slice(packet);
+            return;
+        }
+        let rest = vec![0; left - tlv::HEADER];
+        self.bytes.extend(tlv::packet(NULL, &rest));
+    }
+
+    fn send(&mut self, identifier: u16, kind: u8, payload: &[u8]) {
+        let mut header = vec![0, kind];
+        header.extend_from_slice(&identifier.to_be_bytes());
+        header.extend(self.rng.bytes(8));
+        header.extend_from_slice(payload);
+        let packet = tlv::carry(&mut self.rng, Carrier::Compressed(0x61), &header);
+        self.push(&packet);
+    }
+}
+
+fn mpt_identifier(service: u16) -> u16 {
+    0xf000 + service
+}
+
+/// Each service has its own identifiers, but that of the last kind is shared by all.
+fn asset_identifier(service: u16, nth: usize) -> u16 {
+    if nth + 1 == KINDS.len() {
+        0xf0ff
+    } else {
+        0xf100 + 0x20 * service + nth as u16
+    }
+}
+
+fn plt() -> Vec<u8> {
+    let packages = (0..SERVICES).map(|service| Package {
+        name: (0x0400 + service).to_be_bytes().to_vec(),
+        location: Location::Here(mpt_identifier(service)),
+    });
+    Pa::of(vec![Plt::of(packages.collect()).write()]).write()
+}
+
+/// The MPT message of a service, with its assets as often as told.
+fn mpt(service: u16, times: usize) -> Vec<u8> {
+    let assets = (0..times * KINDS.len()).map(|nth| {
+        let nth = nth % KINDS.len();
+        Asset::plain(KINDS[nth], asset_identifier(service, nth))
+    });
+    let mut mpt = Mpt::of(assets.collect());
+    mpt.name = (0x0400 + service).to_be_bytes().to_vec();
+    Pa::of(vec![mpt.write()]).write()
+}
+
+pub(crate) fn air(seed: u64, size: usize) -> Vec<u8> {
+    let mut stream = Stream::new(Rng::new(seed, 4), size);
+    while !stream.full() {
+        stream.send(0, SIGNALLING, &messages::whole(0, &plt()));
+        for service in 0..SERVICES {
+            let payload = messages::whole(0, &mpt(service, 1));
+            stream.send(mpt_identifier(service), SIGNALLING, &payload);
+        }
+        for _ in 0..BURST_EACH {
+            let service = stream.rng.below(usize::from(SERVICES)) as u16;
+            let nth = stream
+                .rng
+                .weighted(&[(30, 0), (4, 1), (4, 2), (1, 3), (4, 4), (1, 5)]);
+            let payload = stream.rng.bytes(AIR_PACKET - HEADERS);
+            stream.send(asset_identifier(service, nth), MEDIA, &payload);
+        }
+    }
+    stream.bytes
+}
+
+pub(crate) fn dense(seed: u64, size: usize) -> Vec<u8> {
+    let mut stream = Stream::new(Rng::new(seed, 5), size);
+    stream.send(0, SIGNALLING, &messages::whole(0, &plt()));
+    while !stream.full() {
+        let service = stream.rng.below(usize::from(SERVICES)) as u16;
+        let message = mpt(service, stream.rng.within(1..=12));
+        let identifier = mpt_identifier(service);
+        match stream.rng.below(8) {
+            0 => {
+                let ends = [stream.rng.below(message.len())];
+                for payload in messages::fragments(0, &message, &ends) {
+                    stream.send(identifier, SIGNALLING, &payload);
+                }
+            }
+            1 => {
+                let mut payload = vec![messages::aggregate_flags(false), 0];
+                payload.extend(messages::aggregate(false, &[message, plt()]));
+                stream.send(identifier, SIGNALLING, &payload);
+            }
+            2 => stream.send(0, SIGNALLING, &messages::whole(0, &plt())),
+            3 => stream.send(asset_identifier(service, 0), MEDIA, &[0; 60]),
+            _ => stream.send(identifier, SIGNALLING, &messages::whole(0, &message)),
+        }
+    }
+    stream.bytes
+}

@@ -1,0 +1,206 @@
+//! That a seed is all there is to a case, that the promised bounds hold, that each situation is reached,
+//! and that the edges lie where the tags say.
+
+use std::collections::{BTreeMap, BTreeSet};
+
+use face::{Limits, Options};
+
+use crate::cuts::{CUT_MOST, CUTS_MOST, ROOM_MOST};
+use crate::limits::{ORIGINAL, TOTAL_MOST};
+use crate::mmtp::SIGNALLING;
+use crate::tags::{FLOORS, Tag};
+use crate::tlv::{self, SYNC};
+use crate::{Case, air, case, cases, cuts, dense, examples, inputs, narrowing, plain_case};
+
+const SEEDS: u64 = 2_000;
+const WORK_MOST: usize = 131_200;
+const MAPS_MOST: usize = 33_000;
+const STREAM_MOST: usize = 400_000;
+
+fn count<T>(tagged: impl Fn(u64) -> (T, BTreeSet<Tag>)) -> BTreeMap<Tag, usize> {
+    let mut counts = BTreeMap::new();
+    for tag in (0..SEEDS).flat_map(|seed| tagged(seed).1) {
+        *counts.entry(tag).or_default() += 1;
+    }
+    counts
+}
+
+fn assert_floors(counts: &BTreeMap<Tag, usize>, floor: impl Fn(&(Tag, usize, usize)) -> usize) {
+    let reached = |tag| counts.get(&tag).copied().unwrap_or(0);
+    let mut short = Vec::new();
+    for row in FLOORS.iter().filter(|row| floor(row) > 0) {
+        println!("{:?} {} of {}", row.0, reached(row.0), floor(row));
+        if reached(row.0) < floor(row) {
+            short.push(row.0);
+        }
+    }
+    assert!(short.is_empty(), "reached too seldom: {short:?}");
+}
+
+#[test]
+fn cases_reach_every_situation() {
+    assert_floors(&count(cases::tagged_case), |row| row.1);
+}
+
+#[test]
+fn inputs_reach_every_situation() {
+    assert_floors(&count(narrowing::tagged_inputs), |row| row.2);
+}
+
+#[test]
+fn a_seed_is_all_there_is() {
+    for seed in 0..200 {
+        assert_eq!(case(seed), case(seed));
+        assert_eq!(plain_case(seed), plain_case(seed));
+        assert_eq!(inputs(seed), inputs(seed));
+        assert_ne!(case(seed).bytes, plain_case(seed).bytes);
+    }
+    assert_eq!(air(1, 20_000), air(1, 20_000));
+    assert_eq!(dense(1, 20_000), dense(1, 20_000));
+    let streams: BTreeSet<_> = (0..200).map(|seed| plain_case(seed).bytes).collect();
+    assert_eq!(streams.len(), 200);
+}
+
+fn assert_shape(case: &Case) {
+    assert_eq!(case.cuts.iter().sum::<usize>(), case.bytes.len());
+    assert!(case.cuts.len() <= CUTS_MOST, "{} cuts", case.cuts.len());
+    assert!(case.cuts.iter().all(|&cut| cut <= CUT_MOST));
+    assert!(case.room <= ROOM_MOST);
+    assert!(case.bytes.len() <= STREAM_MOST);
+}
+
+#[test]
+fn cases_keep_their_bounds() {
+    for seed in 0..SEEDS {
+        let case = case(seed);
+        assert_shape(&case);
+        assert!(case.limits.work <= WORK_MOST);
+        assert!(case.limits.total <= TOTAL_MOST);
+        assert!(u32::try_from(case.limits.most).is_ok());
+        assert!(case.limits.maps <= MAPS_MOST);
+    }
+}
+
+#[test]
+fn plain_cases_keep_their_bounds() {
+    for seed in 0..SEEDS {
+        let case = plain_case(seed);
+        assert_shape(&case);
+        assert_eq!(case.limits, ORIGINAL);
+        assert!(case.cuts.iter().all(|&cut| cut <= ORIGINAL.packet()));
+        assert!(case.room >= needed(&case));
+    }
+}
+
+#[test]
+fn inputs_keep_their_bounds() {
+    for input in (0..SEEDS).flat_map(inputs) {
+        assert!(input.bytes.len() <= narrowing::INPUT_MOST);
+        assert!(input.room <= ROOM_MOST);
+    }
+}
+
+#[test]
+fn most_streams_are_neither_short_nor_long() {
+    let usual = (0..SEEDS)
+        .filter(|&seed| (2_000..60_000).contains(&case(seed).bytes.len()))
+        .count();
+    assert!(usual > 1_500, "{usual}");
+}
+
+fn needed(case: &Case) -> usize {
+    cuts::needed(&case.limits, &case.options, &case.bytes, &case.cuts)
+}
+
+/// The packets of a clean stream; none where it is not clean.
+fn packets(bytes: &[u8]) -> Vec<&[u8]> {
+    let mut packets = Vec::new();
+    let mut rest = bytes;
+    while let [SYNC, _, high, low, ..] = *rest {
+        let size = 4 + usize::from(u16::from_be_bytes([high, low]));
+        let Some((packet, next)) = rest.split_at_checked(size) else {
+            return Vec::new();
+        };
+        packets.push(packet);
+        rest = next;
+    }
+    if rest.is_empty() { packets } else { Vec::new() }
+}
+
+#[test]
+fn edges_are_where_their_tags_say() {
+    for seed in 0..SEEDS {
+        let (case, tags) = cases::tagged_case(seed);
+        let packet = case.limits.packet();
+        let chunk = case.limits.work - packet;
+        let holds = |tag, fact: bool| assert!(!tags.contains(&tag) || fact, "{tag:?} {seed}");
+        let sizes: BTreeSet<usize> = packets(&case.bytes).into_iter().map(<[u8]>::len).collect();
+        holds(Tag::PacketMet, sizes.contains(&packet));
+        holds(Tag::PacketPassed, sizes.contains(&(packet + 1)));
+        holds(Tag::ChunkLongest, case.cuts.contains(&chunk));
+        holds(Tag::ChunkPastByOne, case.cuts.contains(&(chunk + 1)));
+        holds(Tag::ChunkEmpty, case.cuts.contains(&0));
+        holds(Tag::RoomExact, case.room == needed(&case));
+        holds(Tag::RoomOneShort, case.room + 1 == needed(&case));
+        holds(Tag::CopyAll, case.options.copies_all());
+        holds(Tag::ServiceThere, case.options.service.is_some());
+    }
+}
+
+#[test]
+fn the_output_needed_is_what_is_held_and_the_chunk() {
+    let bytes = [SYNC, tlv::NULL, 0, 1, 0xaa, 0];
+    let limits = Limits {
+        work: 4_096,
+        ..ORIGINAL
+    };
+    let needed =
+        |flags, cuts: &[usize]| cuts::needed(&limits, &Options::from_flags(flags, 0), &bytes, cuts);
+    assert_eq!(needed(6, &[6]), 6);
+    assert_eq!(needed(6, &[5, 1]), 5);
+    assert_eq!(needed(6, &[4, 2]), 6);
+    assert_eq!(needed(7, &[4, 2]), 4);
+}
+
+#[test]
+fn benchmark_streams_are_clean_and_as_long_as_asked() {
+    for size in [4, 5, 300, 1_399, 20_000, 1_000_003] {
+        for stream in [air(7, size), dense(7, size)] {
+            assert_eq!(stream.len(), size);
+            assert!(!packets(&stream).is_empty());
+        }
+    }
+    assert!(air(7, 3).is_empty());
+    let air = air(7, 1_000_000);
+    let long = packets(&air)
+        .into_iter()
+        .filter(|packet| packet.len() == 1_400);
+    assert!(long.count() > 600);
+    let dense = dense(7, 1_000_000);
+    let tables = packets(&dense)
+        .into_iter()
+        .filter(|packet| packet.get(8) == Some(&SIGNALLING));
+    assert!(tables.map(<[u8]>::len).sum::<usize>() > 900_000);
+}
+
+/// The table of an example input, in hexadecimal digits.
+fn example(nth: usize) -> String {
+    let bytes = &examples::inputs()[nth - 1].bytes;
+    bytes.iter().map(|byte| format!("{byte:02x}")).collect()
+}
+
+#[test]
+fn examples_are_the_written_ones() {
+    let video = "0000000000011168766331000100f1000000";
+    let captions = "0000000000012273747070000100f1300000";
+    let head = "2005002b000204000000";
+    assert_eq!(example(1), format!("{head}02{video}{captions}"));
+    assert_eq!(example(2), format!("2005001900020400000001{video}"));
+    assert_eq!(example(4), format!("{head}03{video}{captions}"));
+    let strange = video.replace("000100f1", "000106f1");
+    assert_eq!(example(5), format!("{head}02{strange}{captions}"));
+    assert_eq!(example(7), "8001000e0202040000f00002040100f00100");
+    assert_eq!(example(8), "800100080102040100f00100");
+    assert_eq!(example(10), "8001000e0202040000f00002040000f00100");
+    assert_eq!(inputs(50), examples::inputs());
+}

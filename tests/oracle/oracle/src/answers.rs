@@ -1,0 +1,101 @@
+//! The format of answers: what the port's program `answers` must write for a run of cases.
+//!
+//! A stream's answer is the start's refusal or 0 (1 byte), and after 0 for each call: refusal 1, bytes
+//! written 4, accepted 4, written 4, rewritten 4, skipped 4, held 4, lost 4, the written bytes; at the end
+//! the dropped identifiers 4. A narrowing's answer is: refusal 1, changed 1, length 4, stayed 3 x 4, went
+//! 3 x 4, the bytes. All numbers are big-endian.
+
+use face::{Call, Counts, Engine, Narrowed};
+
+use crate::cases::{Case, Narrowing, Reader, Stream};
+
+/// The answers of a filter to a run of cases.
+pub fn answers<E: Engine>(cases: &[u8]) -> Vec<u8> {
+    let mut writer = Writer::default();
+    for case in Reader::new(cases) {
+        match case {
+            Case::Stream(stream) => writer.stream::<E>(&stream),
+            Case::Narrowing(narrowing) => writer.narrowing::<E>(&narrowing),
+        }
+    }
+    writer.bytes
+}
+
+#[derive(Default)]
+struct Writer {
+    bytes: Vec<u8>,
+}
+
+impl Writer {
+    fn stream<E: Engine>(&mut self, case: &Stream) {
+        let mut engine = match E::start(case.limits, case.options) {
+            Ok(engine) => engine,
+            Err(number) => return self.bytes.push(number),
+        };
+        self.bytes.push(0);
+        for chunk in &case.chunks {
+            match engine.push(chunk, case.room) {
+                Ok(call) => self.call(0, &call),
+                Err(number) => self.call(number, &nothing(engine.held())),
+            }
+        }
+        if !case.cut {
+            self.long(engine.dropped());
+        }
+    }
+
+    fn call(&mut self, refusal: u8, call: &Call) {
+        self.bytes.push(refusal);
+        let counts = &call.counts;
+        for number in [
+            counts.bytes,
+            counts.accepted,
+            counts.written,
+            counts.rewritten,
+            counts.skipped,
+            call.held as u64,
+            counts.lost,
+        ] {
+            self.long(u32::try_from(number).expect("a call's counts have 32 bits"));
+        }
+        self.bytes.extend(&call.out);
+    }
+
+    fn narrowing<E: Engine>(&mut self, case: &Narrowing) {
+        let Narrowing {
+            kind,
+            options,
+            identifier,
+            room,
+            input,
+        } = *case;
+        match E::narrow(kind, options, identifier, input, room) {
+            Narrowed::Refused(number) => self.narrowed([number, 0], &[], [[0; 3]; 2]),
+            Narrowed::Unchanged => self.narrowed([0, 0], &[], [[0; 3]; 2]),
+            Narrowed::Changed { out, stayed, went } => self.narrowed([0, 1], &out, [stayed, went]),
+        }
+    }
+
+    /// `head` is the refusal, and whether it is changed.
+    fn narrowed(&mut self, head: [u8; 2], out: &[u8], entries: [[u32; 3]; 2]) {
+        self.bytes.extend(head);
+        self.long(u32::try_from(out.len()).expect("a narrowed input has 32 bits"));
+        for count in entries.as_flattened() {
+            self.long(*count);
+        }
+        self.bytes.extend(out);
+    }
+
+    fn long(&mut self, number: u32) {
+        self.bytes.extend(number.to_be_bytes());
+    }
+}
+
+/// What a refused call is told as: nothing but the bytes that are still held.
+fn nothing(held: usize) -> Call {
+    Call {
+        counts: Counts::default(),
+        held,
+        out: Vec::new(),
+    }
+}

@@ -1,0 +1,10 @@
+//! The oracle's commands, one module each, and the format of the cases that are handed to the port.
+//! `main.rs` picks the command.
+
+pub mod answers;
+pub mod arguments;
+pub mod cases;
+pub mod compare;
+pub mod narrow;
+pub mod programs;
+pub mod run;

@@ -1,0 +1,184 @@
+//! The command `oracle`: picks the command that its first word names and connects it with standard input
+//! and output. Ends with 1 where a comparison finds a difference, with 2 where the words can't be read.
+
+use std::io::{self, Read, Write};
+use std::ops::Range;
+use std::process::ExitCode;
+use std::{env, fs};
+
+use face::{Engine, Limits};
+use oracle::arguments::Arguments;
+use oracle::cases::{Narrowing, Stream, Writer};
+use oracle::compare::{self, Outcome};
+use oracle::run::Told;
+use oracle::{answers, narrow, programs, run};
+use original::Original;
+use plain::Plain;
+
+const USAGE: &str = "usage: oracle COMMAND
+  filter                      the filtered stream: flag byte, service and stream on standard input
+  sums                        its line of sums
+  run [--flags N] [--service N] [--work W] [--total T] [--most M] [--maps N] [--room N]
+      [--cuts A,B,C] [--by original|plain] [--out FILE]
+                              a line for each call of the stream on standard input; W, T and M are
+                              65536 and the output is W if not given, and what is left after the
+                              cuts goes in chunks of W-P
+  narrow table|payload|packet [--flags N] [--service N] [--id N] [--room N] [--hex]
+      [--by original|plain] [--out FILE]
+                              one narrowing of standard input
+  cases --seeds A..B [--narrowing N]
+                              the seeds' cases, each with at most N narrowings
+  answers [--by original|plain]
+                              the answers to the cases on standard input
+  compare --seeds A..B        the original and the plain filter
+  same --seeds A..B           the original at its own limits and the untouched one";
+
+type Answer = Result<ExitCode, String>;
+
+fn main() -> ExitCode {
+    let mut words = env::args().skip(1);
+    let command = words.next().unwrap_or_default();
+    dispatch(&command, words).unwrap_or_else(|message| {
+        eprintln!("oracle {command}: {message}");
+        ExitCode::from(2)
+    })
+}
+
+fn dispatch(command: &str, words: impl Iterator<Item = String>) -> Answer {
+    let read = |names: &[&str], switches: &[&str]| Arguments::read(words, names, switches);
+    match command {
+        "filter" => read(&[], &[]).and_then(|_| program(programs::filter::<Original>)),
+        "sums" => read(&[], &[]).and_then(|_| program(programs::sums::<Original>)),
+        "run" => run_command(&read(RUN, &[])?),
+        "narrow" => narrow_command(&read(NARROW, &["hex"])?),
+        "cases" => cases_command(&read(&["seeds", "narrowing"], &[])?),
+        "answers" => answers_command(&read(&["by"], &[])?),
+        "compare" => compare_command("compared", compare::compare, &read(&["seeds"], &[])?),
+        "same" => compare_command("same", compare::same, &read(&["seeds"], &[])?),
+        _ => Err(format!("no such command\n{USAGE}")),
+    }
+}
+
+const RUN: &[&str] = &[
+    "flags", "service", "work", "total", "most", "maps", "room", "cuts", "by", "out",
+];
+const NARROW: &[&str] = &["flags", "service", "id", "room", "by", "out"];
+
+fn program(
+    program: fn(io::StdinLock<'static>, io::BufWriter<io::StdoutLock<'static>>) -> io::Result<()>,
+) -> Answer {
+    let output = io::BufWriter::new(io::stdout().lock());
+    program(io::stdin().lock(), output).map_err(text)?;
+    Ok(ExitCode::SUCCESS)
+}
+
+fn run_command(arguments: &Arguments) -> Answer {
+    let work = arguments.number("work", 65_536)?;
+    let limits = Limits {
+        work,
+        total: arguments.number("total", 65_536)?,
+        most: arguments.number("most", 65_536)?,
+        maps: arguments.number("maps", 32_768)?,
+    };
+    let room = arguments.number("room", work)?;
+    let run = match by(arguments)? {
+        Filter::Original => run::run::<Original>,
+        Filter::Plain => run::run::<Plain>,
+    };
+    let cuts = arguments.numbers("cuts")?;
+    let told = run(limits, arguments.options()?, room, &cuts, &input()?);
+    tell(arguments, &told)
+}
+
+fn narrow_command(arguments: &Arguments) -> Answer {
+    let [name] = arguments.plain()[..] else {
+        return Err("name one of table, payload and packet".to_owned());
+    };
+    let mut input = input()?;
+    if arguments.has("hex") {
+        input = narrow::from_hex(&String::from_utf8_lossy(&input))?;
+    }
+    let narrow = match by(arguments)? {
+        Filter::Original => Original::narrow,
+        Filter::Plain => Plain::narrow,
+    };
+    let answer = narrow(
+        narrow::kind(name)?,
+        arguments.options()?,
+        arguments.number("id", 0)?,
+        &input,
+        arguments.number("room", input.len())?,
+    );
+    tell(arguments, &narrow::told(answer))
+}
+
+fn cases_command(arguments: &Arguments) -> Answer {
+    let most = arguments.number("narrowing", usize::MAX)?;
+    for seed in arguments.seeds()? {
+        let mut writer = Writer::default();
+        writer.stream(&Stream::from(&maker::case(seed)));
+        for input in maker::inputs(seed).iter().take(most) {
+            writer.narrowing(&Narrowing::from(input));
+        }
+        io::stdout().write_all(&writer.bytes).map_err(text)?;
+    }
+    Ok(ExitCode::SUCCESS)
+}
+
+fn answers_command(arguments: &Arguments) -> Answer {
+    let answers = match by(arguments)? {
+        Filter::Original => answers::answers::<Original>,
+        Filter::Plain => answers::answers::<Plain>,
+    };
+    io::stdout().write_all(&answers(&input()?)).map_err(text)?;
+    Ok(ExitCode::SUCCESS)
+}
+
+fn compare_command(
+    name: &str,
+    compare: fn(Range<u64>) -> Outcome,
+    arguments: &Arguments,
+) -> Answer {
+    let outcome = compare(arguments.seeds()?);
+    if let Some(first) = &outcome.first {
+        println!("{first}");
+    }
+    println!(
+        "{name}: {} streams, {} calls, {} bytes, {} narrowings, {} differences",
+        outcome.streams, outcome.calls, outcome.bytes, outcome.narrowings, outcome.differences
+    );
+    Ok(ExitCode::from(u8::from(outcome.first.is_some())))
+}
+
+enum Filter {
+    Original,
+    Plain,
+}
+
+/// `--by`: the filter that answers.
+fn by(arguments: &Arguments) -> Result<Filter, String> {
+    match arguments.text("by") {
+        None | Some("original") => Ok(Filter::Original),
+        Some("plain") => Ok(Filter::Plain),
+        Some(other) => Err(format!("--by {other} is neither original nor plain")),
+    }
+}
+
+fn input() -> Result<Vec<u8>, String> {
+    let mut bytes = Vec::new();
+    io::stdin().read_to_end(&mut bytes).map_err(text)?;
+    Ok(bytes)
+}
+
+/// The text to standard output, the bytes to `--out`.
+fn tell(arguments: &Arguments, told: &Told) -> Answer {
+    print!("{}", told.text);
+    if let Some(path) = arguments.text("out") {
+        fs::write(path, &told.out).map_err(|error| format!("{path}: {error}"))?;
+    }
+    Ok(ExitCode::SUCCESS)
+}
+
+fn text(error: io::Error) -> String {
+    error.to_string()
+}

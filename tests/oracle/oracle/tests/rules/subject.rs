@@ -1,0 +1,116 @@
+//! The filters that are asked, behind one face, and the words that the tests use for asking.
+
+use face::{Call, Engine, Kind, Limits, Narrowed, Options};
+use original::Original;
+use plain::Plain;
+
+/// Limits at which every packet fits.
+pub const LIMITS: Limits = Limits {
+    work: 131_078,
+    total: 65_536,
+    most: 65_536,
+    maps: 32_768,
+};
+
+/// Runs a test with each filter.
+pub fn each(test: impl Fn(&Subject)) {
+    for (name, subject) in [
+        ("original", Subject::of::<Original>()),
+        ("plain", Subject::of::<Plain>()),
+    ] {
+        // Shown where the test fails.
+        println!("asked: {name}");
+        test(&subject);
+    }
+}
+
+/// `Engine`'s functions, and `Running` its methods, as values.
+pub struct Subject {
+    pub start: fn(Limits, Options) -> Result<Run, u8>,
+    pub narrow: fn(Kind, Options, u16, &[u8], usize) -> Narrowed,
+}
+
+impl Subject {
+    fn of<E: Engine + 'static>() -> Self {
+        Self {
+            start: |limits, options| {
+                E::start(limits, options).map(|engine| Box::new(engine) as Run)
+            },
+            narrow: E::narrow,
+        }
+    }
+
+    /// A filter started with `LIMITS`.
+    pub fn started(&self, options: Options) -> Run {
+        self.started_with(LIMITS, options)
+    }
+
+    pub fn started_with(&self, limits: Limits, options: Options) -> Run {
+        (self.start)(limits, options).unwrap_or_else(|number| panic!("start refused: {number}"))
+    }
+
+    /// A table narrowed by itself; `None` is unchanged.
+    pub fn table(&self, options: Options, input: &[u8]) -> Option<Vec<u8>> {
+        changed((self.narrow)(Kind::Table, options, 0, input, input.len()))
+    }
+
+    /// A payload narrowed by itself, on an identifier that is not 0.
+    pub fn payload(&self, options: Options, input: &[u8]) -> Option<Vec<u8>> {
+        self.payload_on(0xf000, options, input)
+    }
+
+    pub fn payload_on(&self, identifier: u16, options: Options, input: &[u8]) -> Option<Vec<u8>> {
+        changed((self.narrow)(
+            Kind::Payload,
+            options,
+            identifier,
+            input,
+            input.len(),
+        ))
+    }
+}
+
+fn changed(answer: Narrowed) -> Option<Vec<u8>> {
+    match answer {
+        Narrowed::Refused(number) => panic!("narrowing refused: {number}"),
+        Narrowed::Unchanged => None,
+        Narrowed::Changed { out, .. } => Some(out),
+    }
+}
+
+/// A started filter.
+pub type Run = Box<dyn Running>;
+
+pub trait Running {
+    fn push(&mut self, chunk: &[u8], room: usize) -> Result<Call, u8>;
+    fn held(&self) -> usize;
+    fn dropped(&self) -> u32;
+
+    /// A call that is accepted.
+    fn send(&mut self, chunk: &[u8]) -> Call {
+        self.push(chunk, LIMITS.work)
+            .unwrap_or_else(|number| panic!("call refused: {number}"))
+    }
+
+    /// Whether a packet is written as it is.
+    fn passes(&mut self, packet: &[u8]) -> bool {
+        let call = self.send(packet);
+        assert_eq!(call.counts.accepted, 1);
+        assert!(call.out.is_empty() || call.out == packet);
+        !call.out.is_empty()
+    }
+}
+
+impl<E: Engine> Running for E {
+    fn push(&mut self, chunk: &[u8], room: usize) -> Result<Call, u8> {
+        Engine::push(self, chunk, room)
+    }
+
+    fn held(&self) -> usize {
+        Engine::held(self)
+    }
+
+    fn dropped(&self) -> u32 {
+        Engine::dropped(self)
+    }
+}

@@ -1,0 +1,89 @@
+//! 000 itself, twice: `Original`, with 01's limits, counts and refusals, and `Untouched`, as it is. The
+//! build puts 000 in (see `build.rs`); the readers that it calls are the stand-ins beside this crate.
+
+use face::{Call, Engine, Kind, Limits, Narrowed};
+// What 000 takes from the module above it.
+use face::{Options, Part};
+
+include!(concat!(env!("OUT_DIR"), "/modules.rs"));
+
+/// Limits at which `Original` and `Untouched` answer alike, as long as no more than 64 identifiers bring
+/// MPTs: every packet fits, and T and M are 000's own.
+pub const OWN_LIMITS: Limits = Limits {
+    work: 131_078,
+    total: 16 << 20,
+    most: 4 << 20,
+    maps: MAP_ROOM,
+};
+
+const MAP_ROOM: usize = 32_768;
+
+/// The longest input of narrowing.
+const NARROWED: usize = 65_539;
+
+/// 000 with 01's limits.
+pub struct Original {
+    limits: Limits,
+    filter: patched::Filter,
+}
+
+impl Engine for Original {
+    fn start(limits: Limits, options: Options) -> Result<Self, u8> {
+        refuse_if(1, !(4_096..=131_078).contains(&limits.work))?;
+        refuse_if(2, !(1..=16_777_216).contains(&limits.total))?;
+        refuse_if(2, !(1..=limits.total).contains(&limits.most))?;
+        refuse_if(3, limits.maps != MAP_ROOM)?;
+        let filter = patched::Filter::start(limits, options);
+        Ok(Self { limits, filter })
+    }
+
+    fn push(&mut self, chunk: &[u8], room: usize) -> Result<Call, u8> {
+        refuse_if(5, chunk.len() > self.limits.work - self.limits.packet())?;
+        refuse_if(6, room < self.held() + chunk.len())?;
+        Ok(self.filter.call(chunk))
+    }
+
+    fn held(&self) -> usize {
+        self.filter.held()
+    }
+
+    fn dropped(&self) -> u32 {
+        self.filter.dropped()
+    }
+
+    fn narrow(
+        kind: Kind,
+        options: Options,
+        identifier: u16,
+        input: &[u8],
+        room: usize,
+    ) -> Narrowed {
+        let refusal =
+            refuse_if(5, input.len() > NARROWED).and_then(|()| refuse_if(6, room < input.len()));
+        match refusal {
+            Err(number) => Narrowed::Refused(number),
+            Ok(()) => patched::Filter::narrow(kind, options, identifier, input),
+        }
+    }
+}
+
+/// A refusal by 01's number. Asked in rising order, the lowest that applies is given.
+fn refuse_if(number: u8, applies: bool) -> Result<(), u8> {
+    if applies { Err(number) } else { Ok(()) }
+}
+
+/// 000 as it is, without limits, counts or refusals.
+pub struct Untouched(untouched::Filter);
+
+impl Untouched {
+    pub fn new(options: Options) -> Self {
+        Self(untouched::Filter::new(options))
+    }
+
+    /// The bytes that are written for a chunk.
+    pub fn push(&mut self, chunk: &[u8]) -> Vec<u8> {
+        let mut out = Vec::new();
+        self.0.push(chunk, &mut out);
+        out
+    }
+}
