@@ -61,22 +61,22 @@ module _ {ℓ} (P : ℕ) (Q : Bytes → Type ℓ)
     (on-keep : (s : Bytes) → stepOf P s ≡ Keep → Q s)
     (on-skip : (s : Bytes) → stepOf P s ≡ Skip → 4 ≤ length s → (candidate P s && followed s) ≡ false → Q (drop 1 s) → Q s)
     (on-packet : (s : Bytes) → stepOf P s ≡ Packet (sizeOf s) → 4 ≤ length s → (candidate P s && followed s) ≡ true → sizeOf s ≤ length s → Q (drop (sizeOf s) s) → Q s)
-    where
-  one : (b : ℕ) (s : Bytes) (t : Step) → stepOf P (b ∷ s) ≡ t → View P (b ∷ s) t → ((j : ℕ) → Q (drop j s)) → Q (b ∷ s)
-  one b s t e (short h) rec = on-keep _ e
-  one b s t e (no-start h c) rec = on-skip _ e h c (rec 0)
-  one b s t e (long h c l) rec = on-keep _ e
-  one b s t e (whole h c l) rec =
-      on-packet _ e h c l (subst Q (sym (drop-pos (sizeOf (b ∷ s)) b s (omega (arith, size-four (b ∷ s))))) (rec (sizeOf (b ∷ s) - 1)))
+  where
+    one : (b : ℕ) (s : Bytes) (t : Step) → stepOf P (b ∷ s) ≡ t → View P (b ∷ s) t → ((j : ℕ) → Q (drop j s)) → Q (b ∷ s)
+    one b s t e (short h) rec = on-keep _ e
+    one b s t e (no-start h c) rec = on-skip _ e h c (rec 0)
+    one b s t e (long h c l) rec = on-keep _ e
+    one b s t e (whole h c l) rec =
+        on-packet _ e h c l (subst Q (sym (drop-pos (sizeOf (b ∷ s)) b s (omega (arith, size-four (b ∷ s))))) (rec (sizeOf (b ∷ s) - 1)))
 
-  all-from : (s : Bytes) (k : ℕ) → Q (drop k s)
-  all-from [] zero = on-keep [] (step-nil P)
-  all-from [] (suc k) = on-keep [] (step-nil P)
-  all-from (b ∷ s) zero = one b s (stepOf P (b ∷ s)) refl (view P (b ∷ s)) (λ j. all-from s j)
-  all-from (b ∷ s) (suc k) = all-from s k
+    all-from : (s : Bytes) (k : ℕ) → Q (drop k s)
+    all-from [] zero = on-keep [] (step-nil P)
+    all-from [] (suc k) = on-keep [] (step-nil P)
+    all-from (b ∷ s) zero = one b s (stepOf P (b ∷ s)) refl (view P (b ∷ s)) (λ j. all-from s j)
+    all-from (b ∷ s) (suc k) = all-from s k
 
-  pub by-steps : (s : Bytes) → Q s
-  by-steps s = all-from s 0
+    pub by-steps : (s : Bytes) → Q s
+    by-steps s = all-from s 0
 
 -- ---- the equations
 

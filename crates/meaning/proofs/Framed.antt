@@ -49,10 +49,11 @@ raw-framed {A} {p} lp s x r e =
     let q = Option·some-injective _ _ (b .then-was) in
     let front : take (length s - length (b .rest)) s ≡ u .part =
     ap (λ (z : Bytes). take (length z - length (b .rest)) z) (u .whole) ∙ take-front (u .part) (b .rest) in
-    let same : (b .first, u .part) ≡ x = ap (λ (z : Bytes). (b .first, z)) (sym front) ∙ ap (λ z. z .0) q in
-    (u .whole ∙ ap₂ (λ (y z : Bytes). y ++ z) (ap (λ z. z .1) same) (ap (λ z. z .1) q),
-    λ t. subst (λ (z : A × Bytes). bind (p (z .1 ++ t)) (λ a r. some ((a, take (length (z .1 ++ t) - length r) (z .1 ++ t)), r)) ≡ some (z, t)) same
-        (rw (u .again t, take-front (u .part) t)))
+    let same : (b .first, u .part) ≡ x = ap (λ (z : Bytes). (b .first, z)) (sym front) ∙ ap (λ z. z .0) q in (
+      u .whole ∙ ap₂ (λ (y z : Bytes). y ++ z) (ap (λ z. z .1) same) (ap (λ z. z .1) q),
+      λ t. subst (λ (z : A × Bytes). bind (p (z .1 ++ t)) (λ a r. some ((a, take (length (z .1 ++ t) - length r) (z .1 ++ t)), r)) ≡ some (z, t)) same
+          (rw (u .again t, take-front (u .part) t)),
+    )
 
 -- an answer made of a framed one
 pub made-framed : {A B : Type 0} {p : Reader A} {of : A → Bytes} (f : A → B) (of′ : B → Bytes) → ((a : A) → of′ (f a) ≡ of a)
@@ -62,9 +63,10 @@ made-framed {A} {B} {p} {of} f of′ h fp s y r e =
     let q = Option·some-injective _ _ (b .then-was) in
     let u = fp s (b .first) (b .rest) (b .was) in
     let ey : f (b .first) ≡ y = ap (λ z. z .0) q in
-    let eo : of (b .first) ≡ of′ y = sym (h (b .first)) ∙ ap of′ ey in
-    (u .0 ∙ ap₂ (λ (y z : Bytes). y ++ z) eo (ap (λ z. z .1) q),
-    λ t. ap (λ (z : Bytes). bind (p (z ++ t)) (λ a. give (f a))) (sym eo) ∙ rw (u .1 t, ey))
+    let eo : of (b .first) ≡ of′ y = sym (h (b .first)) ∙ ap of′ ey in (
+      u .0 ∙ ap₂ (λ (y z : Bytes). y ++ z) eo (ap (λ z. z .1) q),
+      λ t. ap (λ (z : Bytes). bind (p (z ++ t)) (λ a. give (f a))) (sym eo) ∙ rw (u .1 t, ey),
+    )
 
 -- ---- many
 
@@ -190,5 +192,8 @@ module _ {A : Type 0} {p : Reader A} (lp : Local p) (nil : p [] ≡ none) where
   unfolding flatten
   walk-again of [] left h e = walk-none p left e
   walk-again of (a ∷ as′) left h e =
-      rw (append-assoc (of a) (flatten (map of as′)) left, walk-some (of a ++ (flatten (map of as′) ++ left)) a (flatten (map of as′) ++ left) (h .0 (flatten (map of as′) ++ left)),
-          walk-again of as′ left (h .1) e)
+      rw (
+        append-assoc (of a) (flatten (map of as′)) left,
+        walk-some (of a ++ (flatten (map of as′) ++ left)) a (flatten (map of as′) ++ left) (h .0 (flatten (map of as′) ++ left)),
+        walk-again of as′ left (h .1) e,
+      )

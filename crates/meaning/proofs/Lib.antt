@@ -9,3 +9,7 @@ pub mod Framed
 pub mod TableLaws
 pub mod PaLaws
 pub mod NarrowLaws
+pub mod RuleLaws
+pub mod LessIsLess
+pub mod Holds
+pub mod SoundLaws

@@ -132,6 +132,7 @@ pa-split (f ∷ k ∷ s) b e = go (eqb (indicator f) 0 && eqb (aggregated f) 0) 
         → cond a (some (m .body)) none ≡ some b → message s ≡ some (m, rest) → PaSplit (f ∷ k ∷ s) b
     inside m rest w false ea q g = absurd (Option·none-ne-some _ q)
     inside m rest w true ea q g = subst (PaSplit (f ∷ k ∷ s)) (Option·some-injective _ _ q) (parts f k s m rest w (eqb-true _ _ ea) g)
+
     go : (a : Bool) → (eqb (indicator f) 0 && eqb (aggregated f) 0) ≡ a → (o : Out Message) → message s ≡ o → cond a (paOf o) none ≡ some b → PaSplit (f ∷ k ∷ s) b
     go false ea o eo q = absurd (Option·none-ne-some _ q)
     go true ea none eo q = absurd (Option·none-ne-some _ q)
@@ -183,10 +184,11 @@ module _ {o₁ o₂ : Options} (fewer : Fewer o₁ o₂) (p : ℕ) where
   payload-case s none e = (rw e refl, λ h. h, λ y h. absurd (Option·none-ne-some _ h))
   payload-case s (some b) e =
       let n = pa-narrows fewer p in
-      let sp = pa-split s b e in
-      (within-twice n s b (payloadBytes s) (narrowPayload o₁ p) (payload-again s b e) (narrowPa o₂ p b) refl (rw e refl),
-      map-some (payloadBytes s) (narrowPa o₂ p b) (narrowPa o₁ p b) (n .more b),
-      map-long (payloadBytes s) b s (narrowPa o₂ p b) (λ c q. omega (arith, n .shorter b c q, sp .size c, sp .long)))
+      let sp = pa-split s b e in (
+        within-twice n s b (payloadBytes s) (narrowPayload o₁ p) (payload-again s b e) (narrowPa o₂ p b) refl (rw e refl),
+        map-some (payloadBytes s) (narrowPa o₂ p b) (narrowPa o₁ p b) (n .more b),
+        map-long (payloadBytes s) b s (narrowPa o₂ p b) (λ c q. omega (arith, n .shorter b c q, sp .size c, sp .long)),
+      )
 
   pub payload-narrows : Narrows (narrowPayload o₁ p) (narrowPayload o₂ p)
   unfolding narrowPayload
@@ -220,6 +222,7 @@ kind-place k at e = go (eqb k 0x21) (eqb k 0x61) (eqb k 0x20) (eqb k 0x60) e
   where
     by : Bool → Bool → Bool → Bool → Place
     by a b c d = cond a (some (3, true)) (cond b (some (3, true)) (cond c (some (23, false)) (cond d (some (45, false)) none)))
+
     go : (a b c d : Bool) → by a b c d ≡ some (at, true) → (at ≡ 3) × (by a b c d ≡ some (3, true))
     go true b c d q = (sym (ap (λ z. z .0) (Option·some-injective _ _ q)), refl)
     go false true c d q = (sym (ap (λ z. z .0) (Option·some-injective _ _ q)), refl)
@@ -249,6 +252,7 @@ rewritable-place type s at e = go (eqb type 0x03) refl (eqb type 0x01) refl (eqb
   where
     by : Bytes → Bool → Bool → Bool → Place
     by t a b c = cond a (compressed t) (cond b (udp (getD t 0 0 % 16 * 4) t) (cond c (udp 40 t) none))
+
     go : (a : Bool) → eqb type 0x03 ≡ a → (b : Bool) → eqb type 0x01 ≡ b → (c : Bool) → eqb type 0x02 ≡ c
         → placeOf type s ≡ by s (eqb type 0x03) (eqb type 0x01) (eqb type 0x02) → placeOf type s ≡ some (at, true) → Rewritable type s at
     go true ea b eb c ec w q =
@@ -298,7 +302,7 @@ read-again t pl part m h y r g ei ek ew =
     let s : Bytes = (take 3 pl ++ part) ++ y in
     let long : 3 ≤ length s = omega (arith, length-append (take 3 pl ++ part) y, length-append (take 3 pl) part) in
     let third : getD s 2 0 ≡ getD pl 2 0 =
-        ap (λ (z : Bytes). getD z 2 0) (append-assoc (take 3 pl) part y) ∙ List·getD-append (take 3 pl) (part ++ y) 0 2 (omega arith) ∙ getD-take 3 pl 2 0 (omega arith) in
+    ap (λ (z : Bytes). getD z 2 0) (append-assoc (take 3 pl) part y) ∙ List·getD-append (take 3 pl) (part ++ y) 0 2 (omega arith) ∙ getD-take 3 pl 2 0 (omega arith) in
     let rest : drop 3 s ≡ part ++ y = ap (drop 3) (append-assoc (take 3 pl) part y) ∙ drop-at (take 3 pl) (part ++ y) 3 l3 in
     rw (r .again s long third, le-leb 3 (length s) long, rest, g y)
     (λ i. some (record { identifier = ei i; kind = ek i; rewritable = ev i; payload = y }))
@@ -338,9 +342,11 @@ packet-split (a ∷ t ∷ l ∷ k ∷ pl) m e w =
         let z = Option·some-injective _ _ q in
         let ev : v ≡ true = ap (λ x. x .rewritable) z ∙ w in
         packet-whole a t l k pl at h m (ep ∙ ap (λ (b : Bool). some (at, b)) ev) (eo ∙ ap (λ x. some (h, x .payload)) z) (ap (λ x. x .identifier) z) (ap (λ x. x .kind) z) w
+
     placed : (at : ℕ) (v : Bool) → placeOf t pl ≡ some (at, v) → (b : Bool) → cond b (mmtpFrom v (mmtpHead (drop at pl))) none ≡ some m → PacketSplit (a ∷ t ∷ l ∷ k ∷ pl) m
     placed at v ep false q = absurd (Option·none-ne-some _ q)
     placed at v ep true q = headed at v ep (mmtpHead (drop at pl)) refl q
+
     go : (o : Place) → placeOf t pl ≡ o → mmtpAt o pl ≡ some m → PacketSplit (a ∷ t ∷ l ∷ k ∷ pl) m
     go none ep q = absurd (Option·none-ne-some _ q)
     go (some (at, v)) ep q = placed at v ep (leb at (length pl)) q
@@ -368,6 +374,7 @@ module _ {o₁ o₂ : Options} (fewer : Fewer o₁ o₂) where
     where
       n : Narrows (narrowPayload o₁ (m .identifier)) (narrowPayload o₂ (m .identifier))
       n = payload-narrows fewer (m .identifier)
+
       go : (a : Bool) → (isSignalling m && m .rewritable) ≡ a
           → let z : Options → Option Bytes = λ o. cond a (Option·map (packetBytes p m) (narrowPayload o (m .identifier) (m .payload))) none in
           (Option·getD (narrowPacket o₁ (Option·getD (z o₂) p)) (Option·getD (z o₂) p) ≡ Option·getD (z o₁) p)
@@ -375,10 +382,11 @@ module _ {o₁ o₂ : Options} (fewer : Fewer o₁ o₂) where
           × ((y : Bytes) → z o₂ ≡ some y → length y ≤ length p)
       go false ea = (rw (e, ea) refl, λ h. h, λ y h. absurd (Option·none-ne-some _ h))
       go true ea =
-          let sp = packet-split p m e (and-both (isSignalling m) (m .rewritable) ea .1) in
-          (within-twice n p (m .payload) (packetBytes p m) (narrowPacket o₁) (λ c l. packet-again p m e ea c) (narrowPayload o₂ (m .identifier) (m .payload)) refl (rw (e, ea) refl),
-          map-some (packetBytes p m) (narrowPayload o₂ (m .identifier) (m .payload)) (narrowPayload o₁ (m .identifier) (m .payload)) (n .more (m .payload)),
-          map-long (packetBytes p m) (m .payload) p (narrowPayload o₂ (m .identifier) (m .payload)) (λ c q. omega (arith, n .shorter (m .payload) c q, sp .size c)))
+          let sp = packet-split p m e (and-both (isSignalling m) (m .rewritable) ea .1) in (
+            within-twice n p (m .payload) (packetBytes p m) (narrowPacket o₁) (λ c l. packet-again p m e ea c) (narrowPayload o₂ (m .identifier) (m .payload)) refl (rw (e, ea) refl),
+            map-some (packetBytes p m) (narrowPayload o₂ (m .identifier) (m .payload)) (narrowPayload o₁ (m .identifier) (m .payload)) (n .more (m .payload)),
+            map-long (packetBytes p m) (m .payload) p (narrowPayload o₂ (m .identifier) (m .payload)) (λ c q. omega (arith, n .shorter (m .payload) c q, sp .size c)),
+          )
 
   pub packet-narrows : Narrows (narrowPacket o₁) (narrowPacket o₂)
   unfolding narrowPacket

@@ -207,9 +207,10 @@ bytes-framed n s a r e = go (leb n (length s)) refl e
     go true eb q =
         let z = Option·some-injective _ _ q in
         let k : n ≤ length s = leb-true _ _ eb in
-        let la : length a ≡ n = sym (ap (λ x. length (x .0)) z) ∙ length-take-le n s k in
-        (sym (take-append-drop n s) ∙ ap₂ (λ (x y : Bytes). x ++ y) (ap (λ x. x .0) z) (ap (λ x. x .1) z),
-        λ t. let m : n ≤ length (a ++ t) = omega (arith, length-append a t) in rw (le-leb _ _ m, take-at a t n la, drop-at a t n la))
+        let la : length a ≡ n = sym (ap (λ x. length (x .0)) z) ∙ length-take-le n s k in (
+          sym (take-append-drop n s) ∙ ap₂ (λ (x y : Bytes). x ++ y) (ap (λ x. x .0) z) (ap (λ x. x .1) z),
+          λ t. let m : n ≤ length (a ++ t) = omega (arith, length-append a t) in rw (le-leb _ _ m, take-at a t n la, drop-at a t n la),
+        )
 
 -- as many as were asked for
 taken : (n : ℕ) (s a r : Bytes) → bytes n s ≡ some (a, r) → length a ≡ n
@@ -260,12 +261,16 @@ module _ {o₁ o₂ : Options} (fewer : Fewer o₁ o₂) (p : ℕ) where
   module _ (s : Bytes) (h : PaHead) (r : Bytes) (e : paHead s ≡ some (h, r)) where
     abbrev xs : List Found
     xs = walk (raw table) r .found
+
     abbrev left : Bytes
     left = walk (raw table) r .left
+
     abbrev ts₁ : List Bytes
     ts₁ = map (tableAfter o₁ p) xs
+
     abbrev ts₂ : List Bytes
     ts₂ = map (tableAfter o₂ p) xs
+
     abbrev h₂ : PaHead
     h₂ = record { count = h .count; entries = relength (h .entries) ts₂ }
 
@@ -280,7 +285,7 @@ module _ {o₁ o₂ : Options} (fewer : Fewer o₁ o₂) (p : ℕ) where
         let w = tables-walked s h r e in
         ap (λ (z : List Bytes). pa (h .count ∷ (flatten (relength (h .entries) ts₂) ++ (flatten z ++ left)))) (sym (step-bytes fewer p xs))
         ∙ body-again h₂ (map (step o₂ p) xs) left (relength-fours (h .entries) ts₂ (sp .fours)) (relength-length (h .entries) ts₂ ∙ sp .number)
-            (all-again fewer p xs (w .again)) (w .ended)
+        (all-again fewer p xs (w .again)) (w .ended)
 
     -- and fewer make of it what they make of the first
     after-more : ltb (length left) 4 ≡ true → Option·getD (narrowPa o₁ p (paBytes h ts₂ left)) (paBytes h ts₂ left) ≡ paBytes h ts₁ left
@@ -289,8 +294,10 @@ module _ {o₁ o₂ : Options} (fewer : Fewer o₁ o₂) (p : ℕ) where
       where
         w : Walked (raw table) (λ x. x .1) r (walk (raw table) r)
         w = tables-walked s h r e
+
         same : map (tableAfter o₁ p) (map (step o₂ p) xs) ≡ ts₁
         same = all-after fewer p xs (w .again)
+
         go : (a : Bool) → any (tableChanges o₁ p) (map (step o₂ p) xs) ≡ a
             → Option·getD (cond a (some (paBytes h₂ (map (tableAfter o₁ p) (map (step o₂ p) xs)) left)) none) (paBytes h ts₂ left) ≡ paBytes h ts₁ left
         go true ea =
@@ -307,8 +314,15 @@ module _ {o₁ o₂ : Options} (fewer : Fewer o₁ o₂) (p : ℕ) where
         let ls = simp length-append at (ap length (sp .whole)) in
         let lr = simp length-append at (ap length (w .whole)) in
         simp length-append
-        (omega (arith, ls, lr, fours-length (h .entries) (sp .fours), fours-length (relength (h .entries) ts₂) (relength-fours (h .entries) ts₂ (sp .fours)),
-            relength-length (h .entries) ts₂, all-shorter fewer p xs (w .again)))
+        (omega (
+          arith,
+          ls,
+          lr,
+          fours-length (h .entries) (sp .fours),
+          fours-length (relength (h .entries) ts₂) (relength-fours (h .entries) ts₂ (sp .fours)),
+          relength-length (h .entries) ts₂,
+          all-shorter fewer p xs (w .again),
+        ))
 
   pa-case : (s : Bytes) (x : Out PaHead) → paHead s ≡ x
       → (Option·getD (narrowPa o₁ p (Option·getD (paFor o₂ p (paFrom x)) s)) (Option·getD (paFor o₂ p (paFrom x)) s) ≡ Option·getD (paFor o₁ p (paFrom x)) s)
@@ -322,16 +336,18 @@ module _ {o₁ o₂ : Options} (fewer : Fewer o₁ o₂) (p : ℕ) where
       both q =
           let b = and-both (ltb (length (left s h r e)) 4) (any (tableChanges o₂ p) (xs s h r e)) q in
           and-true (ltb (length (left s h r e)) 4) (any (tableChanges o₁ p) (xs s h r e)) (b .0) (any-more fewer p (xs s h r e) (tables-walked s h r e .again) (b .1))
+
       go : (a : Bool) → (ltb (length (left s h r e)) 4 && any (tableChanges o₂ p) (xs s h r e)) ≡ a
           → let z : Option Bytes = cond a (some (paBytes h (ts₂ s h r e) (left s h r e))) none in
           (Option·getD (narrowPa o₁ p (Option·getD z s)) (Option·getD z s) ≡ Option·getD (paFor o₁ p (paFrom (some (h, r)))) s)
           × (isSome z ≡ true → isSome (paFor o₁ p (paFrom (some (h, r)))) ≡ true)
           × ((y : Bytes) → z ≡ some y → length y ≤ length s)
       go false q = (rw e refl, λ g. clash (cc), λ y g. absurd (Option·none-ne-some _ g))
-      go true q =
-          (after-more s h r e (and-both (ltb (length (left s h r e)) 4) (any (tableChanges o₂ p) (xs s h r e)) q .0) ∙ rw (both q) refl,
-          λ g. rw (both q) refl,
-          λ y g. subst (λ (z : Bytes). length z ≤ length s) (Option·some-injective _ _ g) (long s h r e))
+      go true q = (
+        after-more s h r e (and-both (ltb (length (left s h r e)) 4) (any (tableChanges o₂ p) (xs s h r e)) q .0) ∙ rw (both q) refl,
+        λ g. rw (both q) refl,
+        λ y g. subst (λ (z : Bytes). length z ≤ length s) (Option·some-injective _ _ g) (long s h r e),
+      )
 
   pub pa-narrows : Narrows (narrowPa o₁ p) (narrowPa o₂ p)
   unfolding narrowPa pa

@@ -143,6 +143,7 @@ module _ {o₁ o₂ : Options} (fewer : Fewer o₁ o₂) where
     where
       same : keep (wantedEntry o₁) (keep (wantedEntry o₂) (m .entries)) ≡ keep (wantedEntry o₁) (m .entries)
       same = keep-keep (wantedEntry o₁) (wantedEntry o₂) under (m .entries)
+
       go : (a : Bool) → all (wantedEntry o₁) (keep (wantedEntry o₂) (m .entries)) ≡ a
           → Option·getD (cond a none (some (mptBody (m .front) (keep (wantedEntry o₁) (keep (wantedEntry o₂) (m .entries))) more))) (mptBody (m .front) (keep (wantedEntry o₂) (m .entries)) more)
           ≡ mptBody (m .front) (keep (wantedEntry o₁) (m .entries)) more
@@ -171,10 +172,11 @@ module _ {o₁ o₂ : Options} (fewer : Fewer o₁ o₂) where
           × (isSome z ≡ true → isSome (mptKeeping o₁ (some (m, more))) ≡ true)
           × ((y : Bytes) → z ≡ some y → length y ≤ length b)
       go true ea = (rw e refl, λ h. clash (cc), λ y h. absurd (Option·none-ne-some _ h))
-      go false ea =
-          (mpt-after b m more e ea ∙ rw (not-all (m .entries) ea) refl,
-          λ h. rw (not-all (m .entries) ea) refl,
-          λ y h. subst (λ (z : Bytes). length z ≤ length b) (Option·some-injective _ _ h) (mpt-long o₂ b m more e))
+      go false ea = (
+        mpt-after b m more e ea ∙ rw (not-all (m .entries) ea) refl,
+        λ h. rw (not-all (m .entries) ea) refl,
+        λ y h. subst (λ (z : Bytes). length z ≤ length b) (Option·some-injective _ _ h) (mpt-long o₂ b m more e),
+      )
 
   pub mpt-narrows : Narrows (mptWithout o₁) (mptWithout o₂)
   unfolding mptWithout
@@ -223,8 +225,10 @@ last-stays s (p ∷ ps) o e h q = go (isService s (serviceOf (p .name))) refl (l
   where
     all-of : length (p .bytes-of ++ flatten (map (λ p. p .bytes-of) ps)) ≡ length (p .bytes-of) + length (flatten (map (λ p. p .bytes-of) ps))
     all-of = length-append (p .bytes-of) _
+
     here : isService s (serviceOf (p .name)) ≡ true → p .bytes-of ≡ e → Stays s e (length (p .bytes-of ++ flatten (map (λ p. p .bytes-of) ps)))
     here i r = record { row = p; is-e = r; ours = i; again = h .0; fits = omega (arith, all-of, ap length r) }
+
     go : (a : Bool) → isService s (serviceOf (p .name)) ≡ a → (cond (isService s (serviceOf (p .name))) (some (p .bytes-of)) o ≡ some e) ⊎ Stays s e (length (flatten (map (λ p. p .bytes-of) ps)))
         → (o ≡ some e) ⊎ Stays s e (length (p .bytes-of ++ flatten (map (λ p. p .bytes-of) ps)))
     go a ea (inr x) = inr (stays-wider (omega (arith, all-of)) x)
@@ -244,8 +248,10 @@ module _ (s : ℕ) where
     where
       sp : PltSplit b ps more
       sp = plt-split b ps more e
+
       found : (z : Bytes) → lastOf s ps none ≡ some z → Stays s z (length (flatten (map (λ p. p .bytes-of) ps)))
       found z q = elim (last-stays s ps none z (sp .again) q) [ inl a ↦ absurd (Option·none-ne-some _ a) | inr a ↦ a ]
+
       go : (o : Option Bytes) → lastOf s ps none ≡ o → Option·map (λ e. 1 ∷ (e ++ more)) o ≡ some y → (pltOnly s y ≡ some y) × (length y ≤ length b)
       go none q g = absurd (Option·none-ne-some _ g)
       go (some z) q g =
@@ -380,10 +386,11 @@ module _ {o₁ o₂ : Options} (fewer : Fewer o₁ o₂) (p : ℕ) where
       go (some c) eo =
           let sp = table-split y t r e in
           let short = body-narrows fewer p (t .number) .shorter (t .body) c eo in
-          let x = after-change t c (omega (arith, sp .few)) eo in
-          (x .2 ∙ rw (x .1) refl,
-          λ h. rw (x .1) refl,
-          λ v h. omega (arith, ap length (Option·some-injective _ _ h), table-length t c, sp .size))
+          let x = after-change t c (omega (arith, sp .few)) eo in (
+            x .2 ∙ rw (x .1) refl,
+            λ h. rw (x .1) refl,
+            λ v h. omega (arith, ap length (Option·some-injective _ _ h), table-length t c, sp .size),
+          )
 
   pub table-narrows : Narrows (narrowAt o₁ p) (narrowAt o₂ p)
   table-narrows = record {

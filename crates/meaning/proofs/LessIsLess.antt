@@ -1,0 +1,120 @@
+-- Demand 3 on the definitions: of two recorders started alike, the one with fewer wishes writes what the other writes, thinned and
+-- narrowed. Over one run of packets, one call, and any series of calls with refusals. Rests on RuleLaws and NarrowLaws.
+use Prim.Native.Nat.{ℕ, _+_}
+use mathlib.Core.Path.{_≡_, refl, sym, ap, ap₂, _∙_, subst}
+use mathlib.Core.Bool.{Bool, true, false, cond, not, _&&_}
+use mathlib.Core.List.{List, [], _∷_, _++_, map, Sublistᴰ, Sublistᴰ·slnil, Sublistᴰ·cons, Sublistᴰ·cons-cons, Sublistᴰ·append}
+use mathlib.Core.Option.{Option, none, some, Option·getD}
+use lib.ListN.{length}
+use lib.Dec.{eqb}
+use Rattle.meaning.specs.Bytes.{Bytes}
+use Rattle.meaning.specs.Packets.{Cut, cut}
+use Rattle.meaning.specs.Mmtp.{mmtpOf}
+use Rattle.meaning.specs.Narrow.{narrowPacket, narrowedPacket, isSome}
+use Rattle.meaning.specs.Learn.{Limits, Known, Learnt, learn}
+use Rattle.meaning.specs.Rules.{copiesAll}
+use Rattle.meaning.specs.Refusals.{packetLimit}
+use Rattle.meaning.specs.Record.{State}
+use Rattle.meaning.specs.Push.{withheld, Passed, passOne, pass, Pushed, filtered, push, Lent, callRefusal, Run, runOn, run}
+use Rattle.meaning.specs.Less.{Fewer, Thinned}
+use Rattle.meaning.specs.declared.Options.{Options}
+use Rattle.meaning.proofs.ListLaws.{clash}
+use Rattle.meaning.proofs.TableLaws.{Narrows}
+use Rattle.meaning.proofs.NarrowLaws.{packet-narrows}
+use Rattle.meaning.proofs.RuleLaws.{withheld-under}
+
+map-append : (f : Bytes → Bytes) (xs ys : List Bytes) → map f xs ++ map f ys ≡ map f (xs ++ ys)
+map-append f [] ys = refl
+map-append f (x ∷ xs) ys = ap (λ (l : List Bytes). f x ∷ l) (map-append f xs ys)
+
+thinned-append : {f : Bytes → Bytes} {xs ys zs ws : List Bytes} → Thinned f xs ys → Thinned f zs ws → Thinned f (xs ++ zs) (ys ++ ws)
+thinned-append {f} t u = record {
+  from = t .from ++ u .from;
+  some-of = Sublistᴰ·append (t .some-of) (u .some-of);
+  changed = ap₂ (λ (a b : List Bytes). a ++ b) (t .changed) (u .changed) ∙ map-append f (t .from) (u .from);
+}
+
+thinned-nil : {f : Bytes → Bytes} → Thinned f [] []
+thinned-nil = record { from = []; some-of = Sublistᴰ·slnil; changed = refl }
+
+module _ (L : Limits) {o₁ o₂ : Options} (fewer : Fewer o₁ o₂) where
+  -- ---- packets in order: what is known does not depend on wishes
+
+  pass-known : (k : Known) (ps : List Bytes) → pass L o₁ k ps .known ≡ pass L o₂ k ps .known
+  unfolding pass
+  pass-known k [] = refl
+  pass-known k (p ∷ ps) = go (withheld o₁ (learn L k p .known) (mmtpOf p)) (withheld o₂ (learn L k p .known) (mmtpOf p)) (pass-known (learn L k p .known) ps)
+    where
+      go : (a b : Bool) → pass L o₁ (learn L k p .known) ps .known ≡ pass L o₂ (learn L k p .known) ps .known
+          → passOne a (narrowPacket o₁ p) p (learn L k p .lost) (pass L o₁ (learn L k p .known) ps) .known
+          ≡ passOne b (narrowPacket o₂ p) p (learn L k p .lost) (pass L o₂ (learn L k p .known) ps) .known
+      go true true ih = ih
+      go true false ih = ih
+      go false true ih = ih
+      go false false ih = ih
+
+  again : (p : Bytes) → narrowedPacket o₁ (Option·getD (narrowPacket o₂ p) p) ≡ Option·getD (narrowPacket o₁ p) p
+  unfolding narrowedPacket
+  again p = packet-narrows fewer .twice p
+
+  pass-thinned : (k : Known) (ps : List Bytes) → Thinned (narrowedPacket o₁) (pass L o₁ k ps .out) (pass L o₂ k ps .out)
+  unfolding pass
+  pass-thinned k [] = thinned-nil
+  pass-thinned k (p ∷ ps) =
+      go (withheld o₁ (learn L k p .known) (mmtpOf p)) refl (withheld o₂ (learn L k p .known) (mmtpOf p)) refl (pass-thinned (learn L k p .known) ps)
+    where
+      r₁ : Passed
+      r₁ = pass L o₁ (learn L k p .known) ps
+
+      r₂ : Passed
+      r₂ = pass L o₂ (learn L k p .known) ps
+
+      go : (a : Bool) → withheld o₁ (learn L k p .known) (mmtpOf p) ≡ a → (b : Bool) → withheld o₂ (learn L k p .known) (mmtpOf p) ≡ b
+          → Thinned (narrowedPacket o₁) (r₁ .out) (r₂ .out)
+          → Thinned (narrowedPacket o₁) (passOne a (narrowPacket o₁ p) p (learn L k p .lost) r₁ .out) (passOne b (narrowPacket o₂ p) p (learn L k p .lost) r₂ .out)
+      go true ea true eb t = t
+      go true ea false eb t = record { from = t .from; some-of = Sublistᴰ·cons (t .some-of); changed = t .changed }
+      go false ea false eb t = record {
+        from = Option·getD (narrowPacket o₂ p) p ∷ t .from;
+        some-of = Sublistᴰ·cons-cons refl (t .some-of);
+        changed = ap₂ (λ (x : Bytes) (l : List Bytes). x ∷ l) (sym (again p)) (t .changed);
+      }
+      go false ea true eb t = clash (cc (withheld-under fewer (learn L k p .known) (mmtpOf p) eb))
+
+  -- ---- one call, neither set to copy all
+
+  module _ (some₁ : copiesAll o₁ ≡ false) (some₂ : copiesAll o₂ ≡ false) where
+    pub push-thinned : (st : State) (chunk : Bytes) → Thinned (narrowedPacket o₁) (push L o₁ st chunk .out) (push L o₂ st chunk .out)
+    unfolding push filtered
+    push-thinned st chunk = rw (some₁, some₂) (pass-thinned (st .known) (cut (packetLimit (L .work)) (st .held ++ chunk) .packets))
+
+    pub push-state : (st : State) (chunk : Bytes) → push L o₁ st chunk .state ≡ push L o₂ st chunk .state
+    unfolding push filtered
+    push-state st chunk =
+        rw (some₁, some₂)
+        (ap (λ (k : Known). record { held = cut (packetLimit (L .work)) (st .held ++ chunk) .held; known = k })
+        (pass-known (st .known) (cut (packetLimit (L .work)) (st .held ++ chunk) .packets)))
+
+    -- ---- demand 3: any series of calls, each with its chunk and the length of its output
+
+    pub less-is-less : (st : State) (cs : List Lent)
+        → Thinned (narrowedPacket o₁) (run L o₁ st cs .out) (run L o₂ st cs .out) × (run L o₁ st cs .state ≡ run L o₂ st cs .state)
+    unfolding run
+    less-is-less st [] = (thinned-nil, refl)
+    less-is-less st (c ∷ cs) =
+        go (eqb (callRefusal L st c) 0) (less-is-less st cs)
+        (subst (λ (z : State). Thinned (narrowedPacket o₁) (run L o₁ (push L o₁ st (c .0) .state) cs .out) (run L o₂ z cs .out) × (run L o₁ (push L o₁ st (c .0) .state) cs .state ≡ run L o₂ z cs .state))
+        (push-state st (c .0)) (less-is-less (push L o₁ st (c .0) .state) cs))
+      where
+        r₁ : Run
+        r₁ = run L o₁ (push L o₁ st (c .0) .state) cs
+
+        r₂ : Run
+        r₂ = run L o₂ (push L o₂ st (c .0) .state) cs
+
+        go : (a : Bool) → Thinned (narrowedPacket o₁) (run L o₁ st cs .out) (run L o₂ st cs .out) × (run L o₁ st cs .state ≡ run L o₂ st cs .state)
+            → Thinned (narrowedPacket o₁) (r₁ .out) (r₂ .out) × (r₁ .state ≡ r₂ .state)
+            → Thinned (narrowedPacket o₁) (cond a (runOn (push L o₁ st (c .0) .out) r₁) (run L o₁ st cs) .out) (cond a (runOn (push L o₂ st (c .0) .out) r₂) (run L o₂ st cs) .out)
+            × (cond a (runOn (push L o₁ st (c .0) .out) r₁) (run L o₁ st cs) .state ≡ cond a (runOn (push L o₂ st (c .0) .out) r₂) (run L o₂ st cs) .state)
+        go true skipped done = (thinned-append (push-thinned st (c .0)) (done .0), done .1)
+        go false skipped done = skipped

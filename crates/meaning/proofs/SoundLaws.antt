@@ -1,0 +1,314 @@
+-- Soundness is kept by every call: from a start or from any sound record, through any series of calls. And the record of a state says
+-- what the state is. Rests on Holds and CutLaws.
+use Prim.Native.Nat.{ℕ, zero, suc, min, _+_, _-_, _*_, _/_, _%_, _≤_, _<_}
+use mathlib.Core.Path.{_≡_, refl, sym, ap, ap₂, _∙_, subst}
+use mathlib.Core.Bool.{Bool, true, false, cond, not, _&&_, _||_}
+use mathlib.Core.List.{List, [], _∷_, _++_, map}
+use mathlib.Core.Option.{Option}
+use native.Mathlib.Omega.{arith}
+use lib.ListN.{length, take, drop, length-append, length-take, length-map, replicate}
+use lib.Seq.{take-at}
+use lib.Dec.{leb, ltb, eqb}
+use borrow.Author.Tests.{ltb-true, leb-true, eqb-true, lt-ltb, le-leb, eq-eqb}
+use Rattle.meaning.specs.Bytes.{Bytes}
+use Rattle.meaning.specs.Lists.{all, any, sum}
+use Rattle.meaning.specs.Packets.{cut}
+use Rattle.meaning.specs.Mmtp.{mmtpOf}
+use Rattle.meaning.specs.Narrow.{narrowPacket}
+use Rattle.meaning.specs.Learn.{Limits, Fragment, Known, learn, heldBytes}
+use Rattle.meaning.specs.Rules.{copiesAll}
+use Rattle.meaning.specs.Refusals.{packetLimit, goodWork, goodFragments, goodMaps}
+use Rattle.meaning.specs.Record.{State, slots, Record, packPair, pairOf, packHead, headIdentifier, headFlags, headLength, recordOf, fragmentsIn, stateOf, rising, distinct, soundRooms, soundHeld, soundPackages, soundMaps, soundFragments, sound}
+use Rattle.meaning.specs.Push.{fresh, withheld, Passed, passOne, pass, Pushed, filtered, push, Lent, callRefusal, run, runOn}
+use Rattle.meaning.specs.declared.Options.{Options}
+use Rattle.meaning.proofs.ListLaws.{clash, and-both, and-true, or-either}
+use Rattle.meaning.proofs.CutLaws.{held-below}
+use Rattle.meaning.proofs.Holds.{services, identifiers, Below, SmallFlags, HoldsPackages, HoldsMaps, HoldsFragments, Holds, held-next, learn-holds}
+
+-- What a sound state holds to.
+pub record HoldsState (L : Limits) (o : Options) (st : State) : Type 0 where
+  pub held-few : length (st .held) < packetLimit (L .work)
+  pub held-none : copiesAll o ≡ true → length (st .held) ≡ 0
+  pub known-holds : Holds (L .total) (st .known)
+
+-- ---- a start
+
+pub fresh-holds : (L : Limits) (o : Options) (maps : List ℕ) → 0 < packetLimit (L .work) → HoldsState L o (fresh maps)
+unfolding fresh rising distinct heldBytes sum
+fresh-holds L o maps h = record {
+  held-few = h;
+  held-none = λ e. refl;
+  known-holds = record {
+    packages-hold = record { few = omega arith; rise = refl; small = tt };
+    maps-hold = record { few = omega arith; once = refl; small = tt };
+    fragments-hold = record { few = omega arith; once = refl; flags = tt; within = omega arith };
+  };
+}
+
+-- ---- a call, and a series of calls
+
+pass-holds : (L : Limits) (o : Options) (k : Known) (ps : List Bytes) → Holds (L .total) k → Holds (L .total) (pass L o k ps .known)
+unfolding pass
+pass-holds L o k [] h = h
+pass-holds L o k (p ∷ ps) h =
+    go (withheld o (learn L k p .known) (mmtpOf p)) (pass-holds L o (learn L k p .known) ps (learn-holds L k p h))
+  where
+    go : (a : Bool) → Holds (L .total) (pass L o (learn L k p .known) ps .known)
+        → Holds (L .total) (passOne a (narrowPacket o p) p (learn L k p .lost) (pass L o (learn L k p .known) ps) .known)
+    go true r = r
+    go false r = r
+
+pub push-holds : (L : Limits) (o : Options) (st : State) (chunk : Bytes) → 4 ≤ packetLimit (L .work) → HoldsState L o st → HoldsState L o (push L o st chunk .state)
+unfolding push filtered
+push-holds L o st chunk four h = go (copiesAll o) refl
+  where
+    go : (a : Bool) → copiesAll o ≡ a → HoldsState L o (push L o st chunk .state)
+    go true e = rw e h
+    go false e = rw e
+        (record {
+          held-few = held-below (packetLimit (L .work)) four (st .held ++ chunk);
+          held-none = λ c. clash (let z : false ≡ true = sym e ∙ c in cc);
+          known-holds = pass-holds L o (st .known) (cut (packetLimit (L .work)) (st .held ++ chunk) .packets) (h .known-holds);
+        })
+
+pub run-holds : (L : Limits) (o : Options) (st : State) (cs : List Lent) → 4 ≤ packetLimit (L .work) → HoldsState L o st → HoldsState L o (run L o st cs .state)
+unfolding run
+run-holds L o st [] four h = h
+run-holds L o st (c ∷ cs) four h =
+    go (eqb (callRefusal L st c) 0) (run-holds L o (push L o st (c .0) .state) cs four (push-holds L o st (c .0) four h)) (run-holds L o st cs four h)
+  where
+    go : (a : Bool) → HoldsState L o (run L o (push L o st (c .0) .state) cs .state) → HoldsState L o (run L o st cs .state)
+        → HoldsState L o (cond a (runOn (push L o st (c .0) .out) (run L o (push L o st (c .0) .state) cs)) (run L o st cs) .state)
+    go true x y = x
+    go false x y = y
+
+-- ---- numbers that hold two or three
+
+pub pair-pack : (x : ℕ × ℕ) → x .1 < 65536 → pairOf (packPair x) ≡ x
+unfolding pairOf packPair
+pair-pack x h = ap₂ (λ (a b : ℕ). (a, b)) (omega arith) (omega arith)
+
+abbrev SmallHead : Fragment → Type 0
+SmallHead f = (f .flags < 256) × (length (f .body) < 1099511627776)
+
+pub head-identifier : (f : Fragment) → SmallHead f → headIdentifier (packHead f) ≡ f .identifier
+unfolding headIdentifier packHead
+head-identifier f h = omega (arith, h .0, h .1)
+
+pub head-flags : (f : Fragment) → SmallHead f → headFlags (packHead f) ≡ f .flags
+unfolding headFlags packHead
+head-flags f h = omega (arith, h .0, h .1)
+
+pub head-length : (f : Fragment) → SmallHead f → headLength (packHead f) ≡ length (f .body)
+unfolding headLength packHead
+head-length f h = omega (arith, h .0, h .1)
+
+-- ---- the record of a state is sound
+
+-- the used slots
+pub slots-used : (n : ℕ) (xs : List ℕ) → take (length xs) (slots n xs) ≡ xs
+unfolding slots
+slots-used n xs = take-at xs (replicate (n - length xs) 0) (length xs) refl
+
+used : (n : ℕ) {A : Type 0} (f : A → ℕ) (xs : List A) → take (length xs) (slots n (map f xs)) ≡ map f xs
+used n f xs = ap (λ (k : ℕ). take k (slots n (map f xs))) (sym (length-map xs f)) ∙ slots-used n (map f xs)
+
+firsts-of : (ps : List (ℕ × ℕ)) → Below 65536 ps → map (λ x. pairOf x .0) (map packPair ps) ≡ services ps
+firsts-of [] b = refl
+firsts-of (x ∷ ps) b = ap₂ (λ (a : ℕ) (l : List ℕ). a ∷ l) (ap (λ z. z .0) (pair-pack x (b .0))) (firsts-of ps (b .1))
+
+below-wider : {m n : ℕ} (ps : List (ℕ × ℕ)) → m ≤ n → Below m ps → Below n ps
+below-wider [] l b = tt
+below-wider (x ∷ ps) l b = (omega (arith, b .0), below-wider ps l (b .1))
+
+counts-of : (ps : List (ℕ × ℕ)) → Below 256 ps → all (λ x. leb (pairOf x .1) 255) (map packPair ps) ≡ true
+unfolding all
+counts-of [] b = refl
+counts-of (x ∷ ps) b =
+    let e : pairOf (packPair x) .1 ≡ x .1 = ap (λ z. z .1) (pair-pack x (omega (arith, b .0))) in
+    rw (e, le-leb (x .1) 255 (omega (arith, b .0))) (counts-of ps (b .1))
+
+-- each fragment is within the sum, which is within T
+abbrev SmallHeads : List Fragment → Type 0
+SmallHeads [] = Unit {0}
+SmallHeads (f ∷ fs) = SmallHead f × SmallHeads fs
+
+heads-small : (T : ℕ) (fs : List Fragment) → SmallFlags fs → heldBytes fs ≤ T → T ≤ 16777216 → SmallHeads fs
+heads-small T [] s h t = tt
+heads-small T (f ∷ fs) s h t =
+    ((s .0, omega (arith, held-next f fs)), heads-small T fs (s .1) (omega (arith, held-next f fs)) t)
+
+identifiers-of : (fs : List Fragment) → SmallHeads fs → map headIdentifier (map packHead fs) ≡ identifiers fs
+identifiers-of [] h = refl
+identifiers-of (f ∷ fs) h = ap₂ (λ (a : ℕ) (l : List ℕ). a ∷ l) (head-identifier f (h .0)) (identifiers-of fs (h .1))
+
+lengths-of : (fs : List Fragment) → SmallHeads fs → sum (map headLength (map packHead fs)) ≡ heldBytes fs
+unfolding sum heldBytes
+lengths-of [] h = refl
+lengths-of (f ∷ fs) h = ap₂ (λ (a b : ℕ). a + b) (head-length f (h .0)) (lengths-of fs (h .1))
+
+module _ (L : Limits) (o : Options) (st : State) (work-good : goodWork (L .work) ≡ true) (fragments-good : goodFragments (L .total) (L .most) ≡ true) (h : HoldsState L o st) where
+  rooms-sound : soundRooms L (L .work) (L .total) 32768 ≡ true
+  unfolding soundRooms goodMaps
+  rooms-sound = rw (eq-eqb (L .work) (L .work) refl, eq-eqb (L .total) (L .total) refl, work-good) fragments-good
+
+  held-sound : soundHeld L o (length (st .held)) ≡ true
+  unfolding soundHeld
+  held-sound = rw (lt-ltb (length (st .held)) (packetLimit (L .work)) (h .held-few)) (go (copiesAll o) refl)
+    where
+      go : (a : Bool) → copiesAll o ≡ a → (not a || eqb (length (st .held)) 0) ≡ true
+      go false e = refl
+      go true e = eq-eqb (length (st .held)) 0 (h .held-none e)
+
+  total-small : L .total ≤ 16777216
+  unfolding goodFragments
+  total-small =
+      let a = and-both (leb 1 (L .total) && leb (L .total) 16777216 && leb 1 (L .most)) (leb (L .most) (L .total)) fragments-good in
+      let b = and-both (leb 1 (L .total) && leb (L .total) 16777216) (leb 1 (L .most)) (a .0) in
+      leb-true (L .total) 16777216 (and-both (leb 1 (L .total)) (leb (L .total) 16777216) (b .0) .1)
+
+  packages-sound : soundPackages (length (st .known .packages)) (slots 255 (map packPair (st .known .packages))) ≡ true
+  unfolding soundPackages
+  packages-sound =
+      let s = h .known-holds .packages-hold in
+      let ps = st .known .packages in
+      rw (le-leb (length ps) 255 (s .few), used 255 packPair ps, firsts-of ps (s .small)) (s .rise)
+
+  maps-sound : soundMaps (length (st .known .maps)) (slots 64 (map packPair (st .known .maps))) ≡ true
+  unfolding soundMaps
+  maps-sound =
+      let s = h .known-holds .maps-hold in
+      let ms = st .known .maps in
+      rw (le-leb (length ms) 64 (s .few), used 64 packPair ms, counts-of ms (s .small), firsts-of ms (below-wider ms (omega arith) (s .small))) (s .once)
+
+  fragments-sound : soundFragments (L .total) (length (st .known .fragments)) (slots 256 (map packHead (st .known .fragments))) ≡ true
+  unfolding soundFragments
+  fragments-sound =
+      let s = h .known-holds .fragments-hold in
+      let fs = st .known .fragments in
+      let small = heads-small (L .total) fs (s .flags) (s .within) total-small in
+      rw (le-leb (length fs) 256 (s .few), used 256 packHead fs, identifiers-of fs small, lengths-of fs small, s .once, le-leb (heldBytes fs) (L .total) (s .within))
+
+  pub record-sound : sound (recordOf L o st) (L .work) (L .total) 32768 ≡ true
+  unfolding sound recordOf
+  record-sound = rw (rooms-sound, held-sound, packages-sound, maps-sound) fragments-sound
+
+-- ---- a sound record with its rooms has a sound state
+
+pub good-limit : (W : ℕ) → goodWork W ≡ true → 4 ≤ packetLimit W
+unfolding goodWork packetLimit
+good-limit W e =
+    let h = and-both (leb 4096 W) (leb W 131078) e in
+    omega (arith, leb-true 4096 W (h .0))
+
+firsts-in : (ns : List ℕ) → services (map pairOf ns) ≡ map (λ x. pairOf x .0) ns
+firsts-in [] = refl
+firsts-in (n ∷ ns) = ap (λ (l : List ℕ). pairOf n .0 ∷ l) (firsts-in ns)
+
+pairs-small : (ns : List ℕ) → Below 65536 (map pairOf ns)
+unfolding pairOf
+pairs-small [] = tt
+pairs-small (n ∷ ns) = (omega arith, pairs-small ns)
+
+counts-in : (ns : List ℕ) → all (λ x. leb (pairOf x .1) 255) ns ≡ true → Below 256 (map pairOf ns)
+unfolding all
+counts-in [] e = tt
+counts-in (n ∷ ns) e =
+    let h = and-both (leb (pairOf n .1) 255) (all (λ x. leb (pairOf x .1) 255) ns) e in
+    (omega (arith, leb-true (pairOf n .1) 255 (h .0)), counts-in ns (h .1))
+
+taken-few : {A : Type 0} (n m : ℕ) (xs : List A) → n ≤ m → length (take n xs) ≤ m
+taken-few n m xs h = simp length-take (omega arith)
+
+identifiers-in : (hs : List ℕ) (room : Bytes) → identifiers (fragmentsIn hs room) ≡ map headIdentifier hs
+unfolding fragmentsIn
+identifiers-in [] room = refl
+identifiers-in (h ∷ hs) room = ap (λ (l : List ℕ). headIdentifier h ∷ l) (identifiers-in hs (drop (headLength h) room))
+
+flags-in : (hs : List ℕ) (room : Bytes) → SmallFlags (fragmentsIn hs room)
+unfolding fragmentsIn headFlags
+flags-in [] room = tt
+flags-in (h ∷ hs) room = (omega arith, flags-in hs (drop (headLength h) room))
+
+bytes-in : (hs : List ℕ) (room : Bytes) → heldBytes (fragmentsIn hs room) ≤ sum (map headLength hs)
+unfolding fragmentsIn heldBytes sum
+bytes-in [] room = omega arith
+bytes-in (h ∷ hs) room = omega (arith, bytes-in hs (drop (headLength h) room), taken-few (headLength h) (headLength h) room (omega arith))
+
+length-in : (hs : List ℕ) (room : Bytes) → length (fragmentsIn hs room) ≡ length hs
+unfolding fragmentsIn
+length-in [] room = refl
+length-in (h ∷ hs) room = ap suc (length-in hs (drop (headLength h) room))
+
+module _ (n : ℕ) (xs : List ℕ) where
+  packages-from : soundPackages n xs ≡ true → HoldsPackages (map pairOf (take n xs))
+  unfolding soundPackages
+  packages-from e =
+      let h = and-both (leb n 255) (rising (map (λ x. pairOf x .0) (take n xs))) e in
+      record {
+        few = omega (arith, length-map (take n xs) pairOf, taken-few n 255 xs (leb-true n 255 (h .0)));
+        rise = ap rising (firsts-in (take n xs)) ∙ h .1;
+        small = pairs-small (take n xs);
+      }
+
+  maps-from : soundMaps n xs ≡ true → HoldsMaps (map pairOf (take n xs))
+  unfolding soundMaps
+  maps-from e =
+      let h = and-both (leb n 64 && all (λ x. leb (pairOf x .1) 255) (take n xs)) (distinct (map (λ x. pairOf x .0) (take n xs))) e in
+      let g = and-both (leb n 64) (all (λ x. leb (pairOf x .1) 255) (take n xs)) (h .0) in
+      record {
+        few = omega (arith, length-map (take n xs) pairOf, taken-few n 64 xs (leb-true n 64 (g .0)));
+        once = ap distinct (firsts-in (take n xs)) ∙ h .1;
+        small = counts-in (take n xs) (g .1);
+      }
+
+  fragments-from : (T : ℕ) (room : Bytes) → soundFragments T n xs ≡ true → HoldsFragments T (fragmentsIn (take n xs) room)
+  unfolding soundFragments
+  fragments-from T room e =
+      let h = and-both (leb n 256 && distinct (map headIdentifier (take n xs))) (leb (sum (map headLength (take n xs))) T) e in
+      let g = and-both (leb n 256) (distinct (map headIdentifier (take n xs))) (h .0) in
+      record {
+        few = omega (arith, length-in (take n xs) room, taken-few n 256 xs (leb-true n 256 (g .0)));
+        once = ap distinct (identifiers-in (take n xs) room) ∙ g .1;
+        flags = flags-in (take n xs) room;
+        within = omega (arith, bytes-in (take n xs) room, leb-true (sum (map headLength (take n xs))) T (h .1));
+      }
+
+held-from : (L : Limits) (o : Options) (n : ℕ) (work : Bytes) → soundHeld L o n ≡ true
+    → (length (take n work) < packetLimit (L .work)) × (copiesAll o ≡ true → length (take n work) ≡ 0)
+unfolding soundHeld
+held-from L o n work e =
+    let h = and-both (ltb n (packetLimit (L .work))) (not (copiesAll o) || eqb n 0) e in
+    (omega (arith, ltb-true n (packetLimit (L .work)) (h .0), taken-few n n work (omega arith)), λ c. none-left (subst (λ (b : Bool). (not b || eqb n 0) ≡ true) c (h .1)))
+  where
+    none-left : eqb n 0 ≡ true → length (take n work) ≡ 0
+    none-left q = omega (arith, eqb-true n 0 q, taken-few n n work (omega arith))
+
+pub state-holds : (r : Record) (work room : Bytes) (maps : List ℕ) → sound r (length work) (length room) (length maps) ≡ true
+    → HoldsState (r .limits) (r .options) (stateOf r work room maps)
+unfolding sound stateOf soundRooms
+state-holds r work room maps e =
+    let W = length work in
+    let T = length room in
+    let h₄ = and-both (soundRooms (r .limits) W T (length maps) && soundHeld (r .limits) (r .options) (r .held) && soundPackages (r .package-count) (r .packages) && soundMaps (r .map-count) (r .maps)) (soundFragments T (r .fragment-count) (r .fragments)) e in
+    let h₃ = and-both (soundRooms (r .limits) W T (length maps) && soundHeld (r .limits) (r .options) (r .held) && soundPackages (r .package-count) (r .packages)) (soundMaps (r .map-count) (r .maps)) (h₄ .0) in
+    let h₂ = and-both (soundRooms (r .limits) W T (length maps) && soundHeld (r .limits) (r .options) (r .held)) (soundPackages (r .package-count) (r .packages)) (h₃ .0) in
+    let h₁ = and-both (soundRooms (r .limits) W T (length maps)) (soundHeld (r .limits) (r .options) (r .held)) (h₂ .0) in
+    let held = held-from (r .limits) (r .options) (r .held) work (h₁ .1) in
+    record {
+      held-few = held .0;
+      held-none = held .1;
+      known-holds = record {
+        packages-hold = packages-from (r .package-count) (r .packages) (h₂ .1);
+        maps-hold = maps-from (r .map-count) (r .maps) (h₃ .1);
+        fragments-hold = subst (λ (t : ℕ). HoldsFragments t (fragmentsIn (take (r .fragment-count) (r .fragments)) room)) (sym (total-is (h₁ .0)))
+            (fragments-from (r .fragment-count) (r .fragments) T room (h₄ .1));
+      };
+    }
+  where
+    total-is : soundRooms (r .limits) (length work) (length room) (length maps) ≡ true → r .limits .total ≡ length room
+    total-is q =
+        let a = and-both (eqb (r .limits .work) (length work) && eqb (r .limits .total) (length room) && goodMaps (length maps) && goodWork (length work)) (goodFragments (length room) (r .limits .most)) q in
+        let b = and-both (eqb (r .limits .work) (length work) && eqb (r .limits .total) (length room) && goodMaps (length maps)) (goodWork (length work)) (a .0) in
+        let c = and-both (eqb (r .limits .work) (length work) && eqb (r .limits .total) (length room)) (goodMaps (length maps)) (b .0) in
+        eqb-true (r .limits .total) (length room) (and-both (eqb (r .limits .work) (length work)) (eqb (r .limits .total) (length room)) (c .0) .1)
