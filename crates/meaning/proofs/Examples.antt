@@ -17,13 +17,13 @@ use Rattle.meaning.specs.declared.Counts.{Counts}
 
 -- ---- 01's names
 
-abbrev hvc1 : Bytes
+abbrev pub hvc1 : Bytes
 hvc1 = 0x68 ∷ 0x76 ∷ 0x63 ∷ 0x31 ∷ []
 
-abbrev stpp : Bytes
+abbrev pub stpp : Bytes
 stpp = 0x73 ∷ 0x74 ∷ 0x70 ∷ 0x70 ∷ []
 
-abbrev E : ℕ → Bytes → ℕ → ℕ → Bytes
+abbrev pub E : ℕ → Bytes → ℕ → ℕ → Bytes
 E id kind high low = 0x00 ∷ 0x00 ∷ 0x00 ∷ 0x00 ∷ 0x00 ∷ 0x01 ∷ id ∷ kind ++ (0x00 ∷ 0x01 ∷ 0x00 ∷ high ∷ low ∷ 0x00 ∷ 0x00 ∷ [])
 
 -- M with its count and its second kind open

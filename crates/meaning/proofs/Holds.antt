@@ -201,11 +201,11 @@ plt-holds b xs more e =
 -- ---- maps: a list takes the place of its identifier, or a free one
 
 -- the heads with p's put in
-unfoldable putHead : ℕ → ℕ → List (ℕ × ℕ) → List (ℕ × ℕ)
+unfoldable pub putHead : ℕ → ℕ → List (ℕ × ℕ) → List (ℕ × ℕ)
 putHead p n [] = (p, n) ∷ []
 putHead p n (m ∷ ms) = cond (eqb (m .0) p) ((p, n) ∷ ms) (m ∷ putHead p n ms)
 
-put-is : (p n : ℕ) (ms : List (ℕ × ℕ)) → take (placeFor p ms) ms ++ ((p, n) ∷ drop (suc (placeFor p ms)) ms) ≡ putHead p n ms
+pub put-is : (p n : ℕ) (ms : List (ℕ × ℕ)) → take (placeFor p ms) ms ++ ((p, n) ∷ drop (suc (placeFor p ms)) ms) ≡ putHead p n ms
 unfolding placeFor putHead
 put-is p n [] = refl
 put-is p n (m ∷ ms) = go (eqb (m .0) p) (put-is p n ms)
@@ -258,7 +258,7 @@ put-once p n (m ∷ ms) d = go (eqb (m .0) p) refl (and-both (not (any (eqb (m .
         (ap not (put-any (m .0) p n ms eb) ∙ h .0) (ih (h .1))
 
 -- no more assets are listed than entries
-list-length : (es : List Entry) → length (listed es) ≤ length es
+pub list-length : (es : List Entry) → length (listed es) ≤ length es
 unfolding listed
 list-length [] = omega arith
 list-length (e ∷ es) = go (e .carrier) (list-length es)
@@ -267,7 +267,7 @@ list-length (e ∷ es) = go (e .carrier) (list-length es)
     go none ih = omega arith
     go (some p) ih = omega arith
 
-list-holds : (T p : ℕ) (es : List Entry) (k : Known) → length es < 256 → placeFor p (k .maps) < 64 → Holds T k → Holds T (withList p (listed es) k (placeFor p (k .maps)))
+pub list-holds : (T p : ℕ) (es : List Entry) (k : Known) → length es < 256 → placeFor p (k .maps) < 64 → Holds T k → Holds T (withList p (listed es) k (placeFor p (k .maps)))
 unfolding withList
 list-holds T p es k l h s =
     let m = s .maps-hold in
@@ -294,7 +294,7 @@ mpt-holds T p b (some (m, more)) e k s = go (ltb (placeFor p (k .maps)) 64) refl
 
 -- ---- tables and messages
 
-packages-holds : (T : ℕ) (b : Bytes) (x : Out (List Package)) → plt b ≡ x → (k : Known) → Holds T k → Holds T (pltFrom x k)
+pub packages-holds : (T : ℕ) (b : Bytes) (x : Out (List Package)) → plt b ≡ x → (k : Known) → Holds T k → Holds T (pltFrom x k)
 packages-holds T b none e k s = s
 packages-holds T b (some (xs, more)) e k s =
     record { packages-hold = plt-holds b xs more e; maps-hold = s .maps-hold; fragments-hold = s .fragments-hold }
@@ -426,11 +426,11 @@ without-none p (f ∷ fs) = go (eqb (f .identifier) p) refl (without-none p fs)
     go true eb ih = ih
     go false eb ih = rw (eqb-swap (f .identifier) p eb) ih
 
-without-holds : (T p : ℕ) (fs : List Fragment) → HoldsFragments T fs → HoldsFragments T (without p fs)
+pub without-holds : (T p : ℕ) (fs : List Fragment) → HoldsFragments T fs → HoldsFragments T (without p fs)
 unfolding without
 without-holds T p fs s = keep-holds T (λ f. not (isOf p f)) fs s
 
-first-holds : (L : Limits) (p flags : ℕ) (b : Bytes) (fs : List Fragment) → HoldsFragments (L .total) fs → HoldsFragments (L .total) (holdFirst L p flags b fs)
+pub first-holds : (L : Limits) (p flags : ℕ) (b : Bytes) (fs : List Fragment) → HoldsFragments (L .total) fs → HoldsFragments (L .total) (holdFirst L p flags b fs)
 unfolding holdFirst
 first-holds L p flags b fs s = go (ltb (length others) 256 && leb (heldBytes others + length b) (L .total)) refl
   where
@@ -491,7 +491,7 @@ grow-held p b (f ∷ fs) = go (isOf p f) (grow-held p b fs)
     go true ih = omega (arith, held-next (grown f b) fs, held-next f fs, length-append (f .body) b)
     go false ih = omega (arith, held-next f (growIn p b fs), held-next f fs)
 
-middle-holds : (L : Limits) (p : ℕ) (b : Bytes) (fs : List Fragment) (o : Option Fragment) → HoldsFragments (L .total) fs → HoldsFragments (L .total) (middleOf o L p b fs)
+pub middle-holds : (L : Limits) (p : ℕ) (b : Bytes) (fs : List Fragment) (o : Option Fragment) → HoldsFragments (L .total) fs → HoldsFragments (L .total) (middleOf o L p b fs)
 unfolding fits
 middle-holds L p b fs none s = s
 middle-holds L p b fs (some f) s = go (fits L f b fs) refl
@@ -509,7 +509,7 @@ middle-holds L p b fs (some f) s = go (fits L f b fs) refl
 
 -- ---- a payload, a packet
 
-abbrev with-fragments : {T : ℕ} {k : Known} {fs : List Fragment} → Holds T k → HoldsFragments T fs → Holds T (withFragments fs k)
+abbrev pub with-fragments : {T : ℕ} {k : Known} {fs : List Fragment} → Holds T k → HoldsFragments T fs → Holds T (withFragments fs k)
 with-fragments s f = record { packages-hold = s .packages-hold; maps-hold = s .maps-hold; fragments-hold = f }
 
 last-holds : (L : Limits) (p : ℕ) (b : Bytes) (k : Known) (o : Option Fragment) → Holds (L .total) k → Holds (L .total) (lastOf o L p b k .known)

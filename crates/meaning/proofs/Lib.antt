@@ -2,6 +2,7 @@
 pub mod Writes
 pub mod SetLaws
 pub mod Examples
+pub mod Cases
 pub mod ListLaws
 pub mod Local
 pub mod CutLaws
@@ -13,3 +14,5 @@ pub mod RuleLaws
 pub mod LessIsLess
 pub mod Holds
 pub mod SoundLaws
+pub mod SpareLaws
+pub mod Statements

@@ -289,7 +289,7 @@ byIndicator (suc (suc zero)) L p flags s k = learnt (withFragments (middle L p (
 byIndicator (suc (suc (suc n))) L p flags s k = last L p (drop 1 s) k
 
 unfoldable pub observe : Limits → ℕ → Bytes → Known → Learnt
-unfolding indicator holdFirst middle last learnMessages messages without
+unfolding inSet indicator holdFirst middle last learnMessages messages without
 observe L p [] k = learnt k
 observe L p (flags ∷ s) k = cond (inSet (k .carousels) p) (learnt k) (byIndicator (indicator flags) L p flags s k)
 

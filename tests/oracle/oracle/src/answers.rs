@@ -18,34 +18,66 @@ pub fn answers<E: Engine>(cases: &[u8]) -> Vec<u8> {
             Case::Narrowing(narrowing) => writer.narrowing::<E>(&narrowing),
         }
     }
-    writer.bytes
+    writer.told
+}
+
+/// The answer to one case, each of its numbers and bytes as one number, without the dropped identifiers.
+pub fn numbers<E: Engine>(case: &Case) -> Vec<u32> {
+    let mut writer = Writer::default();
+    match case {
+        Case::Stream(stream) => drop(writer.calls::<E>(stream)),
+        Case::Narrowing(narrowing) => writer.narrowing::<E>(narrowing),
+    }
+    writer.told
+}
+
+/// What answers are told in: bytes, as the format says, or numbers.
+trait Unit: From<u8> {
+    fn long(number: u32) -> impl IntoIterator<Item = Self>;
+}
+
+impl Unit for u8 {
+    fn long(number: u32) -> impl IntoIterator<Item = Self> {
+        number.to_be_bytes()
+    }
+}
+
+impl Unit for u32 {
+    fn long(number: u32) -> impl IntoIterator<Item = Self> {
+        [number]
+    }
 }
 
 #[derive(Default)]
-struct Writer {
-    bytes: Vec<u8>,
+struct Writer<U> {
+    told: Vec<U>,
 }
 
-impl Writer {
+impl<U: Unit> Writer<U> {
     fn stream<E: Engine>(&mut self, case: &Stream) {
-        let mut engine = match E::start(case.limits, case.options) {
-            Ok(engine) => engine,
-            Err(number) => return self.bytes.push(number),
-        };
-        self.bytes.push(0);
+        if let Some(engine) = self.calls::<E>(case)
+            && !case.cut
+        {
+            self.long(engine.dropped());
+        }
+    }
+
+    /// The start and all calls. Gives the filter after them, unless its start was refused.
+    fn calls<E: Engine>(&mut self, case: &Stream) -> Option<E> {
+        let started = E::start(case.limits, case.options);
+        self.bytes(&[started.as_ref().err().copied().unwrap_or(0)]);
+        let mut engine = started.ok()?;
         for chunk in &case.chunks {
             match engine.push(chunk, case.room) {
                 Ok(call) => self.call(0, &call),
                 Err(number) => self.call(number, &nothing(engine.held())),
             }
         }
-        if !case.cut {
-            self.long(engine.dropped());
-        }
+        Some(engine)
     }
 
     fn call(&mut self, refusal: u8, call: &Call) {
-        self.bytes.push(refusal);
+        self.bytes(&[refusal]);
         let counts = &call.counts;
         for number in [
             counts.bytes,
@@ -58,7 +90,7 @@ impl Writer {
         ] {
             self.long(u32::try_from(number).expect("a call's counts have 32 bits"));
         }
-        self.bytes.extend(&call.out);
+        self.bytes(&call.out);
     }
 
     fn narrowing<E: Engine>(&mut self, case: &Narrowing) {
@@ -78,16 +110,20 @@ impl Writer {
 
     /// `head` is the refusal, and whether it is changed.
     fn narrowed(&mut self, head: [u8; 2], out: &[u8], entries: [[u32; 3]; 2]) {
-        self.bytes.extend(head);
+        self.bytes(&head);
         self.long(u32::try_from(out.len()).expect("a narrowed input has 32 bits"));
         for count in entries.as_flattened() {
             self.long(*count);
         }
-        self.bytes.extend(out);
+        self.bytes(out);
+    }
+
+    fn bytes(&mut self, bytes: &[u8]) {
+        self.told.extend(bytes.iter().copied().map(U::from));
     }
 
     fn long(&mut self, number: u32) {
-        self.bytes.extend(number.to_be_bytes());
+        self.told.extend(U::long(number));
     }
 }
 

@@ -8,3 +8,4 @@ pub mod compare;
 pub mod narrow;
 pub mod programs;
 pub mod run;
+pub mod theorems;

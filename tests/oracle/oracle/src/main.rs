@@ -11,6 +11,7 @@ use oracle::arguments::Arguments;
 use oracle::cases::{Narrowing, Stream, Writer};
 use oracle::compare::{self, Outcome};
 use oracle::run::Told;
+use oracle::theorems::{self, Bounds};
 use oracle::{answers, narrow, programs, run};
 use original::Original;
 use plain::Plain;
@@ -30,6 +31,9 @@ const USAGE: &str = "usage: oracle COMMAND
                               the seeds' cases, each with at most N narrowings
   answers [--by original|plain]
                               the answers to the cases on standard input
+  theorems --seeds A..B [--narrowing N] [--longest N] [--most N]
+                              the seeds' cases with the original's answers, as theorems on the
+                              definitions: at most N of them (400), each of at most N bytes (2000)
   compare --seeds A..B        the original and the plain filter
   same --seeds A..B           the original at its own limits and the untouched one";
 
@@ -53,6 +57,7 @@ fn dispatch(command: &str, words: impl Iterator<Item = String>) -> Answer {
         "narrow" => narrow_command(&read(NARROW, &["hex"])?),
         "cases" => cases_command(&read(&["seeds", "narrowing"], &[])?),
         "answers" => answers_command(&read(&["by"], &[])?),
+        "theorems" => theorems_command(&read(THEOREMS, &[])?),
         "compare" => compare_command("compared", compare::compare, &read(&["seeds"], &[])?),
         "same" => compare_command("same", compare::same, &read(&["seeds"], &[])?),
         _ => Err(format!("no such command\n{USAGE}")),
@@ -63,6 +68,7 @@ const RUN: &[&str] = &[
     "flags", "service", "work", "total", "most", "maps", "room", "cuts", "by", "out",
 ];
 const NARROW: &[&str] = &["flags", "service", "id", "room", "by", "out"];
+const THEOREMS: &[&str] = &["seeds", "narrowing", "longest", "most"];
 
 fn program(
     program: fn(io::StdinLock<'static>, io::BufWriter<io::StdoutLock<'static>>) -> io::Result<()>,
@@ -131,6 +137,17 @@ fn answers_command(arguments: &Arguments) -> Answer {
         Filter::Plain => answers::answers::<Plain>,
     };
     io::stdout().write_all(&answers(&input()?)).map_err(text)?;
+    Ok(ExitCode::SUCCESS)
+}
+
+fn theorems_command(arguments: &Arguments) -> Answer {
+    let bounds = Bounds {
+        narrowing: arguments.number("narrowing", usize::MAX)?,
+        longest: arguments.number("longest", 2_000)?,
+        most: arguments.number("most", 400)?,
+    };
+    let file = theorems::theorems(arguments.seeds()?, bounds);
+    io::stdout().write_all(file.as_bytes()).map_err(text)?;
     Ok(ExitCode::SUCCESS)
 }
 
