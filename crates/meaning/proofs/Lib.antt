@@ -1,5 +1,6 @@
 -- Laws on the definitions, each stated so that another crate's proof can cite it.
 pub mod Writes
+pub mod Reading
 pub mod SetLaws
 pub mod Examples
 pub mod Cases

@@ -1,8 +1,9 @@
 // Reading and moving bytes, and sets of packet identifiers: the leaves that every other crate calls.
 ghost use mathlib.Core.Path.{_≡_};
 ghost use Prim.Native.Nat.{_+_, _≤_, _<_, _^_};
+ghost use mathlib.Core.List.{[], _∷_};
 ghost use lib.ListN.{length, take, drop, getD};
-ghost use Rattle.meaning.specs.Bytes.{be16, be16At, be32At};
+ghost use Rattle.meaning.specs.Bytes.{be16, be16At, be32At, put16, put32};
 ghost use Rattle.meaning.specs.Writing.{Wrote};
 ghost use Rattle.meaning.specs.Sets.{bitAt, inSet, withId, howMany};
 ghost use lib.Count.{ones};
@@ -43,6 +44,33 @@ pub fn be32(s: &[u8], at: usize) -> usize
     ensures { λ r. ⌜ (r ≡ be32At (now (s .entry)) at) × (r < 4294967296) ⌝ }
 {
     be16(s, at) * 65536 + be16(s, at + 2)
+}
+
+// Writes one byte at `to`; answers the place past it.
+pub fn put8(out: &mut [u8], to: usize, b: u8) -> usize
+    requires { ⌜ to < length (now out) ⌝ }
+    ensures { λ r. ⌜ Wrote (b ∷ []) (now (out .entry)) to (now (out .exit)) r ⌝ }
+{
+    out[to] = b;
+    to + 1
+}
+
+// Writes the low 16 bits of `n` at `to`, the upper byte first; answers the place past them.
+pub fn put16(out: &mut [u8], to: usize, n: usize) -> usize
+    requires { ⌜ to + 2 ≤ length (now out) ⌝ }
+    ensures { λ r. ⌜ Wrote (put16 n) (now (out .entry)) to (now (out .exit)) r ⌝ }
+{
+    let low = put8(out, to, (n / 256 % 256) as u8);
+    put8(out, low, (n % 256) as u8)
+}
+
+// Writes the low 32 bits of `n` at `to`, the upper bytes first; answers the place past them.
+pub fn put32(out: &mut [u8], to: usize, n: usize) -> usize
+    requires { ⌜ to + 4 ≤ length (now out) ⌝ }
+    ensures { λ r. ⌜ Wrote (put32 n) (now (out .entry)) to (now (out .exit)) r ⌝ }
+{
+    let low = put16(out, to, n / 65536);
+    put16(out, low, n % 65536)
 }
 
 // Copies `src` to `to` of `out`; answers the place past it.

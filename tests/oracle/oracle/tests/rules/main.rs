@@ -13,3 +13,4 @@ mod packets;
 mod programs;
 mod refusals;
 mod subject;
+mod theorems;

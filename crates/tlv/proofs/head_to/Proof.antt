@@ -1,0 +1,29 @@
+use borrow.Author.Tests.{lt-ltb, le-ltb}
+use Rattle.tlv.specs.Answers.{headTo}
+use borrow.Author.Needs.{needs}
+use Rattle.tlv.proofs.head_to.Statement.{statement}
+use Rattle.tlv.proofs.head_to.Tie as tie
+use Rattle.tlv.proofs.head_to.Reads as reads
+use Rattle.tlv.proofs.head_to.Lts as lts
+use Rattle.octets.proofs.id16.Reads as id16-reads
+
+-- src/lib.rt:156:9
+returns : tie.Need-returns
+unfolding headTo
+returns c = rw (lt-ltb _ _ (c .if1 .taken))
+
+-- src/lib.rt:158:37
+id16-requires : tie.Need-id16-requires
+id16-requires c κs = search needs
+
+-- src/lib.rt:158:55
+shared-slice-read-t7 : tie.Need-shared-slice-read-t7
+shared-slice-read-t7 c = search needs
+
+-- src/lib.rt:151:1
+returns-2 : tie.Need-returns-2
+unfolding headTo
+returns-2 c = rw (le-ltb _ _ (c .before .before .if1 .left), ← c .before .id16 .ensures)
+
+pub head-to-spec : {M : Type 1} → statement M
+head-to-spec = tie.close (tie.spec returns id16-requires shared-slice-read-t7 returns-2)

@@ -1,0 +1,119 @@
+//! The theorems: one stands word by word, and the bounds are kept.
+
+use face::{Kind, Limits};
+use oracle::cases::{Case, Narrowing, Stream};
+use oracle::theorems::{Bounds, theorem, theorems};
+
+use crate::builders::*;
+use crate::subject::LIMITS;
+
+/// 01's example 1.
+#[test]
+fn a_narrowing_stands_word_by_word() {
+    let input = mpt(&[entry(0x11, "hvc1", 0xf100), entry(0x22, "stpp", 0xf130)]);
+    let case = Case::Narrowing(Narrowing {
+        kind: Kind::Table,
+        options: NO_CAPTIONS,
+        identifier: 0x1234,
+        room: 50,
+        input: &input,
+    });
+    let video = "0 ∷ 0 ∷ 0 ∷ 0 ∷ 0 ∷ 1 ∷ 17 ∷ 104 ∷ 118 ∷ 99 ∷ 49 ∷ 0 ∷ 1 ∷ 0 ∷ 241 ∷ 0 ∷ 0 ∷ 0";
+    let caption =
+        "0 ∷ 0 ∷ 0 ∷ 0 ∷ 0 ∷ 1 ∷ 34 ∷ 115 ∷ 116 ∷ 112 ∷ 112 ∷ 0 ∷ 1 ∷ 0 ∷ 241 ∷ 48 ∷ 0 ∷ 0";
+    let table = format!("32 ∷ 5 ∷ 0 ∷ 43 ∷ 0 ∷ 2 ∷ 4 ∷ 0 ∷ 0 ∷ 0 ∷ 2 ∷ {video} ∷ {caption} ∷ []");
+    let counts = "0 ∷ 1 ∷ 29 ∷ 0 ∷ 0 ∷ 1 ∷ 1 ∷ 0 ∷ 0";
+    let result = format!("32 ∷ 5 ∷ 0 ∷ 25 ∷ 0 ∷ 2 ∷ 4 ∷ 0 ∷ 0 ∷ 0 ∷ 1 ∷ {video} ∷ []");
+    let text = format!(
+        "-- seed 7, case 2: table, 47 bytes
+seed-7-case-2 : table 6 0 50 ({table}) ≡ {counts} ∷ {result}
+unfolding table
+seed-7-case-2 = refl
+"
+    );
+    assert_eq!(theorem(7, 2, &case), text);
+}
+
+/// The signature of a case's theorem, its second line.
+fn signature(case: &Case) -> String {
+    let text = theorem(1, 0, case);
+    text.lines().nth(1).expect("a signature").to_owned()
+}
+
+#[test]
+fn refusals_and_identifiers_are_told() {
+    let narrowing = |kind| {
+        signature(&Case::Narrowing(Narrowing {
+            kind,
+            options: only(0x0401),
+            identifier: 0x1234,
+            room: 1,
+            input: &[1, 2],
+        }))
+    };
+    let refused = "6 ∷ 0 ∷ 0 ∷ 0 ∷ 0 ∷ 0 ∷ 0 ∷ 0 ∷ 0 ∷ []";
+    assert_eq!(
+        narrowing(Kind::Payload),
+        format!("seed-1-case-0 : payload 15 1025 4660 1 (1 ∷ 2 ∷ []) ≡ {refused}")
+    );
+    assert_eq!(
+        narrowing(Kind::Packet),
+        format!("seed-1-case-0 : packet 15 1025 1 (1 ∷ 2 ∷ []) ≡ {refused}")
+    );
+}
+
+#[test]
+fn a_stream_is_told_call_by_call_without_the_dropped() {
+    let packet = hex("7F FF 00 01 AA");
+    let stream = Stream {
+        limits: LIMITS,
+        options: NO_CAPTIONS,
+        room: 7,
+        chunks: vec![&packet, &packet[..1], &[0; 7]],
+        cut: false,
+    };
+    let chunks =
+        "(127 ∷ 255 ∷ 0 ∷ 1 ∷ 170 ∷ []) ∷ (127 ∷ []) ∷ (0 ∷ 0 ∷ 0 ∷ 0 ∷ 0 ∷ 0 ∷ 0 ∷ []) ∷ []";
+    let first = "0 ∷ 5 ∷ 1 ∷ 1 ∷ 0 ∷ 0 ∷ 0 ∷ 0 ∷ 127 ∷ 255 ∷ 0 ∷ 1 ∷ 170";
+    let second = "0 ∷ 0 ∷ 0 ∷ 0 ∷ 0 ∷ 0 ∷ 1 ∷ 0";
+    let third = "6 ∷ 0 ∷ 0 ∷ 0 ∷ 0 ∷ 0 ∷ 1 ∷ 0";
+    assert_eq!(
+        signature(&Case::Stream(stream.clone())),
+        format!(
+            "seed-1-case-0 : stream 6 0 131078 65536 65536 32768 7 ({chunks}) \
+             ≡ 0 ∷ {first} ∷ {second} ∷ {third} ∷ []"
+        )
+    );
+    let refused = Stream {
+        limits: Limits { maps: 5, ..LIMITS },
+        chunks: Vec::new(),
+        ..stream
+    };
+    assert_eq!(
+        signature(&Case::Stream(refused)),
+        "seed-1-case-0 : stream 6 0 131078 65536 65536 5 7 ([]) ≡ 3 ∷ []"
+    );
+}
+
+#[test]
+fn bounds_are_kept() {
+    let bounds = Bounds {
+        narrowing: usize::MAX,
+        longest: 2_000,
+        most: usize::MAX,
+    };
+    let count = |bounds| theorems(0..20, bounds).matches(" = refl\n").count();
+    assert!(count(bounds) > 100);
+    assert_eq!(count(Bounds { most: 9, ..bounds }), 9);
+    let bounds = Bounds {
+        narrowing: 0,
+        ..bounds
+    };
+    let streams = (0..20).map(|seed| maker::case(seed).bytes.len());
+    assert_eq!(
+        count(bounds),
+        streams.filter(|length| *length <= 2_000).count()
+    );
+    let file = theorems(0..0, bounds);
+    assert!(file.starts_with("-- ") && file.ends_with("\n") && !file.contains("refl\n"));
+}
