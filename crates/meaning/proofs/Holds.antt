@@ -18,7 +18,7 @@ use Rattle.meaning.specs.Readers.{Out, Reader, bind, _>>=_, give, byte, 
 use Rattle.meaning.specs.Mmtp.{Mmtp, mmtpOf, isSignalling}
 use Rattle.meaning.specs.Messages.{Message, messages, indicator}
 use Rattle.meaning.specs.Tables.{elsewhere, locationBody, location, Entry, Mpt, mpt, Package, packageFields, packageEntry, plt, serviceOf, Table, isMpt, isPlt, PaHead, pa}
-use Rattle.meaning.specs.Learn.{Limits, Fragment, Known, Learnt, learnt, Listed, assetNumbers, over, placeFor, listAsset, listed, withList, mptFrom, learnMpt, insertPackage, addPackage, packagesIn, withPackages, pltFrom, learnPlt, learnTable, andLost, learnTables, paTables, withCarousel, learnMessage, learnMessages, withFragments, isOf, without, heldBytes, fragmentOf, grown, growIn, holdFirst, fits, middleOf, middle, joined, lastOf, last, byIndicator, observe, learnFrom, learn}
+use Rattle.meaning.specs.Learn.{Limits, Fragment, Known, Learnt, learnt, Listed, assetNumbers, over, placeFor, listAsset, listed, withList, mptFrom, learnMpt, insertPackage, addPackage, packagesIn, withPackages, pltFrom, learnPlt, learnTable, andLost, learnTables, paTables, withCarousel, learnMessage, learnMessages, withFragments, isOf, without, heldBytes, fragmentOf, grown, growIn, holdFirst, fits, middleOf, middle, joined, lastFor, last, byIndicator, observe, learnFrom, learn}
 use Rattle.meaning.specs.Record.{rising, distinct}
 use Rattle.meaning.proofs.ListLaws.{and-both, and-true, or-neither, keep-length}
 use Rattle.meaning.proofs.Framed.{Before, before, Many, many-framed}
@@ -512,7 +512,7 @@ middle-holds L p b fs (some f) s = go (fits L f b fs) refl
 abbrev pub with-fragments : {T : ℕ} {k : Known} {fs : List Fragment} → Holds T k → HoldsFragments T fs → Holds T (withFragments fs k)
 with-fragments s f = record { packages-hold = s .packages-hold; maps-hold = s .maps-hold; fragments-hold = f }
 
-last-holds : (L : Limits) (p : ℕ) (b : Bytes) (k : Known) (o : Option Fragment) → Holds (L .total) k → Holds (L .total) (lastOf o L p b k .known)
+last-holds : (L : Limits) (p : ℕ) (b : Bytes) (k : Known) (o : Option Fragment) → Holds (L .total) k → Holds (L .total) (lastFor o L p b k .known)
 last-holds L p b k none s = s
 last-holds L p b k (some f) s = go (fits L f b (k .fragments))
   where

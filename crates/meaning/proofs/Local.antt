@@ -13,7 +13,7 @@ use borrow.Author.Tests.{le-leb, lt-leb}
 use Rattle.meaning.specs.Bytes.{Bytes}
 use Rattle.meaning.specs.Readers.{Out, Reader, bind, _>>=_, give, refuse, byte, u8, u16, u32, bytes, counted8, counted16, counted32, announced, many, raw}
 use Rattle.meaning.specs.Mmtp.{extension, mmtpHead}
-use Rattle.meaning.specs.Messages.{isLong, messageBody, message, frame}
+use Rattle.meaning.specs.Messages.{isLong, messageBody, message}
 use Rattle.meaning.specs.Tables.{elsewhere, locationBody, location, clockRelation, asset, entry, mptFront, mpt, packageFields, packageEntry, plt, table, paHead}
 
 -- p takes `part` off s and reads it the same whatever follows.
@@ -145,7 +145,7 @@ mmtpHead-local =
 
 -- ---- messages
 
-messageBody-local : (long : Bool) → Local (messageBody long)
+pub messageBody-local : (long : Bool) → Local (messageBody long)
 unfolding messageBody
 messageBody-local true = counted32-local
 messageBody-local false = counted16-local
@@ -153,11 +153,6 @@ messageBody-local false = counted16-local
 pub message-local : Local message
 unfolding message
 message-local = bind-local u16-local (λ n. bind-local byte-local (λ _. bind-local (messageBody-local (isLong n)) (λ b. give-local _)))
-
-pub frame-local : (long : ℕ) → Local (frame long)
-unfolding frame
-frame-local zero = counted16-local
-frame-local (suc n) = counted32-local
 
 -- ---- tables and their entries
 

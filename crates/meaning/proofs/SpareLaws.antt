@@ -19,7 +19,7 @@ use Rattle.meaning.specs.Mmtp.{Mmtp, mmtpOf, isSignalling}
 use Rattle.meaning.specs.Messages.{Message, messages, indicator}
 use Rattle.meaning.specs.Tables.{Entry, Mpt, mpt, Package, plt, Table, isMpt, isPlt, pa}
 use Rattle.meaning.specs.Narrow.{narrowPacket}
-use Rattle.meaning.specs.Learn.{Limits, Fragment, Known, Learnt, learnt, kindNumber, kindOf, Listed, assetsIn, assetNumbers, listsIn, lists, over, placeFor, listed, withList, mptFrom, learnMpt, packagesIn, withPackages, pltFrom, learnPlt, learnTable, andLost, learnTables, paTables, withCarousel, learnMessage, learnMessages, withFragments, without, fragmentOf, fits, middleOf, middle, joined, lastOf, last, holdFirst, byIndicator, observe, learnFrom, learn}
+use Rattle.meaning.specs.Learn.{Limits, Fragment, Known, Learnt, learnt, kindNumber, kindOf, Listed, assetsIn, assetNumbers, listsIn, lists, over, placeFor, listed, withList, mptFrom, learnMpt, packagesIn, withPackages, pltFrom, learnPlt, learnTable, andLost, learnTables, paTables, withCarousel, learnMessage, learnMessages, withFragments, without, fragmentOf, fits, middleOf, middle, joined, lastFor, last, holdFirst, byIndicator, observe, learnFrom, learn}
 use Rattle.meaning.specs.Rules.{copiesAll, inDropSet, drops, dropped, ready}
 use Rattle.meaning.specs.Refusals.{packetLimit}
 use Rattle.meaning.specs.Record.{State}
@@ -254,7 +254,7 @@ messages-alike T p (m ∷ ms) k room s = then-alike T (learnMessages p ms) (lear
 fragments-spare : {T : ℕ} {k : Known} {room : List ℕ} (fs : List Fragment) → HoldsFragments T fs → Spare T k room → Spare T (withFragments fs k) room
 fragments-spare fs f s = record { holds = with-fragments (s .holds) f; own-length = s .own-length; other-length = s .other-length; lists-same = s .lists-same }
 
-last-alike : (L : Limits) (p : ℕ) (b : Bytes) (k : Known) (room : List ℕ) (o : Option Fragment) → Spare (L .total) k room → Alike (L .total) (lastOf o L p b k) (lastOf o L p b (withRoom k room))
+last-alike : (L : Limits) (p : ℕ) (b : Bytes) (k : Known) (room : List ℕ) (o : Option Fragment) → Spare (L .total) k room → Alike (L .total) (lastFor o L p b k) (lastFor o L p b (withRoom k room))
 last-alike L p b k room none s = stays s
 last-alike L p b k room (some f) s = go (fits L f b (k .fragments))
   where

@@ -252,7 +252,7 @@ holdFirst L p flags b fs =
     (others ++ (record { identifier = p; flags = flags % 64; body = b } ∷ []))
     others
 
--- A middle or last that passes M or T discards the fragment.
+-- Whether a body keeps the fragment within M and all within T; a middle or last that does not discards the fragment.
 unfoldable pub fits : Limits → Fragment → Bytes → List Fragment → Bool
 unfolding heldBytes
 fits L f b fs = leb (length (f .body) + length b) (L .most) && leb (heldBytes fs + length b) (L .total)
@@ -269,16 +269,16 @@ middle L p b fs = middleOf (fragmentOf p fs) L p b fs
 unfoldable pub joined : Fragment → Bytes → Bytes
 joined f b = f .flags ∷ 0 ∷ (f .body ++ b)
 
-abbrev pub lastOf : Option Fragment → Limits → ℕ → Bytes → Known → Learnt
-lastOf none L p b k = learnt k
-lastOf (some f) L p b k =
+abbrev pub lastFor : Option Fragment → Limits → ℕ → Bytes → Known → Learnt
+lastFor none L p b k = learnt k
+lastFor (some f) L p b k =
     cond (fits L f b (k .fragments))
     (learnMessages p (messages (joined f b)) (withFragments (without p (k .fragments)) k))
     (learnt (withFragments (without p (k .fragments)) k))
 
 unfoldable pub last : Limits → ℕ → Bytes → Known → Learnt
 unfolding fragmentOf fits without learnMessages messages joined
-last L p b k = lastOf (fragmentOf p (k .fragments)) L p b k
+last L p b k = lastFor (fragmentOf p (k .fragments)) L p b k
 
 -- ---- a payload, by the top two bits of its first byte; its body is the bytes from 2 on
 

@@ -18,8 +18,8 @@ unfoldable pub aggregated : ℕ → ℕ
 aggregated b = b % 2
 
 -- Bit 1: those lengths have four bytes.
-unfoldable pub longLengths : ℕ → ℕ
-longLengths b = b / 2 % 2
+unfoldable pub longLengths : ℕ → Bool
+longLengths b = eqb (b / 2 % 2) 1
 
 -- ---- a message
 
@@ -31,6 +31,7 @@ pub record Message : Type 0 where
 unfoldable pub isLong : ℕ → Bool
 isLong n = eqb n 0 || eqb n 0x8003 || leb 0xF000 n || (leb 0x7000 n && leb n 0x7FFF)
 
+-- A body behind its length, of 32 bits or of 16.
 unfoldable pub messageBody : Bool → Reader Bytes
 unfolding counted16 counted32
 messageBody true = counted32
@@ -46,27 +47,22 @@ message = do
 
 -- ---- the messages of a payload
 
--- One part of an aggregate.
-unfoldable pub frame : ℕ → Reader Bytes
-unfolding counted16 counted32
-frame zero = counted16
-frame (suc long) = counted32
-
 -- What was read, if anything, before the messages found after it.
 abbrev pub consMessage : Out Message → List Message → List Message
 consMessage none ms = ms
 consMessage (some x) ms = x .0 ∷ ms
 
--- A part that holds no readable message is stepped over.
+-- A piece of an aggregate that holds no readable message is stepped over.
 unfoldable pub readEach : List Bytes → List Message
 unfolding message
 readEach [] = []
 readEach (f ∷ fs) = consMessage (message f) (readEach fs)
 
-unfoldable pub inBody : ℕ → ℕ → Bytes → List Message
-unfolding message walk frame readEach
+-- One message, or the pieces of an aggregate, each behind its length.
+unfoldable pub inBody : ℕ → Bool → Bytes → List Message
+unfolding message walk messageBody readEach
 inBody zero long s = consMessage (message s) []
-inBody (suc many) long s = readEach (walk (frame long) s .found)
+inBody (suc many) long s = readEach (walk (messageBody long) s .found)
 
 -- Those of a whole payload: its first byte has the flags, its second is the counter.
 unfoldable pub messages : Bytes → List Message

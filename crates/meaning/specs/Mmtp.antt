@@ -47,7 +47,7 @@ pub record Head : Type 0 where
   pub identifier : ℕ
   pub kind : ℕ
 
--- The header extension, behind its type.
+-- The header extension: its type, then its bytes behind a 16-bit length.
 unfoldable pub extension : Reader Bytes
 unfolding u16 counted16
 extension = do

@@ -42,7 +42,7 @@ unfoldable pub mptWithout : Options → Bytes → Option Bytes
 unfolding mpt all keep mptBody
 mptWithout o b = mptKeeping o (mpt b)
 
--- ---- a PLT of one service: its last entry stays
+-- ---- a PLT of one service: its last entry stays, at whatever location (learning takes type 0 alone)
 
 unfoldable pub isService : ℕ → Option ℕ → Bool
 isService s none = false

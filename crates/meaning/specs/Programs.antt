@@ -9,7 +9,7 @@ use Rattle.meaning.specs.Bytes.{Bytes, be16At}
 use Rattle.meaning.specs.Readers.{Reader, Walk, walk}
 use Rattle.meaning.specs.Learn.{Limits}
 use Rattle.meaning.specs.Record.{State}
-use Rattle.meaning.specs.Push.{Pushed, push, fresh, addCounts}
+use Rattle.meaning.specs.Push.{Pushed, push, fresh, addCounts, countsOf}
 use Rattle.meaning.specs.declared.Service.{Service}
 use Rattle.meaning.specs.declared.Service.the-variants.{Every, Only}
 use Rattle.meaning.specs.declared.Options.{Options}
@@ -52,12 +52,9 @@ pub record Sums : Type 0 where
   pub counts : Counts
   pub state : State
 
-abbrev pub noCounts : Counts
-noCounts = record { bytes = 0; accepted = 0; written = 0; rewritten = 0; skipped = 0; lost = 0 }
-
 unfoldable pub pushAll : Options → State → List Bytes → Sums
 unfolding push programLimits flatten
-pushAll o st [] = record { out = []; counts = noCounts; state = st }
+pushAll o st [] = record { out = []; counts = countsOf 0; state = st }
 pushAll o st (c ∷ cs) =
     let p = push programLimits o st c in
     let r = pushAll o (p .state) cs in
@@ -65,6 +62,7 @@ pushAll o st (c ∷ cs) =
 
 unfoldable pub sumsOf : Bytes → Sums
 unfolding pushAll optionsOf be16At walk chunk fresh
+-- never written: such an input is refused
 sumsOf [] = pushAll (optionsOf 0 0) (fresh []) []
 sumsOf (flags ∷ s) =
     pushAll (optionsOf flags (be16At s 0)) (fresh (replicate 32768 0)) (walk chunk (drop 2 s) .found)

@@ -11,9 +11,10 @@ use Rattle.meaning.specs.Packets.{Cut, cut}
 use Rattle.meaning.specs.Mmtp.{Mmtp, mmtpOf, isSignalling}
 use Rattle.meaning.specs.Narrow.{narrowPacket, isSome}
 use Rattle.meaning.specs.Learn.{Limits, Known, Learnt, learn}
-use Rattle.meaning.specs.Rules.{copiesAll, drops, ready}
-use Rattle.meaning.specs.Refusals.{packetLimit}
-use Rattle.meaning.specs.Record.{State, Record, sound}
+use Rattle.meaning.specs.Rules.{copiesAll, drops, dropped, ready}
+use Rattle.meaning.specs.Refusals.{packetLimit, startRefusal}
+use Rattle.meaning.specs.Record.{State, Record, recordOf, stateOf, sound}
+use Rattle.meaning.specs.declared.Service.the-variants.{Every}
 use Rattle.meaning.specs.declared.Options.{Options}
 use Rattle.meaning.specs.declared.Counts.{Counts}
 
@@ -71,13 +72,13 @@ pub record Pushed : Type 0 where
   pub counts : Counts
   pub state : State
 
+-- Counts of so many bytes written and nothing else.
+abbrev pub countsOf : ℕ → Counts
+countsOf n = record { bytes = n; accepted = 0; written = 0; rewritten = 0; skipped = 0; lost = 0 }
+
 -- Copy-all writes the chunk, holds and learns nothing.
 abbrev pub copied : State → Bytes → Pushed
-copied st chunk = record {
-  out = chunk ∷ [];
-  counts = record { bytes = length chunk; accepted = 0; written = 0; rewritten = 0; skipped = 0; lost = 0 };
-  state = st;
-}
+copied st chunk = record { out = chunk ∷ []; counts = countsOf (length chunk); state = st }
 
 abbrev pub pushed : Cut → Passed → Pushed
 pushed c r = record {
@@ -110,11 +111,66 @@ unfoldable pub lengthRefusal : ℕ → ℕ → ℕ → ℕ → ℕ
 unfolding packetLimit
 lengthRefusal W held n room = cond (leb n (W - packetLimit W)) (cond (leb (held + n) room) 0 6) 5
 
+-- An unsound record is refused by every call.
+unfoldable pub soundRefusal : Record → ℕ → ℕ → ℕ → ℕ
+unfolding sound
+soundRefusal r W T maps = cond (sound r W T maps) 0 4
+
 unfoldable pub pushRefusal : Record → ℕ → ℕ → ℕ → ℕ → ℕ → ℕ
 unfolding sound lengthRefusal
 pushRefusal r W T maps n room = cond (sound r W T maps) (lengthRefusal W (r .held) n room) 4
 
--- ---- a series of calls: each takes the state that the one before handed back; a refused one writes nothing and changes nothing
+-- ---- what the calls of a recorder answer: the refusal's number, the packets written, the counts, and the record handed back
+
+pub record Called : Type 0 where
+  pub number : ℕ
+  pub out : List Bytes
+  pub counts : Counts
+  pub handed : Record
+
+-- All zero: what a refused start hands back. It is unsound, so it can be used for nothing.
+unfoldable pub blank : Record
+unfolding noWords
+blank = record {
+  limits = record { work = 0; total = 0; most = 0 };
+  options = record { service = Every; caption = false; carousel = false; eit = false };
+  held = 0;
+  plt-seen = false;
+  package-count = 0;
+  map-count = 0;
+  fragment-count = 0;
+  carousels = noWords;
+  packages = replicate 255 0;
+  maps = replicate 64 0;
+  fragments = replicate 256 0;
+}
+
+-- A start reads the lengths of the rooms.
+unfoldable pub started : Limits → Options → List ℕ → Called
+unfolding startRefusal recordOf fresh blank
+started L o maps =
+    let x = startRefusal (L .work) (L .total) (L .most) (length maps) in
+    record { number = x; out = []; counts = countsOf 0; handed = cond (eqb x 0) (recordOf L o (fresh maps)) blank }
+
+-- A push takes the record and the rooms; refused, it hands the record back as it was.
+unfoldable pub called : Record → Bytes → Bytes → List ℕ → Bytes → ℕ → Called
+unfolding pushRefusal stateOf recordOf push
+called r work room maps chunk n =
+    let x = pushRefusal r (length work) (length room) (length maps) (length chunk) n in
+    let p = push (r .limits) (r .options) (stateOf r work room maps) chunk in
+    cond (eqb x 0)
+    (record { number = 0; out = p .out; counts = p .counts; handed = recordOf (r .limits) (r .options) (p .state) })
+    (record { number = x; out = []; counts = countsOf 0; handed = r })
+
+-- How many identifiers are dropped; 0 where the record is refused.
+unfoldable pub droppedNow : Record → Bytes → Bytes → List ℕ → ℕ
+unfolding soundRefusal stateOf dropped
+droppedNow r work room maps =
+    cond (eqb (soundRefusal r (length work) (length room) (length maps)) 0)
+    (dropped (r .options) (stateOf r work room maps .known)) 0
+
+-- ---- a series of calls from a start that was not refused: each takes the state that the one before handed back; a refused one writes
+-- nothing and changes nothing. The records in between are sound (proofs/SoundLaws), so that only 5 and 6 can come
 
 -- A chunk, and the length of the output lent with it.
 abbrev pub Lent : Type 0

@@ -4,6 +4,7 @@ use mathlib.Core.Bool.{Bool, true, false, cond, not, _&&_, _||_}
 use lib.Dec.{leb, ltb, eqb}
 use Rattle.meaning.specs.declared.Refusal.{Refusal}
 use Rattle.meaning.specs.declared.Refusal.the-variants.{WorkRoom, FragmentRoom, MapRoom, Unsound, Long, Short, Tally, Input}
+use Rattle.meaning.specs.declared.Narrowing.{Narrowing}
 use Rattle.meaning.specs.declared.Answer.{Answer}
 use Rattle.meaning.specs.declared.Answer.the-variants.{Done, Refused}
 
@@ -22,6 +23,18 @@ unfoldable pub answerNumber : Answer → ℕ
 unfolding numberOf
 answerNumber Done = 0
 answerNumber (Refused r) = numberOf r
+
+-- What narrowing answers: the refusal's number, and the length of what was written, 0 where nothing was.
+unfoldable pub narrowingNumber : Narrowing → ℕ
+unfolding numberOf
+narrowingNumber (Narrowing.Refused r) = numberOf r
+narrowingNumber Narrowing.Unchanged = 0
+narrowingNumber (Narrowing.Changed n) = 0
+
+unfoldable pub narrowingLength : Narrowing → ℕ
+narrowingLength (Narrowing.Refused r) = 0
+narrowingLength Narrowing.Unchanged = 0
+narrowingLength (Narrowing.Changed n) = n
 
 -- ---- rooms
 

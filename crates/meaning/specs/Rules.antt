@@ -18,11 +18,11 @@ abbrev pub ours : Service → ℕ → Bool
 ours Every s = true
 ours (Only n) s = eqb n s
 
--- No service, all three wishes on.
 abbrev pub everyService : Service → Bool
 everyService Every = true
 everyService (Only n) = false
 
+-- Copy-all: no service, all three wishes on.
 unfoldable pub copiesAll : Options → Bool
 copiesAll o = everyService (o .service) && o .caption && o .carousel && o .eit
 
@@ -41,7 +41,7 @@ assetsOf (some as′) = as′
 
 -- ---- what a package names
 
--- Its listed assets with identifier q that pass a test on their kind.
+-- Whether one of its listed assets has identifier q and a kind that passes the test.
 abbrev pub listsIt : (Part → Bool) → ℕ → Option Listed → Bool
 listsIt test q o = any (λ a. eqb (a .0) q && test (a .1)) (assetsOf o)
 
@@ -60,7 +60,7 @@ droppedBy o ls q pkg =
 
 -- ---- whether an identifier is dropped
 
--- By packages and data set alone: identifier 0 never is, and kept beats dropped.
+-- By packages, map lists and data set alone: identifier 0 never is, and kept beats dropped.
 unfoldable pub inDropSet : Options → Known → ℕ → Bool
 unfolding any keptBy droppedBy inSet lists
 inDropSet o k q =

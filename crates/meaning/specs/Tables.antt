@@ -38,6 +38,7 @@ location = do
 
 pub record Asset : Type 0 where
   pub kind : Bytes
+  -- the identifier of its first type 0 location
   pub carrier : Option ℕ
 
 -- The first that there is.

@@ -1,0 +1,6 @@
+-- Laws for the readers, one for each return of a function.
+pub mod LocationLaws
+pub mod AssetLaws
+pub mod PackageLaws
+pub mod MessageLaws
+pub mod PaLaws
