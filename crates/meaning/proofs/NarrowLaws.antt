@@ -122,6 +122,19 @@ parts f k (i ∷ j ∷ v ∷ t) m rest w z e =
     subst (λ (b : Bytes). PaSplit (f ∷ k ∷ i ∷ j ∷ v ∷ t) b) (ap (λ y. y .0 .body) q)
     (payload-split f k i j v t (x .first) (x .rest) w n (message-split i j v t (x .first) (x .rest) n (x .was)))
 
+-- the head of a PA message has seven bytes
+pub message-size : (s : Bytes) (m : Message) (rest : Bytes) → message s ≡ some (m, rest) → m .number ≡ 0 → length s ≡ 7 + length (m .body) + length rest
+unfolding message u16 byte
+message-size [] m rest e z = absurd (Option·none-ne-some _ e)
+message-size (i ∷ []) m rest e z = absurd (Option·none-ne-some _ e)
+message-size (i ∷ j ∷ []) m rest e z = absurd (Option·none-ne-some _ e)
+message-size (i ∷ j ∷ v ∷ t) m rest e z =
+    let x = before (messageBody (isLong (be16 i j)) t) (λ body. give (record { number = be16 i j; body = body })) m rest e in
+    let q = Option·some-injective _ _ (x .then-was) in
+    let n : be16 i j ≡ 0 = ap (λ y. y .0 .number) q ∙ z in
+    let c = counted32-split t (x .first) (x .rest) (message-split i j v t (x .first) (x .rest) n (x .was)) in
+    omega (arith, c .1, ap (λ y. length (y .0 .body)) q, ap (λ y. length (y .1)) q)
+
 pub pa-split : (s b : Bytes) → paMessage s ≡ some b → PaSplit s b
 unfolding paMessage
 pa-split [] b e = absurd (Option·none-ne-some _ e)

@@ -29,7 +29,7 @@ Found = Table × Bytes
 abbrev Reads : List Found → Type 0
 Reads = AllAgain (raw table) (λ x. x .1)
 
-raw-nil : raw table [] ≡ none
+pub raw-nil : raw table [] ≡ none
 unfolding raw table byte
 raw-nil = refl
 

@@ -3,11 +3,11 @@
 use Prim.Native.Nat.{ℕ, zero, suc, min, _+_, _-_, _*_, _/_, _%_, _≤_, _<_}
 use mathlib.Core.Path.{_≡_, refl, sym, ap, ap₂, _∙_, subst}
 use mathlib.Core.Bool.{Bool, true, false, cond, not, _&&_, _||_}
-use mathlib.Core.List.{List, [], _∷_, _++_, map}
+use mathlib.Core.List.{List, [], _∷_, _++_, map, flatten, append-assoc}
 use mathlib.Core.Option.{Option}
 use native.Mathlib.Omega.{arith}
 use lib.ListN.{length, take, drop, length-append, length-take, length-map, replicate}
-use lib.Seq.{take-at}
+use lib.Seq.{take-at, drop-at}
 use lib.Dec.{leb, ltb, eqb}
 use borrow.Author.Tests.{ltb-true, leb-true, eqb-true, lt-ltb, le-leb, eq-eqb}
 use Rattle.meaning.specs.Bytes.{Bytes}
@@ -19,7 +19,7 @@ use Rattle.meaning.specs.Learn.{Limits, Fragment, Known, learn, heldByte
 use Rattle.meaning.specs.Rules.{copiesAll}
 use Rattle.meaning.specs.Refusals.{packetLimit, goodWork, goodFragments, goodMaps}
 use Rattle.meaning.specs.Record.{State, slots, Record, packPair, pairOf, packHead, headIdentifier, headFlags, headLength, recordOf, fragmentsIn, stateOf, rising, distinct, soundRooms, soundHeld, soundPackages, soundMaps, soundFragments, sound}
-use Rattle.meaning.specs.Push.{fresh, withheld, Passed, passOne, pass, Pushed, filtered, push, Lent, callRefusal, run, runOn}
+use Rattle.meaning.specs.Push.{fresh, withheld, Passed, passOne, pass, Pushed, filtered, push, pushRefusal, Lent, callRefusal, run, runOn}
 use Rattle.meaning.specs.declared.Options.{Options}
 use Rattle.meaning.proofs.ListLaws.{clash, and-both, and-true, or-either}
 use Rattle.meaning.proofs.CutLaws.{held-below}
@@ -312,3 +312,50 @@ state-holds r work room maps e =
         let b = and-both (eqb (r .limits .work) (length work) && eqb (r .limits .total) (length room) && goodMaps (length maps)) (goodWork (length work)) (a .0) in
         let c = and-both (eqb (r .limits .work) (length work) && eqb (r .limits .total) (length room)) (goodMaps (length maps)) (b .0) in
         eqb-true (r .limits .total) (length room) (and-both (eqb (r .limits .work) (length work)) (eqb (r .limits .total) (length room)) (c .0) .1)
+
+-- ---- the record of a state, with rooms that begin with its bytes, holds that state
+
+pairs-back : (ps : List (ℕ × ℕ)) → Below 65536 ps → map pairOf (map packPair ps) ≡ ps
+pairs-back [] b = refl
+pairs-back (x ∷ ps) b = ap₂ (λ (y : ℕ × ℕ) (l : List (ℕ × ℕ)). y ∷ l) (pair-pack x (b .0)) (pairs-back ps (b .1))
+
+-- the bodies one after the other
+unfoldable pub bodies : List Fragment → Bytes
+unfolding flatten
+bodies fs = flatten (map (λ f. f .body) fs)
+
+fragments-back : (fs : List Fragment) (spare : Bytes) → SmallHeads fs → fragmentsIn (map packHead fs) (bodies fs ++ spare) ≡ fs
+unfolding fragmentsIn bodies
+fragments-back [] spare h = refl
+fragments-back (f ∷ fs) spare h =
+    let n : headLength (packHead f) ≡ length (f .body) = head-length f (h .0) in
+    let room : Bytes = (f .body ++ bodies fs) ++ spare in
+    let body : take (headLength (packHead f)) room ≡ f .body =
+    ap₂ (λ (k : ℕ) (z : Bytes). take k z) n (append-assoc (f .body) (bodies fs) spare) ∙ take-at (f .body) (bodies fs ++ spare) (length (f .body)) refl in
+    let rest : drop (headLength (packHead f)) room ≡ bodies fs ++ spare =
+    ap₂ (λ (k : ℕ) (z : Bytes). drop k z) n (append-assoc (f .body) (bodies fs) spare) ∙ drop-at (f .body) (bodies fs ++ spare) (length (f .body)) refl in
+    ap₂ (λ (g : Fragment) (l : List Fragment). g ∷ l)
+    (λ i. record { identifier = head-identifier f (h .0) i; flags = head-flags f (h .0) i; body = body i })
+    (ap (fragmentsIn (map packHead fs)) rest ∙ fragments-back fs spare (h .1))
+
+module _ (L : Limits) (o : Options) (st : State) (total-few : L .total ≤ 16777216) (h : HoldsState L o st) where
+  pub state-back : (work room : Bytes) → stateOf (recordOf L o st) (st .held ++ work) (bodies (st .known .fragments) ++ room) (st .known .room) ≡ st
+  unfolding stateOf recordOf
+  state-back work room =
+      let k = st .known in
+      let s = h .known-holds in
+      let small = heads-small (L .total) (k .fragments) (s .fragments-hold .flags) (s .fragments-hold .within) total-few in
+      let held = take-at (st .held) work (length (st .held)) refl in
+      let packages = ap (map pairOf) (used 255 packPair (k .packages)) ∙ pairs-back (k .packages) (s .packages-hold .small) in
+      let maps = ap (map pairOf) (used 64 packPair (k .maps)) ∙ pairs-back (k .maps) (below-wider (k .maps) (omega arith) (s .maps-hold .small)) in
+      let fragments = ap (λ (l : List ℕ). fragmentsIn l (bodies (k .fragments) ++ room)) (used 256 packHead (k .fragments)) ∙ fragments-back (k .fragments) room small in
+      λ i. record {
+        held = held i;
+        known = record { plt-seen = k .plt-seen; packages = packages i; maps = maps i; room = k .room; carousels = k .carousels; fragments = fragments i };
+      }
+
+-- A call on the record of a state is refused as a call on the state is.
+pub refusal-same : (L : Limits) (o : Options) (st : State) (c : Lent) → goodWork (L .work) ≡ true → goodFragments (L .total) (L .most) ≡ true → HoldsState L o st
+    → pushRefusal (recordOf L o st) (L .work) (L .total) 32768 (length (c .0)) (c .1) ≡ callRefusal L st c
+unfolding pushRefusal callRefusal recordOf
+refusal-same L o st c w f h = rw (record-sound L o st w f h)

@@ -1,13 +1,13 @@
 -- Writing one thing after another into a lent slice: nothing, a byte, one write and then a next, and the turns of the two loops that
 -- copy. Rests on Wrote alone.
 use Prim.Native.Nat.{ℕ, suc, _+_, _-_, _≤_, _<_}
-use mathlib.Core.Path.{_≡_, refl, sym, ap, _∙_}
+use mathlib.Core.Path.{_≡_, refl, sym, ap, ap₂, _∙_}
 use mathlib.Core.List.{List, [], _∷_, _++_, append-assoc, append-nil}
 use native.Mathlib.Nat.{add-zero, add-assoc}
 use native.Mathlib.Numerals.{add-one}
 use native.Mathlib.Omega.{arith}
 use lib.ListN.{length, take, drop, getD, set, length-append, length-drop, take-append-drop}
-use lib.Seq.{take-suc, take-suc-set, drop-set-lt, drop-drop, getD-drop, length-take-le, take-length}
+use lib.Seq.{take-suc, take-suc-set, drop-set-lt, drop-drop, getD-drop, length-take-le, take-length, take-at, drop-at}
 use Rattle.meaning.specs.Bytes.{Bytes}
 use Rattle.meaning.specs.Writing.{Wrote}
 
@@ -70,3 +70,35 @@ wrote-upto s d d′ to i n e u = record { end = rw (← e) (u .end); front = rw 
 
 pub wrote-all : (s d d′ : Bytes) (to i : ℕ) → i ≡ length s → Wrote (take i s) d to d′ (to + i) → Wrote s d to d′ (to + i)
 wrote-all s d d′ to i e u = rw (take-length s) at (wrote-upto s d d′ to i (length s) e u)
+
+-- ---- a write as an equation, and a write inside what was written
+
+pub wrote-is : (y d d′ : Bytes) (to r : ℕ) → Wrote y d to d′ r → d′ ≡ (take to d ++ y) ++ drop r d
+wrote-is y d d′ to r u = sym (take-append-drop r d′) ∙ ap₂ (λ (a b : Bytes). a ++ b) (u .front) (u .back)
+
+pub is-wrote : (y d d′ : Bytes) (to r : ℕ) → to ≤ length d → r ≡ to + length y → d′ ≡ (take to d ++ y) ++ drop r d → Wrote y d to d′ r
+is-wrote y d d′ to r h e q =
+    let l : length (take to d ++ y) ≡ r = omega (arith, length-append (take to d) y, length-take-le to d h) in
+    record {
+      end = e;
+      front = ap (take r) q ∙ take-at (take to d ++ y) (drop r d) r l;
+      back = ap (drop r) q ∙ drop-at (take to d ++ y) (drop r d) r l;
+    }
+
+-- x in the middle of what was written becomes z, as long as x
+pub wrote-patch : (a x z b d d′ d″ : Bytes) (to at r q : ℕ) → to ≤ length d → at ≡ to + length a → length z ≡ length x
+    → Wrote (a ++ (x ++ b)) d to d′ r → Wrote z d′ at d″ q → Wrote (a ++ (z ++ b)) d to d″ r
+wrote-patch a x z b d d′ d″ to at r q h e l u v =
+    let p : Bytes = take to d ++ a in
+    let lp : length p ≡ at = omega (arith, length-append (take to d) a, length-take-le to d h) in
+    let d′-is : d′ ≡ p ++ (x ++ (b ++ drop r d)) = wrote-is (a ++ (x ++ b)) d d′ to r u ∙ regroup (take to d) a x b (drop r d) in
+    let lpx : length (p ++ x) ≡ q = omega (arith, length-append p x, v .end) in
+    let before : take at d′ ≡ p = ap (take at) d′-is ∙ take-at p (x ++ (b ++ drop r d)) at lp in
+    let after : drop q d′ ≡ b ++ drop r d = ap (drop q) (d′-is ∙ sym (append-assoc p x (b ++ drop r d))) ∙ drop-at (p ++ x) (b ++ drop r d) q lpx in
+    let d″-is : d″ ≡ (p ++ z) ++ (b ++ drop r d) = wrote-is z d′ d″ at q v ∙ ap₂ (λ (s t : Bytes). (s ++ z) ++ t) before after in
+    is-wrote (a ++ (z ++ b)) d d″ to r h
+    (omega (arith, u .end, length-append a (x ++ b), length-append x b, length-append a (z ++ b), length-append z b))
+    (d″-is ∙ append-assoc p z (b ++ drop r d) ∙ sym (regroup (take to d) a z b (drop r d)))
+  where
+    regroup : (s a x b t : Bytes) → (s ++ (a ++ (x ++ b))) ++ t ≡ (s ++ a) ++ (x ++ (b ++ t))
+    regroup s a x b t = simp append-assoc
