@@ -108,7 +108,7 @@ module _ {o₁ o₂ : Options} (fewer : Fewer o₁ o₂) (p : ℕ) where
       ]
 
   -- nothing gets longer
-  after-shorter : (x : Found) → Again (raw table) (λ x. x .1) x → length (tableAfter o₂ p x) ≤ length (x .1)
+  pub after-shorter : (x : Found) → Again (raw table) (λ x. x .1) x → length (tableAfter o₂ p x) ≤ length (x .1)
   after-shorter x g = go (newTable o₂ p (x .0)) refl
     where
       go : (o : Option Bytes) → newTable o₂ p (x .0) ≡ o → length (Option·getD o (x .1)) ≤ length (x .1)
@@ -148,7 +148,7 @@ relength-four : (e t : Bytes) → length e ≡ 4 → length (take 2 e ++ put16 (
 unfolding put16
 relength-four e t h = simp length-append (omega (arith, length-take-le 2 e (omega arith)))
 
-relength-fours : (es ts : List Bytes) → Fours es → Fours (relength es ts)
+pub relength-fours : (es ts : List Bytes) → Fours es → Fours (relength es ts)
 unfolding relength
 relength-fours [] ts f = tt
 relength-fours (e ∷ es) [] f = f

@@ -1,0 +1,190 @@
+-- What the three narrowings answer at each of their returns: refused, unchanged, or changed with the counts. Rests on CountLaws,
+-- TableLaws and PayloadLaws.
+use Prim.Native.Nat.{ℕ, _+_, _-_, _*_, _≤_, _<_}
+use mathlib.Core.Path.{_≡_, refl, sym, ap, ap₂, _∙_}
+use mathlib.Core.Bool.{Bool, true, false, cond, _&&_}
+use mathlib.Core.List.{List, []}
+use mathlib.Core.Option.{Option, none, some, Option·map, Option·getD}
+use native.Mathlib.Omega.{arith}
+use lib.ListN.{length, take, drop, getD, length-take, length-drop}
+use lib.Seq.{take-length}
+use lib.Dec.{leb, eqb}
+use borrow.Author.Tests.{leb-true, le-leb, lt-leb, eq-eqb, ne-eqb}
+use Rattle.meaning.specs.Bytes.{Bytes}
+use Rattle.meaning.specs.Writing.{Wrote}
+use Rattle.meaning.specs.Mmtp.{Mmtp, mmtpOf}
+use Rattle.meaning.specs.Tables.{table, pa}
+use Rattle.meaning.specs.Narrow as meant
+use Rattle.meaning.specs.Narrow.{changeOf, newBody, newTable, narrowTable, partsOfTable, changeTable, tablesParts, paMessage, partsOfMessage, payloadBytes, narrowPayload, changePayload, packetBytes, packetFor, narrowPacket, partsOfPacket, changePacket}
+use Rattle.meaning.specs.Refusals.{narrowRefusal}
+use Rattle.meaning.specs.declared.Narrowing.{Narrowing}
+use Rattle.meaning.specs.declared.Part.{Part}
+use Rattle.meaning.specs.declared.Options.{Options}
+use Rattle.meaning.proofs.ListLaws.{clash}
+use Rattle.tables.specs.Answers.{TableIs}
+use Rattle.tables.specs.declared.pa.Table as code
+use Rattle.tlv.specs.Answers.{MmtpIs}
+use Rattle.tlv.specs.declared.Mmtp as read
+use Rattle.narrowing.specs.Tables.{ChangeIs, isChange, tablesIn, tablesChange, afterTable}
+use Rattle.narrowing.specs.Answers.{zeros, NarrowedAs, RefusedAs, isRefused, PaPlace, bodyAfter, packetWith, Rows, noRows, countedIn, Below}
+use Rattle.narrowing.specs.declared.table.Change.{Change}
+use Rattle.narrowing.proofs.ExactLaws.{tableAt, part-table}
+use Rattle.narrowing.proofs.CountLaws.{counted-rows, below-more, tally-start}
+use Rattle.narrowing.proofs.TableLaws.{stays, changed}
+use Rattle.narrowing.proofs.PayloadLaws.{pa-narrowed}
+
+-- ---- the refusal
+
+module _ (n room : ℕ) where
+  pub too-long : 65539 < n → narrowRefusal n room ≡ 5
+  unfolding narrowRefusal
+  too-long h = rw (lt-leb n 65539 h)
+
+  pub too-short : n ≤ 65539 → room < n → narrowRefusal n room ≡ 6
+  unfolding narrowRefusal
+  too-short h k = rw (le-leb n 65539 h, lt-leb n room k)
+
+  pub accepted : n ≤ 65539 → n ≤ room → narrowRefusal n room ≡ 0
+  unfolding narrowRefusal
+  accepted h k = rw (le-leb n 65539 h, le-leb n room k)
+
+  -- what is not refused is short enough, and there is room
+  fits-in : (a b : Bool) → leb n 65539 ≡ a → leb n room ≡ b → _≡_ {A = ℕ} (cond a (cond b 0 6) 5) 0 → (n ≤ 65539) × (n ≤ room)
+  fits-in true true ea eb q = (leb-true n 65539 ea, leb-true n room eb)
+  fits-in true false ea eb q = absurd (omega (arith, q))
+  fits-in false b ea eb q = absurd (omega (arith, q))
+
+  pub not-refused : (r : Narrowing) → RefusedAs (narrowRefusal n room) r → isRefused r ≡ false
+      → (narrowRefusal n room ≡ 0) × (n ≤ 65539) × (n ≤ room)
+  unfolding narrowRefusal
+  not-refused (Narrowing.Refused x) h q = clash (cc)
+  not-refused Narrowing.Unchanged h q = (let k = fits-in (leb n 65539) (leb n room) refl refl h in (h, k .0, k .1))
+  not-refused (Narrowing.Changed k) h q = absurd h
+
+-- ---- the answers; q, s and w are what is returned
+
+module _ (x : ℕ) (n : Option meant.Change) (d : Bytes) (q : Narrowing) (s w : List ℕ) where
+  pub refused-answer : (r : Narrowing) → RefusedAs x r → isRefused r ≡ true → (q ≡ r) × (s ≡ zeros) × (w ≡ zeros) → NarrowedAs x n d d q s w
+  refused-answer (Narrowing.Refused r) h t e = rw (e .0) (h, refl, e .1, e .2)
+  refused-answer Narrowing.Unchanged h t e = clash (cc)
+  refused-answer (Narrowing.Changed k) h t e = absurd h
+
+  pub unchanged-answer : (d′ : Bytes) → d′ ≡ d → x ≡ 0 → n ≡ none → (q ≡ Narrowing.Unchanged) × (s ≡ zeros) × (w ≡ zeros) → NarrowedAs x n d d′ q s w
+  unchanged-answer d′ g z h e = rw (e .0) (z, h, g, e .1, e .2)
+
+  pub changed-answer : (d′ : Bytes) (k : ℕ) (counts : Rows) (o : Options) (ps : List Part) (y : Bytes) → x ≡ 0 → n ≡ some (changeOf o ps y) → Wrote y d 0 d′ k
+      → counts ≡ countedIn o noRows ps → (q ≡ Narrowing.Changed k) × (s ≡ getD counts 0 []) × (w ≡ getD counts 1 []) → NarrowedAs x n d d′ q s w
+  changed-answer d′ k counts o ps y z h u c e =
+      let r = c ∙ counted-rows o ps in
+      rw (e .0) (z, (changeOf o ps y, h, u, e .1 ∙ ap (λ (l : Rows). getD l 0 []) r, e .2 ∙ ap (λ (l : Rows). getD l 1 []) r))
+
+-- ---- a table
+
+-- no counts yet
+pub rows-low : Options → Below noRows (18446744073709551615 - 256)
+rows-low o = below-more noRows (256 * 0) _ (tally-start [] 0 o (omega arith) .low) (omega arith)
+
+pub part-short : (n : ℕ) (s : Bytes) → length (take n s) ≤ length s
+part-short n s = omega (arith, length-take n s)
+
+pub no-table-stays : (o : Options) (t : Bytes) → table t ≡ none → changeTable o t ≡ none
+unfolding changeTable narrowTable
+no-table-stays o t e = rw e
+
+-- the body of the table at the front
+abbrev inner : Bytes → ℕ → Bytes
+inner t end = take (end - 4) (drop 4 t)
+
+module _ (o : Options) (t : Bytes) (end : ℕ) (h : TableIs (table t) t 0 (code.Table.To end)) where
+  body-as : newBody o 0 (getD t 0 0) (take (end - 0 - 4) (drop (0 + 4) t)) ≡ newBody o 0 (getD t 0 0) (inner t end)
+  body-as = let k : end - 0 - 4 ≡ end - 4 = omega arith in ap (λ (m : ℕ). newBody o 0 (getD t 0 0) (take m (drop 4 t))) k
+
+  module _ (change : Change) (g : ChangeIs (newBody o 0 (getD t 0 0) (inner t end)) o (inner t end) change) where
+    pub table-stays : isChange change ≡ false → changeTable o t ≡ none
+    unfolding changeTable narrowTable newTable
+    table-stays q = rw (h .2, body-as, stays _ o (inner t end) change g q)
+
+    pub table-changes : isChange change ≡ true → changeTable o t ≡ some (changeOf o (partsOfTable (table (take (end - 0) t))) (afterTable o 0 (take (end - 0) t)))
+    unfolding changeTable narrowTable newTable afterTable
+    table-changes q =
+        rw (h .2, part-table t 0 end h) (go _ (body-as ∙ changed (newBody o 0 (getD t 0 0) (inner t end)) o (inner t end) change g q))
+      where
+        ps : List Part
+        ps = partsOfTable (some (tableAt t 0 end, drop end t))
+
+        go : (y : Bytes) → newBody o 0 (getD t 0 0) (take (end - 0 - 4) (drop (0 + 4) t)) ≡ some y
+            → Option·map (changeOf o ps) (newTable o 0 (tableAt t 0 end)) ≡ some (changeOf o ps (Option·getD (newTable o 0 (tableAt t 0 end)) (take (end - 0) t)))
+        go y e = rw e
+
+-- ---- a payload
+
+abbrev message-in : Bytes → ℕ → Bytes
+message-in s end = take (end - 9) (drop 9 s)
+
+-- the kinds of the entries of its tables
+pub parts-there : (s : Bytes) (end tables : ℕ) → PaPlace s end tables → partsOfMessage (paMessage s) ≡ tablesParts (tablesIn (drop tables (message-in s end)) .found)
+unfolding pa
+parts-there s end tables h = rw (h .body-is, h .heads .entries-read)
+
+module _ (o : Options) (p : ℕ) (s : Bytes) where
+  pub payload-stays : narrowPayload o p s ≡ none → changePayload o p s ≡ none
+  unfolding changePayload
+  payload-stays e = ap (λ (x : Option Bytes). Option·map (changeOf o (partsOfMessage (paMessage s))) x) e
+
+  pub payload-changes : (end tables : ℕ) (h : PaPlace s end tables) → tablesChange o p (drop tables (message-in s end)) ≡ true
+      → changePayload o p s
+      ≡ some (changeOf o (tablesParts (tablesIn (drop tables (message-in s end)) .found)) (payloadBytes s (bodyAfter o p (message-in s end) tables (h .entries))))
+  unfolding changePayload
+  payload-changes end tables h e =
+      ap₂ (λ (ps : List Part) (x : Option Bytes). Option·map (changeOf o ps) x) (parts-there s end tables h) (pa-narrowed o p s end tables h e)
+
+-- ---- a packet
+
+and-off : (a b : Bool) → b ≡ false → (a && b) ≡ false
+and-off true b e = e
+and-off false b e = refl
+
+pub unread-stays : (o : Options) (p : Bytes) → mmtpOf p ≡ none → changePacket o p ≡ none
+unfolding changePacket narrowPacket
+unread-stays o p e = rw e
+
+-- from a place within on
+pub rest-whole : (p : Bytes) (body : ℕ) → take (length p - body) (drop body p) ≡ drop body p
+rest-whole p body = ap (λ (m : ℕ). take m (drop body p)) (sym (length-drop body p)) ∙ take-length (drop body p)
+
+module _ (o : Options) (p : Bytes) (body q k : ℕ) (w : Bool) (h : MmtpIs (mmtpOf p) p (read.Mmtp.Read body q k w)) where
+  abbrev there : Mmtp
+  there = record { identifier = q; kind = k; rewritable = w; payload = drop body p }
+
+  packet-is : changePacket o p ≡ Option·map (changeOf o (partsOfMessage (paMessage (drop body p)))) (packetFor o p (some there))
+  unfolding changePacket narrowPacket
+  packet-is = ap (λ (m : Option Mmtp). Option·map (changeOf o (partsOfPacket m)) (packetFor o p m)) (h .2)
+
+  packet-off : (eqb k 2 && w) ≡ false → changePacket o p ≡ none
+  packet-off e = packet-is ∙ rw e
+
+  pub other-kind : (k ≡ 2 → ⊥) → changePacket o p ≡ none
+  other-kind n = packet-off (ap (λ (a : Bool). a && w) (ne-eqb k 2 n))
+
+  pub not-rewritable : w ≡ false → changePacket o p ≡ none
+  not-rewritable e = packet-off (and-off (eqb k 2) w e)
+
+  same-packet : (y : Bytes) → packetBytes p there y ≡ packetWith p body y
+  unfolding packetBytes packetWith
+  same-packet y = let z : length p - length (drop body p) ≡ body = omega (arith, length-drop body p, h .1) in rw z
+
+  module _ (two : k ≡ 2) (on : w ≡ true) where
+    packet-on : changePacket o p ≡ Option·map (changeOf o (partsOfMessage (paMessage (drop body p)))) (Option·map (packetWith p body) (narrowPayload o q (drop body p)))
+    packet-on =
+        packet-is ∙ rw (ap₂ _&&_ (eq-eqb k 2 two) on) (ap (λ (x : Option Bytes). Option·map (changeOf o (partsOfMessage (paMessage (drop body p)))) x) (go (narrowPayload o q (drop body p))))
+      where
+        go : (x : Option Bytes) → Option·map (packetBytes p there) x ≡ Option·map (packetWith p body) x
+        go none = refl
+        go (some y) = ap some (same-packet y)
+
+    pub packet-stays : Option·map (packetWith p body) (narrowPayload o q (drop body p)) ≡ none → changePacket o p ≡ none
+    packet-stays e = packet-on ∙ rw e
+
+    pub packet-changes : (y : Bytes) → Option·map (packetWith p body) (narrowPayload o q (drop body p)) ≡ some y
+        → changePacket o p ≡ some (changeOf o (partsOfMessage (paMessage (drop body p))) y)
+    packet-changes y e = packet-on ∙ rw e

@@ -1,0 +1,11 @@
+-- Laws for narrowing, one for each return of a function and each turn of a loop.
+pub mod Behind
+pub mod MptLaws
+pub mod PltLaws
+pub mod ExactLaws
+pub mod TableLaws
+pub mod CountLaws
+pub mod WalkLaws
+pub mod PayloadLaws
+pub mod PlaceLaws
+pub mod AnswerLaws

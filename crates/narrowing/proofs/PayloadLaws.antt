@@ -1,0 +1,139 @@
+-- From the tables of a PA body to a payload and a packet: what the tests on a payload show, and that lengths are put right inside what
+-- was written. Rests on WalkLaws and on NarrowLaws of `meaning`.
+use Prim.Native.Nat.{ℕ, zero, suc, _+_, _-_, _*_, _/_, _%_, _≤_, _<_}
+use mathlib.Core.Path.{_≡_, refl, sym, ap, ap₂, _∙_, subst}
+use mathlib.Core.Bool.{Bool, true, false, cond, _&&_, _||_}
+use mathlib.Core.List.{List, [], _∷_, _++_, map, flatten, append-assoc}
+use mathlib.Core.Option.{Option, none, some, Option·map, Option·none-ne-some, Option·some-injective}
+use native.Mathlib.Omega.{arith}
+use lib.ListN.{length, take, drop, getD, length-append, length-drop, take-append-drop}
+use lib.Seq.{take-at, drop-drop, length-take-le, take-add}
+use lib.Dec.{eqb, ltb}
+use borrow.Author.Tests.{eq-eqb, ne-eqb}
+use Rattle.meaning.specs.Bytes.{Bytes, put16, put32}
+use Rattle.meaning.specs.Lists.{any}
+use Rattle.meaning.specs.Readers.{Out}
+use Rattle.meaning.specs.Writing.{Wrote}
+use Rattle.meaning.specs.Messages.{Message, message, indicator, aggregated}
+use Rattle.meaning.specs.Tables.{PaHead, paHead, paFrom, pa}
+use Rattle.meaning.specs.Narrow.{paFor, paBytes, narrowPa, paOf, paMessage, payloadBytes, payloadFor, narrowPayload}
+use Rattle.meaning.specs.declared.Options.{Options}
+use Rattle.meaning.proofs.Writes.{wrote-patch}
+use Rattle.narrowing.specs.Tables.{tablesIn, tablesChange, tablesAfter, Heads}
+use Rattle.narrowing.specs.Answers.{PaPlace, NoPa, bodyAfter, packetWith}
+
+-- ---- a payload that holds no PA message
+
+pub none-no-pa : (payload : Bytes) → paMessage payload ≡ none → NoPa payload
+none-no-pa payload e b q = absurd (Option·none-ne-some _ (sym e ∙ q))
+
+pub short-payload : (payload : Bytes) → length payload < 2 → paMessage payload ≡ none
+unfolding paMessage
+short-payload [] h = refl
+short-payload (f ∷ []) h = refl
+short-payload (f ∷ k ∷ s) h = absurd (omega arith)
+
+flags-off : (f k : ℕ) (s : Bytes) → (eqb (indicator f) 0 && eqb (aggregated f) 0) ≡ false → paMessage (f ∷ k ∷ s) ≡ none
+unfolding paMessage
+flags-off f k s e = rw e
+
+flags-on : (f k : ℕ) (s : Bytes) → (eqb (indicator f) 0 && eqb (aggregated f) 0) ≡ true → paMessage (f ∷ k ∷ s) ≡ paOf (message s)
+unfolding paMessage
+flags-on f k s e = rw e
+
+-- the first byte's tests, and the message
+module _ (payload : Bytes) (two : 2 ≤ length payload) where
+  pub not-whole : (indicator (getD payload 0 0) ≡ 0 → ⊥) → paMessage payload ≡ none
+  not-whole n = go payload two n
+    where
+      go : (s : Bytes) → 2 ≤ length s → (indicator (getD s 0 0) ≡ 0 → ⊥) → paMessage s ≡ none
+      go [] h n = absurd (omega arith)
+      go (f ∷ []) h n = absurd (omega arith)
+      go (f ∷ k ∷ s) h n = flags-off f k s (ap (λ (b : Bool). b && eqb (aggregated f) 0) (ne-eqb _ 0 n))
+
+  pub several : indicator (getD payload 0 0) ≡ 0 → (aggregated (getD payload 0 0) ≡ 0 → ⊥) → paMessage payload ≡ none
+  several i n = go payload two i n
+    where
+      go : (s : Bytes) → 2 ≤ length s → indicator (getD s 0 0) ≡ 0 → (aggregated (getD s 0 0) ≡ 0 → ⊥) → paMessage s ≡ none
+      go [] h i n = absurd (omega arith)
+      go (f ∷ []) h i n = absurd (omega arith)
+      go (f ∷ k ∷ s) h i n = flags-off f k s (ap₂ _&&_ (eq-eqb (indicator f) 0 i) (ne-eqb (aggregated f) 0 n))
+
+  pub one-message : indicator (getD payload 0 0) ≡ 0 → aggregated (getD payload 0 0) ≡ 0 → paMessage payload ≡ paOf (message (drop 2 payload))
+  one-message i n = go payload two i n
+    where
+      go : (s : Bytes) → 2 ≤ length s → indicator (getD s 0 0) ≡ 0 → aggregated (getD s 0 0) ≡ 0 → paMessage s ≡ paOf (message (drop 2 s))
+      go [] h i n = absurd (omega arith)
+      go (f ∷ []) h i n = absurd (omega arith)
+      go (f ∷ k ∷ s) h i n = flags-on f k s (ap₂ _&&_ (eq-eqb (indicator f) 0 i) (eq-eqb (aggregated f) 0 n))
+
+-- ---- the message: number 0, and its body behind nine bytes of the payload
+
+pub other-message : (n : ℕ) (b r : Bytes) → (n ≡ 0 → ⊥) → paOf (some (record { number = n; body = b }, r)) ≡ none
+other-message n b r h = rw (ne-eqb n 0 h)
+
+-- what a payload's message is, so is where its body starts
+pub pa-body : (payload : Bytes) (a e : ℕ) → a ≤ e → e ≤ length (drop 2 payload)
+    → paMessage payload ≡ some (take (e - a) (drop a (drop 2 payload))) → 9 + (e - a) ≡ e + 2 → paMessage payload ≡ some (take (e + 2 - 9) (drop 9 payload))
+pa-body payload a e h l q n =
+    let k : e - a ≡ e + 2 - 9 = omega arith in
+    let d : drop a (drop 2 payload) ≡ drop 9 payload = (let z : 2 + a ≡ 9 = omega arith in drop-drop a 2 payload ∙ ap (λ (m : ℕ). drop m payload) z) in
+    q ∙ ap₂ (λ (m : ℕ) (z : Bytes). some (take m z)) k d
+
+-- ---- what narrowing makes of it
+
+pub no-pa-stays : (o : Options) (p : ℕ) (payload : Bytes) → NoPa payload → narrowPayload o p payload ≡ none
+unfolding narrowPayload narrowPa pa
+no-pa-stays o p payload n = go (paMessage payload) refl
+  where
+    go : (x : Option Bytes) → paMessage payload ≡ x → payloadFor o p payload x ≡ none
+    go none e = refl
+    go (some b) e = rw (n b e)
+
+module _ (o : Options) (p : ℕ) (payload : Bytes) (end tables : ℕ) (h : PaPlace payload end tables) where
+  pub pa-stays : tablesChange o p (drop tables (take (end - 9) (drop 9 payload))) ≡ false → narrowPayload o p payload ≡ none
+  unfolding narrowPayload narrowPa pa tablesChange
+  pa-stays e = rw (h .body-is, h .heads .entries-read, e)
+
+  pub pa-narrowed : tablesChange o p (drop tables (take (end - 9) (drop 9 payload))) ≡ true
+      → narrowPayload o p payload ≡ some (payloadBytes payload (bodyAfter o p (take (end - 9) (drop 9 payload)) tables (h .entries)))
+  unfolding narrowPayload narrowPa pa tablesChange
+  pa-narrowed e = rw (h .body-is, h .heads .entries-read, e)
+
+-- ---- lengths put right: nine bytes and a body, then the message's length; a packet's front and a payload, then its length
+
+put16-length : (m : ℕ) → length (put16 m) ≡ 2
+unfolding put16
+put16-length m = refl
+
+put32-length : (m : ℕ) → length (put32 m) ≡ 4
+unfolding put32 put16
+put32-length m = refl
+
+pub nine-split : (s : Bytes) → 9 ≤ length s → take 9 s ≡ take 5 s ++ take 4 (drop 5 s)
+nine-split s h = take-add 5 4 s
+
+pub length-right : (payload b d d′ d″ : Bytes) (to r q : ℕ) → 9 ≤ length payload → to ≤ length d → Wrote (take 9 payload ++ b) d to d′ r → Wrote (put32 (length b)) d′ (to + 5) d″ q
+    → Wrote (payloadBytes payload b) d to d″ r
+unfolding payloadBytes
+length-right payload b d d′ d″ to r q n h u v =
+    let five : length (take 5 payload) ≡ 5 = length-take-le 5 payload (omega arith) in
+    let four : length (take 4 (drop 5 payload)) ≡ 4 = length-take-le 4 (drop 5 payload) (omega (arith, length-drop 5 payload)) in
+    wrote-patch (take 5 payload) (take 4 (drop 5 payload)) (put32 (length b)) b d d′ d″ to (to + 5) r q h (omega arith) (put32-length (length b) ∙ sym four)
+    (subst (λ (z : Bytes). Wrote z d to d′ r) (ap (λ (z : Bytes). z ++ b) (nine-split payload n) ∙ append-assoc (take 5 payload) (take 4 (drop 5 payload)) b) u) v
+
+pub packet-right : (p y d d′ d″ : Bytes) (body to r q : ℕ) → 4 ≤ body → body ≤ length p → to ≤ length d → Wrote (take body p ++ y) d to d′ r
+    → Wrote (put16 (length (take (body - 4) (drop 4 p) ++ y))) d′ (to + 2) d″ q → Wrote (packetWith p body y) d to d″ r
+unfolding packetWith
+packet-right p y d d′ d″ body to r q n l h u v =
+    let two : length (take 2 p) ≡ 2 = length-take-le 2 p (omega arith) in
+    let next : length (take 2 (drop 2 p)) ≡ 2 = length-take-le 2 (drop 2 p) (omega (arith, length-drop 2 p)) in
+    let k : 2 + (2 + (body - 4)) ≡ body = omega arith in
+    let front : take body p ≡ take 2 p ++ (take 2 (drop 2 p) ++ take (body - 4) (drop 4 p)) =
+    ap (λ (m : ℕ). take m p) (sym k) ∙ take-add 2 (2 + (body - 4)) p
+    ∙ ap (λ (z : Bytes). take 2 p ++ z) (take-add 2 (body - 4) (drop 2 p) ∙ ap (λ (z : Bytes). take 2 (drop 2 p) ++ take (body - 4) z) (drop-drop 2 2 p)) in
+    let split : take body p ++ y ≡ take 2 p ++ (take 2 (drop 2 p) ++ (take (body - 4) (drop 4 p) ++ y)) =
+    ap (λ (z : Bytes). z ++ y) front ∙ append-assoc (take 2 p) (take 2 (drop 2 p) ++ take (body - 4) (drop 4 p)) y
+    ∙ ap (λ (z : Bytes). take 2 p ++ z) (append-assoc (take 2 (drop 2 p)) (take (body - 4) (drop 4 p)) y) in
+    wrote-patch (take 2 p) (take 2 (drop 2 p)) (put16 (length (take (body - 4) (drop 4 p) ++ y))) (take (body - 4) (drop 4 p) ++ y) d d′ d″ to (to + 2) r q h (omega arith) (put16-length (length (take (body - 4) (drop 4 p) ++ y)) ∙ sym next)
+    (subst (λ (z : Bytes). Wrote z d to d′ r) split u) v

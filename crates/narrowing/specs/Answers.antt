@@ -1,0 +1,115 @@
+-- What the three narrowings answer: the refusal's number, or nothing changed, or the narrowed bytes at the front of the output with the
+-- counts of the entries that stayed and went. Each fixes the whole output.
+use Prim.Native.Nat.{ℕ, zero, suc, _+_, _-_, _≤_}
+use mathlib.Core.Path.{_≡_}
+use mathlib.Core.Bool.{Bool, true, false, cond}
+use mathlib.Core.List.{List, [], _∷_, _++_, map}
+use mathlib.Core.Option.{Option, none, some}
+use lib.ListN.{length, take, drop, getD, set}
+use Rattle.meaning.specs.Bytes.{Bytes, put16}
+use Rattle.meaning.specs.Writing.{Wrote}
+use Rattle.meaning.specs.Readers.{Out}
+use Rattle.meaning.specs.Tables.{Entry, paHead}
+use Rattle.meaning.specs.Narrow.{Change, wanted, narrowPayload, paMessage, paBytes}
+use Rattle.meaning.specs.Refusals.{numberOf}
+use Rattle.meaning.specs.declared.Narrowing.{Narrowing}
+use Rattle.meaning.specs.declared.Part.{Part}
+use Rattle.meaning.specs.declared.Part.the-variants.{Caption, Carousel, Other}
+use Rattle.meaning.specs.declared.Options.{Options}
+use Rattle.tables.specs.declared.fields.End.{End}
+use Rattle.narrowing.specs.Tables.{tablesIn, tablesAfter, tablesChange, Heads}
+use Rattle.narrowing.specs.declared.narrow.Narrowed.{Narrowed}
+use Rattle.narrowing.specs.declared.narrow.Pa.{Pa}
+
+abbrev pub zeros : List ℕ
+zeros = 0 ∷ 0 ∷ 0 ∷ []
+
+-- By the refusal's number x and what the definition changes.
+abbrev pub NarrowedAs : ℕ → Option Change → Bytes → Bytes → Narrowing → List ℕ → List ℕ → Type 0
+NarrowedAs x n d d′ (Narrowing.Refused r) s w = (x ≡ numberOf r) × (d′ ≡ d) × (s ≡ zeros) × (w ≡ zeros)
+NarrowedAs x n d d′ Narrowing.Unchanged s w = (x ≡ 0) × (n ≡ none) × (d′ ≡ d) × (s ≡ zeros) × (w ≡ zeros)
+NarrowedAs x n d d′ (Narrowing.Changed k) s w =
+    (x ≡ 0) × ((c : Change) × (n ≡ some c) × Wrote (c .out) d 0 d′ k × (s ≡ c .stays) × (w ≡ c .goes))
+
+-- By the lengths of input and output: refused, or else not.
+abbrev pub RefusedAs : ℕ → Narrowing → Type 0
+RefusedAs x (Narrowing.Refused r) = x ≡ numberOf r
+RefusedAs x Narrowing.Unchanged = x ≡ 0
+RefusedAs x (Narrowing.Changed k) = ⊥
+
+abbrev pub isRefused : Narrowing → Bool
+isRefused (Narrowing.Refused r) = true
+isRefused Narrowing.Unchanged = false
+isRefused (Narrowing.Changed k) = false
+
+-- The PA message of a payload: its body is the payload's bytes from 9 to `end`, and the body's tables start at `tables`.
+pub record PaPlace (payload : Bytes) (end tables : ℕ) : Type 0 where
+  pub nine : 9 ≤ end
+  pub within : end ≤ length payload
+  pub body-is : paMessage payload ≡ some (take (end - 9) (drop 9 payload))
+  pub entries : List Bytes
+  pub heads : Heads (take (end - 9) (drop 9 payload)) tables entries
+
+-- The body as narrowing leaves it.
+abbrev pub bodyAfter : Options → ℕ → Bytes → ℕ → List Bytes → Bytes
+bodyAfter o p b tables es = paBytes (record { count = getD b 0 0; entries = es }) (tablesAfter o p (drop tables b)) (tablesIn (drop tables b) .left)
+
+-- A packet whose payload starts at `body`, with another payload.
+unfoldable pub packetWith : Bytes → ℕ → Bytes → Bytes
+unfolding put16
+packetWith p body y =
+    let rest = take (body - 4) (drop 4 p) ++ y in
+    take 2 p ++ (put16 (length rest) ++ rest)
+
+-- There is none where there is no such message, or its head does not read.
+abbrev pub NoPa : Bytes → Type 0
+NoPa payload = (b : Bytes) → paMessage payload ≡ some b → paHead b ≡ none
+
+abbrev pub PaIs : Bytes → Pa → Type 0
+PaIs payload (Pa.Found end tables) = PaPlace payload end tables
+PaIs payload Pa.Nothing = NoPa payload
+
+-- The PA message of a payload that narrowing changes.
+abbrev pub ChangedPaIs : Options → ℕ → Bytes → Pa → Type 0
+ChangedPaIs o p payload (Pa.Found end tables) =
+    PaPlace payload end tables × (tablesChange o p (drop tables (take (end - 9) (drop 9 payload))) ≡ true)
+ChangedPaIs o p payload Pa.Nothing = narrowPayload o p payload ≡ none
+
+-- The narrowed bytes at `to` of the output, or the output as it was.
+abbrev pub RewroteAs : Option Bytes → Bytes → ℕ → Bytes → End → Type 0
+RewroteAs n d to d′ (End.At k) = (y : Bytes) × (n ≡ some y) × Wrote y d to d′ k
+RewroteAs n d to d′ End.Nothing = (n ≡ none) × (d′ ≡ d)
+
+-- ---- counting: two rows, those that stay and those that go, each of captions, carousels and others
+
+abbrev pub Rows : Type 0
+Rows = List (List ℕ)
+
+abbrev pub kindPlace : Part → ℕ
+kindPlace Caption = 0
+kindPlace Carousel = 1
+kindPlace Other = 2
+
+abbrev pub rowPlace : Options → Part → ℕ
+rowPlace o part = cond (wanted o part) 0 1
+
+-- one more at a place of a row
+abbrev pub bumped : Rows → ℕ → ℕ → Rows
+bumped rows row kind = set rows row (set (getD rows row []) kind (getD (getD rows row []) kind 0 + 1))
+
+-- the kinds of some entries, counted on top of rows that were there
+unfoldable pub countedIn : Options → Rows → List Part → Rows
+countedIn o rows [] = rows
+countedIn o rows (part ∷ ps) = countedIn o (bumped rows (rowPlace o part) (kindPlace part)) ps
+
+abbrev pub noRows : Rows
+noRows = zeros ∷ zeros ∷ []
+
+-- no count passes a bound
+abbrev pub Below : Rows → ℕ → Type 0
+Below rows n = (length rows ≡ 2) × ((i : ℕ) (j : ℕ) → getD (getD rows i []) j 0 ≤ n)
+
+-- the kinds of the entries that were read
+abbrev pub partsRead : Out (List Entry) → List Part
+partsRead none = []
+partsRead (some x) = map (λ e. e .part) (x .0)

@@ -1,0 +1,241 @@
+// The three narrowings: of a table, a payload and a packet, each into a lent output.
+ghost use mathlib.Core.Path.{_≡_};
+ghost use Prim.Native.Nat.{ℕ, _+_, _-_, _*_, _≤_, _<_};
+ghost use lib.ListN.{length, take, drop, getD};
+ghost use Rattle.meaning.specs.Writing.{Wrote};
+ghost use mathlib.Core.List.{List, [], _∷_};
+ghost use Rattle.meaning.specs.Bytes.{Bytes};
+ghost use mathlib.Core.Option.{Option·map};
+ghost use Rattle.meaning.specs.Narrow.{narrowPayload, payloadBytes, paMessage, partsOfMessage, changeTable, changePayload, changePacket};
+ghost use Rattle.meaning.specs.Refusals.{narrowRefusal};
+ghost use Rattle.narrowing.specs.Answers.{zeros, NarrowedAs, RefusedAs, isRefused, PaPlace, PaIs, ChangedPaIs, RewroteAs, bodyAfter, packetWith, noRows, countedIn};
+use crate::counting::count_table;
+use crate::counting::count_tables;
+use crate::pa::pa_changes;
+use crate::pa::pa_to;
+use crate::table::change_of;
+use crate::table::changes;
+use crate::table::table_to;
+use meaning::Narrowing;
+use meaning::Options;
+use meaning::Refusal;
+use octets::copy;
+use octets::put16;
+use octets::put32;
+use tables::fields::End;
+use tables::messages::Found;
+use tables::messages::message;
+use tables::pa::Table;
+use tables::pa::pa_tables;
+use tables::pa::table_at;
+use tlv::Mmtp;
+use tlv::mmtp_of;
+
+// What narrowing answers. The rows count captions, carousels and others.
+pub struct Narrowed {
+    pub narrowing: Narrowing,
+    pub stayed: [u64; 3],
+    pub went: [u64; 3],
+}
+
+// The PA message of a payload: where in the payload it ends, and where in its body the tables start.
+pub enum Pa {
+    Found { end: usize, tables: usize },
+    Nothing,
+}
+
+fn answer_of(narrowing: Narrowing, counts: [[u64; 3]; 2]) -> Narrowed
+    ensures { λ r. ⌜ (r .narrowing ≡ narrowing) × (r .stayed ≡ getD counts 0 []) × (r .went ≡ getD counts 1 []) ⌝ }
+{
+    let stayed = counts[0];
+    let went = counts[1];
+    Narrowed {
+        narrowing,
+        stayed,
+        went,
+    }
+}
+
+fn without_counts(narrowing: Narrowing) -> Narrowed
+    ensures { λ r. ⌜ (r .narrowing ≡ narrowing) × (r .stayed ≡ zeros) × (r .went ≡ zeros) ⌝ }
+{
+    answer_of(narrowing, [[0u64; 3]; 2])
+}
+
+// The refusal of a narrowing by the lengths of its input and its output, else unchanged.
+fn refusal(n: usize, room: usize) -> Narrowing
+    ensures { λ r. ⌜ RefusedAs (narrowRefusal n room) r ⌝ }
+{
+    if 65539 < n {
+        return Narrowing::Refused(Refusal::Long);
+    }
+    if room < n {
+        return Narrowing::Refused(Refusal::Short);
+    }
+    Narrowing::Unchanged
+}
+
+fn is_refused(n: Narrowing) -> bool
+    ensures { λ r. ⌜ r ≡ isRefused n ⌝ }
+{
+    match n {
+        Narrowing::Refused(_) => true,
+        Narrowing::Unchanged => false,
+        Narrowing::Changed(_) => false,
+    }
+}
+
+// A table alone counts as on identifier 0 and, changed, ends at its own length.
+pub fn narrow_table(t: &[u8], o: Options, out: &mut [u8]) -> Narrowed
+    ensures { λ r. ⌜ NarrowedAs (narrowRefusal (length (now (t .entry))) (length (now (out .entry)))) (changeTable o (now (t .entry))) (now (out .entry)) (now (out .exit)) (r .narrowing) (r .stayed) (r .went) ⌝ }
+{
+    let refused = refusal(t.len(), out.len());
+    if is_refused(refused) {
+        return without_counts(refused);
+    }
+    let Table::To(end) = table_at(t, 0) else {
+        return without_counts(Narrowing::Unchanged);
+    };
+    if !changes(change_of(&t[4..end], t[0], 0, o)) {
+        return without_counts(Narrowing::Unchanged);
+    }
+    let u = &t[0..end];
+    let n = table_to(u, 0, o, out, 0);
+    answer_of(Narrowing::Changed(n), count_table(u, o, [[0u64; 3]; 2]))
+}
+
+// The PA message of a whole, unaggregated payload.
+fn pa_of(payload: &[u8]) -> Pa
+    ensures { λ r. ⌜ PaIs (now (payload .entry)) r ⌝ }
+{
+    if payload.len() < 2 {
+        return Pa::Nothing;
+    }
+    if payload[0] >> 6 != 0 {
+        return Pa::Nothing;
+    }
+    if payload[0] & 1 != 0 {
+        return Pa::Nothing;
+    }
+    let Found::Message {
+        number,
+        start: _,
+        end,
+    } = message(&payload[2..])
+    else {
+        return Pa::Nothing;
+    };
+    if number != 0 {
+        return Pa::Nothing;
+    }
+    let last = end + 2;
+    let End::At(tables) = pa_tables(&payload[9..last]) else {
+        return Pa::Nothing;
+    };
+    Pa::Found { end: last, tables }
+}
+
+// The PA message of a payload that narrowing changes.
+fn changed_pa(payload: &[u8], pid: u16, o: Options) -> Pa
+    ensures { λ r. ⌜ ChangedPaIs o pid (now (payload .entry)) r ⌝ }
+{
+    let Pa::Found { end, tables } = pa_of(payload) else {
+        return Pa::Nothing;
+    };
+    if pa_changes(&payload[9..end], tables, pid, o) {
+        return Pa::Found { end, tables };
+    }
+    Pa::Nothing
+}
+
+// The narrowed payload, written at `to`. Its message's length is put right at the end.
+fn payload_to(
+    payload: &[u8],
+    end: usize,
+    tables: usize,
+    pid: u16,
+    o: Options,
+    out: &mut [u8],
+    to: usize,
+) -> usize
+    requires { ⌜ PaPlace (now payload) end tables × (to + end ≤ length (now out)) ⌝ }
+    ensures { λ r. ⌜ ((h : PaPlace (now (payload .entry)) end tables) → Wrote (payloadBytes (now (payload .entry)) (bodyAfter o pid (take (end - 9) (drop 9 (now (payload .entry)))) tables (h .entries))) (now (out .entry)) to (now (out .exit)) r) ⌝ }
+{
+    let body = copy(&payload[0..9], out, to);
+    let last = pa_to(&payload[9..end], tables, pid, o, out, body);
+    put32(out, to + 5, last - body);
+    last
+}
+
+// A payload alone counts as a rewritable one of payload type 2.
+pub fn narrow_payload(payload: &[u8], pid: u16, o: Options, out: &mut [u8]) -> Narrowed
+    ensures { λ r. ⌜ NarrowedAs (narrowRefusal (length (now (payload .entry))) (length (now (out .entry)))) (changePayload o pid (now (payload .entry))) (now (out .entry)) (now (out .exit)) (r .narrowing) (r .stayed) (r .went) ⌝ }
+{
+    let refused = refusal(payload.len(), out.len());
+    if is_refused(refused) {
+        return without_counts(refused);
+    }
+    let Pa::Found { end, tables } = changed_pa(payload, pid, o) else {
+        return without_counts(Narrowing::Unchanged);
+    };
+    let n = payload_to(payload, end, tables, pid, o, out, 0);
+    answer_of(
+        Narrowing::Changed(n),
+        count_tables(&payload[9..end], tables, o),
+    )
+}
+
+// The packet `p`, whose payload starts at `body`, narrowed, at `to` of the output.
+pub fn rewrite(p: &[u8], body: usize, pid: u16, o: Options, out: &mut [u8], to: usize) -> End
+    requires { ⌜ (4 ≤ body) × (body ≤ length (now p)) × (to + length (now p) ≤ length (now out)) ⌝ }
+    ensures { λ r. ⌜ RewroteAs (Option·map (packetWith (now (p .entry)) body) (narrowPayload o pid (drop body (now (p .entry))))) (now (out .entry)) to (now (out .exit)) r ⌝ }
+{
+    let payload = &p[body..];
+    let Pa::Found { end, tables } = changed_pa(payload, pid, o) else {
+        return End::Nothing;
+    };
+    let c = copy(&p[0..body], out, to);
+    let last = payload_to(payload, end, tables, pid, o, out, c);
+    put16(out, to + 2, last - to - 4);
+    End::At(last)
+}
+
+// The counts of a payload that narrowing changes.
+fn count_payload(payload: &[u8], o: Options) -> [[u64; 3]; 2]
+    requires { ⌜ length (now payload) ≤ 65539 ⌝ }
+    ensures { λ r. ⌜ r ≡ countedIn o noRows (partsOfMessage (paMessage (now (payload .entry)))) ⌝ }
+{
+    let Pa::Found { end, tables } = pa_of(payload) else {
+        return [[0u64; 3]; 2];
+    };
+    count_tables(&payload[9..end], tables, o)
+}
+
+// Of a packet's first four bytes only the type is read.
+pub fn narrow_packet(p: &[u8], o: Options, out: &mut [u8]) -> Narrowed
+    ensures { λ r. ⌜ NarrowedAs (narrowRefusal (length (now (p .entry))) (length (now (out .entry)))) (changePacket o (now (p .entry))) (now (out .entry)) (now (out .exit)) (r .narrowing) (r .stayed) (r .went) ⌝ }
+{
+    let refused = refusal(p.len(), out.len());
+    if is_refused(refused) {
+        return without_counts(refused);
+    }
+    let Mmtp::Read {
+        body,
+        identifier,
+        kind,
+        rewritable,
+    } = mmtp_of(p)
+    else {
+        return without_counts(Narrowing::Unchanged);
+    };
+    if kind != 2 {
+        return without_counts(Narrowing::Unchanged);
+    }
+    if !rewritable {
+        return without_counts(Narrowing::Unchanged);
+    }
+    let End::At(n) = rewrite(p, body, identifier, o, out, 0) else {
+        return without_counts(Narrowing::Unchanged);
+    };
+    answer_of(Narrowing::Changed(n), count_payload(&p[body..], o))
+}

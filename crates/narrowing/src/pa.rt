@@ -1,0 +1,94 @@
+// The body of a PA message as narrowing leaves it: the head's entries take the tables' lengths.
+ghost use mathlib.Core.Path.{_≡_};
+ghost use Prim.Native.Nat.{ℕ, _+_, _-_, _*_, _≤_, _<_};
+ghost use lib.ListN.{length, take, drop, getD};
+ghost use Rattle.meaning.specs.Writing.{Wrote};
+ghost use mathlib.Core.List.{List, flatten};
+ghost use Rattle.meaning.specs.Bytes.{Bytes};
+ghost use Rattle.meaning.specs.Narrow.{relength, paBytes};
+ghost use Rattle.narrowing.specs.Tables.{tablesIn, tablesChange, tablesAfter, tablesBytes, Heads};
+use crate::table::change_of;
+use crate::table::changes;
+use crate::table::length_after;
+use crate::table::table_to;
+use meaning::Options;
+use octets::copy;
+use octets::put16;
+use tables::pa::Table;
+use tables::pa::table_at;
+
+// Whether narrowing changes the tables from `tables` on: a cut one leaves them all.
+pub fn pa_changes(s: &[u8], tables: usize, pid: u16, o: Options) -> bool
+    requires { ⌜ tables ≤ length (now s) ⌝ }
+    ensures { λ r. ⌜ r ≡ tablesChange o pid (drop tables (now (s .entry))) ⌝ }
+{
+    let mut at = tables;
+    let mut changed = false;
+    loop {
+        let from = at;
+        match table_at(s, from) {
+            Table::To(end) => {
+                at = end;
+                if !changed {
+                    changed = changes(change_of(&s[from + 4..end], s[from], pid, o));
+                }
+            }
+            Table::Cut => {
+                return false;
+            }
+            Table::Done => {
+                return changed;
+            }
+        }
+    }
+}
+
+// The head's entries, from the second byte of the body up to the tables, written at `to`.
+fn heads_to(s: &[u8], tables: usize, pid: u16, o: Options, out: &mut [u8], to: usize) -> usize
+    requires { ⌜ ((es : List Bytes) × Heads (now s) tables es) × (to + (tables - 1) ≤ length (now out)) ⌝ }
+    ensures { λ r. ⌜ ((es : List Bytes) → Heads (now (s .entry)) tables es → Wrote (flatten (relength es (tablesAfter o pid (drop tables (now (s .entry)))))) (now (out .entry)) to (now (out .exit)) r) ⌝ }
+{
+    let mut at = tables;
+    let mut entry = 1;
+    let mut put = to;
+    while entry < tables {
+        let from = at;
+        let Table::To(end) = table_at(s, from) else {
+            return copy(&s[entry..tables], out, put);
+        };
+        at = end;
+        let b = &s[from + 4..end];
+        let n = length_after(b, change_of(b, s[from], pid, o));
+        let put2 = copy(&s[entry..entry + 2], out, put);
+        put = put16(out, put2, n);
+        entry += 4;
+    }
+    put
+}
+
+// The tables as narrowing leaves them, and what is left behind them, written at `to`.
+fn tables_to(s: &[u8], tables: usize, pid: u16, o: Options, out: &mut [u8], to: usize) -> usize
+    requires { ⌜ (tables ≤ length (now s)) × (to + (length (now s) - tables) ≤ length (now out)) ⌝ }
+    ensures { λ r. ⌜ Wrote (tablesBytes o pid (drop tables (now (s .entry)))) (now (out .entry)) to (now (out .exit)) r ⌝ }
+{
+    let mut at = tables;
+    let mut put = to;
+    loop {
+        let from = at;
+        let Table::To(end) = table_at(s, from) else {
+            return copy(&s[from..], out, put);
+        };
+        at = end;
+        put = table_to(&s[from..end], pid, o, out, put);
+    }
+}
+
+// The whole body, written at `to`.
+pub fn pa_to(s: &[u8], tables: usize, pid: u16, o: Options, out: &mut [u8], to: usize) -> usize
+    requires { ⌜ ((es : List Bytes) × Heads (now s) tables es) × (to + length (now s) ≤ length (now out)) ⌝ }
+    ensures { λ r. ⌜ ((es : List Bytes) → Heads (now (s .entry)) tables es → Wrote (paBytes (record { count = getD (now (s .entry)) 0 0; entries = es }) (tablesAfter o pid (drop tables (now (s .entry)))) (tablesIn (drop tables (now (s .entry))) .left)) (now (out .entry)) to (now (out .exit)) r) ⌝ }
+{
+    let c = copy(&s[0..1], out, to);
+    let d = heads_to(s, tables, pid, o, out, c);
+    tables_to(s, tables, pid, o, out, d)
+}

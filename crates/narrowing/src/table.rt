@@ -1,0 +1,153 @@
+// A table as narrowing leaves it, by its number and the packet identifier that it came on.
+ghost use mathlib.Core.Path.{_≡_};
+ghost use Prim.Native.Nat.{ℕ, _+_, _-_, _*_, _≤_, _<_};
+ghost use lib.ListN.{length, take, drop, getD};
+ghost use Rattle.meaning.specs.Writing.{Wrote};
+ghost use mathlib.Core.Option.{Option, Option·getD};
+ghost use Rattle.meaning.specs.Bytes.{Bytes};
+ghost use Rattle.meaning.specs.Narrow.{mptWithout, pltFor, newBody};
+ghost use Rattle.meaning.specs.declared.Options.{Options};
+ghost use Rattle.narrowing.specs.Tables.{ChangeIs, isChange, Exact, afterTable};
+use crate::mpt::MptChange;
+use crate::mpt::mpt_to;
+use crate::mpt::mpt_without;
+use crate::plt::PltChange;
+use crate::plt::plt_only;
+use crate::plt::plt_to;
+use meaning::Options;
+use meaning::Service;
+use octets::copy;
+use octets::put16;
+use tables::pa::is_mpt;
+
+// What narrowing makes of a table's body.
+pub enum Change {
+    Mpt {
+        front: usize,
+        end: usize,
+        kept: usize,
+        size: usize,
+    },
+    Plt {
+        start: usize,
+        end: usize,
+        past: usize,
+    },
+    Same,
+}
+
+fn of_mpt(b: &[u8], o: Options) -> Change
+    ensures { λ r. ⌜ ChangeIs (mptWithout o (now (b .entry))) o (now (b .entry)) r ⌝ }
+{
+    match mpt_without(b, o) {
+        MptChange::Less {
+            front,
+            end,
+            kept,
+            size,
+        } => Change::Mpt {
+            front,
+            end,
+            kept,
+            size,
+        },
+        MptChange::Same => Change::Same,
+    }
+}
+
+fn of_plt(b: &[u8], service: Service) -> Change
+    ensures { λ r. ⌜ ((o : Options) → ChangeIs (pltFor service (now (b .entry))) o (now (b .entry)) r) ⌝ }
+{
+    let Service::Only(n) = service else {
+        return Change::Same;
+    };
+    match plt_only(b, n) {
+        PltChange::One { start, end, past } => Change::Plt { start, end, past },
+        PltChange::Same => Change::Same,
+    }
+}
+
+// What narrowing makes of the body `b` of table `number` on identifier `pid`.
+pub fn change_of(b: &[u8], number: u8, pid: u16, o: Options) -> Change
+    ensures { λ r. ⌜ ChangeIs (newBody o pid number (now (b .entry))) o (now (b .entry)) r ⌝ }
+{
+    if is_mpt(number) {
+        return of_mpt(b, o);
+    }
+    if number != 0x80 {
+        return Change::Same;
+    }
+    if pid != 0 {
+        return Change::Same;
+    }
+    let service = o.service;
+    of_plt(b, service)
+}
+
+// How many bytes the new body has.
+pub fn length_after(b: &[u8], change: Change) -> usize
+    requires { ⌜ ((n : Option Bytes) × (o : Options) × ChangeIs n o (now b) change) ⌝ }
+    ensures { λ r. ⌜ ((n : Option Bytes) (o : Options) → ChangeIs n o (now (b .entry)) change → r ≡ length (Option·getD n (now (b .entry)))) ⌝ }
+{
+    match change {
+        Change::Mpt {
+            front,
+            end,
+            kept: _,
+            size,
+        } => front + 1 + size + (b.len() - end),
+        Change::Plt { start, end, past } => 1 + (end - start) + (b.len() - past),
+        Change::Same => b.len(),
+    }
+}
+
+pub fn changes(change: Change) -> bool
+    ensures { λ r. ⌜ r ≡ isChange change ⌝ }
+{
+    match change {
+        Change::Mpt {
+            front: _,
+            end: _,
+            kept: _,
+            size: _,
+        } => true,
+        Change::Plt {
+            start: _,
+            end: _,
+            past: _,
+        } => true,
+        Change::Same => false,
+    }
+}
+
+// The new body, written at `to`.
+fn body_to(b: &[u8], change: Change, o: Options, out: &mut [u8], to: usize) -> usize
+    requires { ⌜ ((n : Option Bytes) × ChangeIs n o (now b) change) × (to + length (now b) ≤ length (now out)) ⌝ }
+    ensures { λ r. ⌜ ((n : Option Bytes) → ChangeIs n o (now (b .entry)) change → Wrote (Option·getD n (now (b .entry))) (now (out .entry)) to (now (out .exit)) r) ⌝ }
+{
+    match change {
+        Change::Mpt {
+            front,
+            end,
+            kept,
+            size: _,
+        } => mpt_to(b, front, end, kept, o, out, to),
+        Change::Plt { start, end, past } => plt_to(b, start, end, past, out, to),
+        Change::Same => copy(b, out, to),
+    }
+}
+
+// The table `t` as narrowing leaves it, written at `to`.
+pub fn table_to(t: &[u8], pid: u16, o: Options, out: &mut [u8], to: usize) -> usize
+    requires { ⌜ Exact (now t) × (to + length (now t) ≤ length (now out)) ⌝ }
+    ensures { λ r. ⌜ Wrote (afterTable o pid (now (t .entry))) (now (out .entry)) to (now (out .exit)) r ⌝ }
+{
+    let b = &t[4..];
+    let change = change_of(b, t[0], pid, o);
+    if !changes(change) {
+        return copy(t, out, to);
+    }
+    let c = copy(&t[0..2], out, to);
+    let d = put16(out, c, length_after(b, change));
+    body_to(b, change, o, out, d)
+}
