@@ -9,3 +9,4 @@ pub mod WalkLaws
 pub mod PayloadLaws
 pub mod PlaceLaws
 pub mod AnswerLaws
+pub mod Examples

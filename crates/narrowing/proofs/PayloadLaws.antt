@@ -1,25 +1,23 @@
 -- From the tables of a PA body to a payload and a packet: what the tests on a payload show, and that lengths are put right inside what
 -- was written. Rests on WalkLaws and on NarrowLaws of `meaning`.
-use Prim.Native.Nat.{ℕ, zero, suc, _+_, _-_, _*_, _/_, _%_, _≤_, _<_}
+use Prim.Native.Nat.{ℕ, _+_, _-_, _≤_, _<_}
 use mathlib.Core.Path.{_≡_, refl, sym, ap, ap₂, _∙_, subst}
-use mathlib.Core.Bool.{Bool, true, false, cond, _&&_, _||_}
-use mathlib.Core.List.{List, [], _∷_, _++_, map, flatten, append-assoc}
-use mathlib.Core.Option.{Option, none, some, Option·map, Option·none-ne-some, Option·some-injective}
+use mathlib.Core.Bool.{Bool, true, false, _&&_}
+use mathlib.Core.List.{[], _∷_, _++_, append-assoc}
+use mathlib.Core.Option.{Option, none, some, Option·none-ne-some}
 use native.Mathlib.Omega.{arith}
-use lib.ListN.{length, take, drop, getD, length-append, length-drop, take-append-drop}
-use lib.Seq.{take-at, drop-drop, length-take-le, take-add}
-use lib.Dec.{eqb, ltb}
+use lib.ListN.{length, take, drop, getD, length-drop}
+use lib.Seq.{drop-drop, length-take-le, take-add}
+use lib.Dec.{eqb}
 use borrow.Author.Tests.{eq-eqb, ne-eqb}
 use Rattle.meaning.specs.Bytes.{Bytes, put16, put32}
-use Rattle.meaning.specs.Lists.{any}
-use Rattle.meaning.specs.Readers.{Out}
 use Rattle.meaning.specs.Writing.{Wrote}
-use Rattle.meaning.specs.Messages.{Message, message, indicator, aggregated}
-use Rattle.meaning.specs.Tables.{PaHead, paHead, paFrom, pa}
-use Rattle.meaning.specs.Narrow.{paFor, paBytes, narrowPa, paOf, paMessage, payloadBytes, payloadFor, narrowPayload}
+use Rattle.meaning.specs.Messages.{message, indicator, aggregated}
+use Rattle.meaning.specs.Tables.{pa}
+use Rattle.meaning.specs.Narrow.{narrowPa, paOf, paMessage, payloadBytes, payloadFor, narrowPayload}
 use Rattle.meaning.specs.declared.Options.{Options}
 use Rattle.meaning.proofs.Writes.{wrote-patch}
-use Rattle.narrowing.specs.Tables.{tablesIn, tablesChange, tablesAfter, Heads}
+use Rattle.narrowing.specs.Tables.{tablesChange}
 use Rattle.narrowing.specs.Answers.{PaPlace, NoPa, bodyAfter, packetWith}
 
 -- ---- a payload that holds no PA message

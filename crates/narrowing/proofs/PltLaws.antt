@@ -1,8 +1,8 @@
 -- The body of a PLT, as `plt` reads and writes it: the loop over its packages, whose invariant is `Sofar`, what each return of it
 -- says, and the body with one entry as it is written. Rests on the readers at an offset, Reading of `meaning`, and on Writes.
-use Prim.Native.Nat.{ℕ, zero, suc, _+_, _-_, _≤_, _<_}
+use Prim.Native.Nat.{ℕ, zero, suc, _-_, _≤_, _<_}
 use mathlib.Core.Path.{_≡_, refl, sym, ap, _∙_}
-use mathlib.Core.Bool.{Bool, true, false, cond}
+use mathlib.Core.Bool.{true, false, cond}
 use mathlib.Core.List.{List, [], _∷_, _++_, append-nil}
 use mathlib.Core.Option.{Option, none, some}
 use native.Mathlib.Omega.{arith}
@@ -18,7 +18,7 @@ use Rattle.tables.specs.Answers.{nameOf, PackageIs}
 use Rattle.tables.specs.declared.locations.Carrier.{Carrier}
 use Rattle.tables.specs.declared.packages.Named.{Named}
 use Rattle.tables.specs.declared.packages.Package as read
-use Rattle.narrowing.specs.Bodies.{isNamed, oneEntry, PltPlace, PltIs}
+use Rattle.narrowing.specs.Bodies.{isNamed, oneEntry, PltIs}
 use Rattle.narrowing.specs.declared.plt.PltChange.{PltChange}
 use Rattle.narrowing.proofs.Behind.{behind, behind-nothing, behind-one, rest-of}
 

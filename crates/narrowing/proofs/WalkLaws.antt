@@ -1,21 +1,21 @@
 -- The tables of a PA body, one after the other, as the loops meet them: whether any changes, each as narrowing leaves it, and the head's
 -- entries with the new lengths. Rests on the walk's laws and on TableLaws and PaLaws of `meaning`.
-use Prim.Native.Nat.{ℕ, zero, suc, _+_, _-_, _*_, _%_, _≤_, _<_}
-use mathlib.Core.Path.{_≡_, refl, sym, ap, ap₂, _∙_, subst}
-use mathlib.Core.Bool.{Bool, true, false, cond, _&&_, _||_}
+use Prim.Native.Nat.{ℕ, _+_, _-_, _*_, _≤_, _<_}
+use mathlib.Core.Path.{_≡_, refl, sym, ap, ap₂, _∙_}
+use mathlib.Core.Bool.{Bool, true, false, _&&_, _||_}
 use mathlib.Core.List.{List, [], _∷_, _++_, map, flatten, append-assoc, append-nil}
-use mathlib.Core.Option.{Option, none, some, Option·map, Option·getD, Option·none-ne-some, Option·some-injective}
+use mathlib.Core.Option.{Option, none, some, Option·map, Option·getD}
 use native.Mathlib.Omega.{arith}
-use lib.ListN.{length, take, drop, getD, length-append, length-take, length-drop, take-append-drop}
+use lib.ListN.{length, take, drop, getD, length-append, length-take, length-drop}
 use lib.Seq.{take-at, drop-at, drop-drop, length-take-le, take-take, take-add}
-use lib.Dec.{leb, ltb, eqb}
+use lib.Dec.{ltb}
 use borrow.Author.Tests.{lt-ltb, le-ltb}
-use Rattle.meaning.specs.Bytes.{Bytes, be16At, put16}
+use Rattle.meaning.specs.Bytes.{Bytes, put16}
 use Rattle.meaning.specs.Lists.{any}
-use Rattle.meaning.specs.Readers.{Out, bind, raw, Walk, stop, next, walk}
-use Rattle.meaning.specs.Tables.{Table, table, PaHead, paHead}
+use Rattle.meaning.specs.Readers.{raw, Walk, stop, next, walk}
+use Rattle.meaning.specs.Tables.{Table, table}
 use Rattle.meaning.specs.Writing.{Wrote}
-use Rattle.meaning.specs.Narrow.{newBody, tableBytes, newTable, tableFrom, tableAfter, tableChanges, isSome, relength, paBytes}
+use Rattle.meaning.specs.Narrow.{newBody, tableBytes, newTable, tableAfter, tableChanges, isSome, relength, paBytes}
 use Rattle.meaning.proofs.Statements.{same-wishes}
 use Rattle.meaning.specs.declared.Options.{Options}
 use Rattle.meaning.proofs.Local.{table-local}
@@ -24,7 +24,7 @@ use Rattle.meaning.proofs.PaLaws.{Fours, head-split, relength-length, relength-
 use Rattle.meaning.proofs.TableLaws.{table-length}
 use Rattle.meaning.proofs.Writes.{wrote-none, wrote-then}
 use Rattle.tables.specs.Answers.{TableIs}
-use Rattle.tables.specs.declared.pa.Table.the-variants.{To, Cut, Done}
+use Rattle.tables.specs.declared.pa.Table.the-variants.{To}
 use Rattle.narrowing.proofs.Behind.{rest-of}
 use Rattle.narrowing.proofs.ExactLaws.{tableAt, raw-at, part-table, walk-next}
 use Rattle.narrowing.specs.declared.table.Change.{Change}

@@ -1,6 +1,6 @@
 -- What the three narrowings answer: the refusal's number, or nothing changed, or the narrowed bytes at the front of the output with the
 -- counts of the entries that stayed and went. Each fixes the whole output.
-use Prim.Native.Nat.{ℕ, zero, suc, _+_, _-_, _≤_}
+use Prim.Native.Nat.{ℕ, _+_, _-_, _≤_}
 use mathlib.Core.Path.{_≡_}
 use mathlib.Core.Bool.{Bool, true, false, cond}
 use mathlib.Core.List.{List, [], _∷_, _++_, map}
@@ -18,7 +18,6 @@ use Rattle.meaning.specs.declared.Part.the-variants.{Caption, Carousel, Other}
 use Rattle.meaning.specs.declared.Options.{Options}
 use Rattle.tables.specs.declared.fields.End.{End}
 use Rattle.narrowing.specs.Tables.{tablesIn, tablesAfter, tablesChange, Heads}
-use Rattle.narrowing.specs.declared.narrow.Narrowed.{Narrowed}
 use Rattle.narrowing.specs.declared.narrow.Pa.{Pa}
 
 abbrev pub zeros : List ℕ

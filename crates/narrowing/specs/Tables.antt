@@ -1,16 +1,16 @@
 -- What the functions on a table and on the tables of a PA body answer.
-use Prim.Native.Nat.{ℕ, _+_, _-_, _≤_, _<_}
+use Prim.Native.Nat.{ℕ, _+_, _≤_}
 use mathlib.Core.Path.{_≡_}
 use mathlib.Core.Bool.{Bool, true, false, _&&_}
-use mathlib.Core.List.{List, [], _∷_, _++_, map, flatten}
+use mathlib.Core.List.{List, _++_, map, flatten}
 use mathlib.Core.Option.{Option, none, some, Option·getD}
-use lib.ListN.{length, take, drop, getD}
+use lib.ListN.{length, drop, getD}
 use lib.Dec.{ltb}
 use Rattle.meaning.specs.Bytes.{Bytes, be16At}
 use Rattle.meaning.specs.Lists.{any}
-use Rattle.meaning.specs.Readers.{Out, Walk, walk, raw}
-use Rattle.meaning.specs.Tables.{Table, table, PaHead, paHead}
-use Rattle.meaning.specs.Narrow.{mptWithout, newTable, tableFrom, tableAfter, tableChanges, relength}
+use Rattle.meaning.specs.Readers.{Walk, walk, raw}
+use Rattle.meaning.specs.Tables.{Table, table, paHead}
+use Rattle.meaning.specs.Narrow.{mptWithout, newTable, tableFrom, tableAfter, tableChanges}
 use Rattle.meaning.specs.declared.Options.{Options}
 use Rattle.narrowing.specs.Bodies.{MptLess, PltPlace, oneEntry}
 use Rattle.narrowing.specs.declared.table.Change.{Change}

@@ -8,11 +8,6 @@ use Rattle.narrowing.proofs.WalkLaws.{changeFrom, change-start, change-
 use borrow.Author.Needs.{needs}
 use Rattle.narrowing.proofs.pa.pa_changes.Statement.{statement}
 use Rattle.narrowing.proofs.pa.pa_changes.Tie as tie
-use Rattle.narrowing.proofs.pa.pa_changes.Reads as reads
-use Rattle.narrowing.proofs.pa.pa_changes.Lts as lts
-use Rattle.narrowing.proofs.table.change_of.Reads as change-of-reads
-use Rattle.narrowing.proofs.table.changes.Reads as changes-reads
-use Rattle.tables.proofs.pa.table_at.Reads as table-at-reads
 
 abbrev Inv-loop : tie.InvT-loop
 Inv-loop s tables pid o at₀ changed₀ at changed = (at ≤ length s) × (tablesChange o pid (drop tables s) ≡ changeFrom o pid changed (drop at s))
