@@ -27,8 +27,8 @@ const USAGE: &str = "usage: oracle COMMAND
   narrow table|payload|packet [--flags N] [--service N] [--id N] [--room N] [--hex]
       [--by original|plain] [--out FILE]
                               one narrowing of standard input
-  cases --seeds A..B [--narrowing N]
-                              the seeds' cases, each with at most N narrowings
+  cases --seeds A..B [--narrowing N] [--streams 0]
+                              the seeds' cases, each with at most N narrowings and its stream, or none
   answers [--by original|plain]
                               the answers to the cases on standard input
   theorems --seeds A..B [--narrowing N] [--longest N] [--most N]
@@ -55,7 +55,7 @@ fn dispatch(command: &str, words: impl Iterator<Item = String>) -> Answer {
         "sums" => read(&[], &[]).and_then(|_| program(programs::sums::<Original>)),
         "run" => run_command(&read(RUN, &[])?),
         "narrow" => narrow_command(&read(NARROW, &["hex"])?),
-        "cases" => cases_command(&read(&["seeds", "narrowing"], &[])?),
+        "cases" => cases_command(&read(&["seeds", "narrowing", "streams"], &[])?),
         "answers" => answers_command(&read(&["by"], &[])?),
         "theorems" => theorems_command(&read(THEOREMS, &[])?),
         "compare" => compare_command("compared", compare::compare, &read(&["seeds"], &[])?),
@@ -120,9 +120,12 @@ fn narrow_command(arguments: &Arguments) -> Answer {
 
 fn cases_command(arguments: &Arguments) -> Answer {
     let most = arguments.number("narrowing", usize::MAX)?;
+    let streams = arguments.number("streams", 1)?;
     for seed in arguments.seeds()? {
         let mut writer = Writer::default();
-        writer.stream(&Stream::from(&maker::case(seed)));
+        if streams > 0 {
+            writer.stream(&Stream::from(&maker::case(seed)));
+        }
         for input in maker::inputs(seed).iter().take(most) {
             writer.narrowing(&Narrowing::from(input));
         }

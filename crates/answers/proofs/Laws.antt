@@ -1,0 +1,63 @@
+-- The wishes of a case's head, the lengths of an answer's parts, and what each kind of case changes.
+use Prim.Native.Nat.{ℕ, _/_, _%_, _≤_, _<_}
+use mathlib.Core.Path.{_≡_, refl, ap}
+use mathlib.Core.List.{List}
+use mathlib.Core.Option.{Option}
+use native.Mathlib.Omega.{arith}
+use lib.ListN.{length, getD, take, length-take, length-append}
+use borrow.Author.Tests.{eq-eqb, ne-eqb}
+use Rattle.meaning.specs.Bytes.{Bytes, be16At, put16, put32}
+use Rattle.meaning.specs.Writing.{Wrote}
+use Rattle.meaning.specs.Narrow.{Change, changeTable, changePayload, changePacket}
+use Rattle.meaning.specs.Programs.{isOne, serviceIf, optionsOf}
+use Rattle.meaning.specs.Refusals.{narrowingLength}
+use Rattle.meaning.specs.declared.Narrowing.{Narrowing}
+use Rattle.meaning.specs.declared.Options.{Options}
+use Rattle.meaning.specs.declared.Service.{Service}
+use Rattle.meaning.specs.declared.Service.the-variants.{Every, Only}
+use Rattle.narrowing.specs.Answers.{NarrowedAs}
+use Rattle.answers.specs.Answers.{rowBytes, frontBytes, changeAs}
+
+pub service-named : (f s : ℕ) → f ≡ 1 → Only s ≡ serviceIf f s
+service-named f s e = rw e
+
+pub service-every : (f s : ℕ) → f < 2 → (f ≡ 1 → ⊥) → Every ≡ serviceIf f s
+service-every f s h n = let z : f ≡ 0 = omega (arith, n) in rw z
+
+abbrev with-service : ℕ → Service → Options
+with-service flags x = record { service = x; caption = isOne (flags % 2); carousel = isOne (flags / 2 % 2); eit = isOne (flags / 4 % 2) }
+
+pub options-with : (flags s : ℕ) (x : Service) → x ≡ serviceIf (flags / 8 % 2) s → with-service flags x ≡ optionsOf flags s
+unfolding optionsOf
+options-with flags s x e = ap (with-service flags) e
+
+pub twelve : (row : List ℕ) → length (rowBytes row) ≡ 12
+unfolding rowBytes put32 put16
+twelve row = refl
+
+pub six : (n : Narrowing) → length (frontBytes n) ≡ 6
+unfolding frontBytes put32 put16
+six n = refl
+
+module _ (kind : ℕ) (head input : Bytes) (o : Options) (s : ℕ) (i : s ≡ be16At head 1) (e : o ≡ optionsOf (getD head 0 0) s) where
+  pub case-table : kind ≡ 1 → changeAs kind head input ≡ changeTable o input
+  unfolding changeAs
+  case-table k = rw (e, i, eq-eqb kind 1 k)
+
+  pub case-payload : (p : ℕ) → p ≡ be16At head 3 → (kind ≡ 1 → ⊥) → kind ≡ 2 → changeAs kind head input ≡ changePayload o p input
+  unfolding changeAs
+  case-payload p j n k = rw (e, i, j, ne-eqb kind 1 n, eq-eqb kind 2 k)
+
+  pub case-packet : (kind ≡ 1 → ⊥) → (kind ≡ 2 → ⊥) → changeAs kind head input ≡ changePacket o input
+  unfolding changeAs
+  case-packet n m = rw (e, i, ne-eqb kind 1 n, ne-eqb kind 2 m)
+
+-- What was written lies within the output.
+pub told-within : (x : ℕ) (n : Option Change) (d d′ : Bytes) (r : Narrowing) (s w : List ℕ) → NarrowedAs x n d d′ r s w → narrowingLength r ≤ length d′
+unfolding narrowingLength
+told-within x n d d′ (Narrowing.Refused r) s w h = omega arith
+told-within x n d d′ Narrowing.Unchanged s w h = omega arith
+told-within x n d d′ (Narrowing.Changed k) s w h =
+    let c : Change = h .1 .0 in
+    let u : Wrote (c .out) d 0 d′ k = h .1 .2 in
+    omega (arith, u .end, length-take k d′, length-append (take 0 d) (c .out), ap length (u .front))

@@ -1,0 +1,33 @@
+-- The bytes of an answer's head, and what a case asks for: docs/ARCHITECTURE.md, "Format of cases and answers".
+use Prim.Native.Nat.{ℕ}
+use mathlib.Core.Bool.{cond}
+use mathlib.Core.List.{List, [], _∷_, _++_}
+use mathlib.Core.Option.{Option}
+use lib.Dec.{eqb}
+use lib.ListN.{getD}
+use Rattle.meaning.specs.Bytes.{Bytes, be16At, put32}
+use Rattle.meaning.specs.Narrow.{Change, changeTable, changePayload, changePacket}
+use Rattle.meaning.specs.Programs.{optionsOf}
+use Rattle.meaning.specs.Refusals.{narrowingNumber, narrowingLength}
+use Rattle.meaning.specs.declared.Narrowing.{Narrowing}
+
+unfoldable pub changedFlag : Narrowing → ℕ
+changedFlag (Narrowing.Refused r) = 0
+changedFlag Narrowing.Unchanged = 0
+changedFlag (Narrowing.Changed n) = 1
+
+-- Three counts.
+unfoldable pub rowBytes : List ℕ → Bytes
+rowBytes row = put32 (getD row 0 0) ++ (put32 (getD row 1 0) ++ put32 (getD row 2 0))
+
+unfoldable pub frontBytes : Narrowing → Bytes
+frontBytes n = (narrowingNumber n ∷ []) ++ ((changedFlag n ∷ []) ++ put32 (narrowingLength n))
+
+unfoldable pub headBytes : Narrowing → List ℕ → List ℕ → Bytes
+headBytes n stayed went = frontBytes n ++ (rowBytes stayed ++ rowBytes went)
+
+-- What a case of a kind changes, by its head from the flags on.
+unfoldable pub changeAs : ℕ → Bytes → Bytes → Option Change
+changeAs kind head input =
+    let o = optionsOf (getD head 0 0) (be16At head 1) in
+    cond (eqb kind 1) (changeTable o input) (cond (eqb kind 2) (changePayload o (be16At head 3) input) (changePacket o input))

@@ -1,0 +1,212 @@
+// Answers to a batch of cases on standard input, in the format of docs/ARCHITECTURE.md: kinds 1 to 3, narrowings. No contract can say
+// which bytes are read or written, so the promises stop at what is read from and written to the program's own arrays.
+ghost use mathlib.Core.Path.{_≡_};
+ghost use Prim.Native.Nat.{_+_, _/_, _%_, _≤_, _<_};
+ghost use lib.ListN.{length};
+ghost use Rattle.meaning.specs.Writing.{Wrote};
+ghost use Rattle.meaning.specs.Programs.{serviceIf, optionsOf};
+ghost use Rattle.meaning.specs.Refusals.{numberOf, narrowingNumber, narrowingLength, narrowRefusal};
+ghost use Rattle.narrowing.specs.Answers.{NarrowedAs};
+ghost use Rattle.answers.specs.Answers.{changedFlag, rowBytes, frontBytes, headBytes, changeAs};
+use meaning::Narrowing;
+use meaning::Options;
+use meaning::Refusal;
+use meaning::Service;
+use narrowing::narrow::Narrowed;
+use narrowing::narrow::narrow_packet;
+use narrowing::narrow::narrow_payload;
+use narrowing::narrow::narrow_table;
+use octets::be32;
+use octets::id16;
+use octets::put8;
+use octets::put32;
+
+// The rooms: the longest input and the longest output of a case.
+const INPUT: usize = 131200;
+
+const OUTPUT: usize = 262400;
+
+fn service_of(flags: u8, service: u16) -> Service
+    ensures { λ r. ⌜ r ≡ serviceIf (flags / 8 % 2) service ⌝ }
+{
+    if flags / 8 % 2 == 1 {
+        return Service::Only(service);
+    }
+    Service::Every
+}
+
+fn options_of(flags: u8, service: u16) -> Options
+    ensures { λ r. ⌜ r ≡ optionsOf flags service ⌝ }
+{
+    Options {
+        service: service_of(flags, service),
+        caption: flags % 2 == 1,
+        carousel: flags / 2 % 2 == 1,
+        eit: flags / 4 % 2 == 1,
+    }
+}
+
+// The number of a refusal.
+fn number_of(r: Refusal) -> u8
+    ensures { λ n. ⌜ n ≡ numberOf r ⌝ }
+{
+    match r {
+        Refusal::WorkRoom => 1,
+        Refusal::FragmentRoom => 2,
+        Refusal::MapRoom => 3,
+        Refusal::Unsound => 4,
+        Refusal::Long => 5,
+        Refusal::Short => 6,
+        Refusal::Tally => 7,
+        Refusal::Input => 8,
+    }
+}
+
+fn refused_number(n: Narrowing) -> u8
+    ensures { λ r. ⌜ r ≡ narrowingNumber n ⌝ }
+{
+    match n {
+        Narrowing::Refused(r) => number_of(r),
+        Narrowing::Unchanged => 0,
+        Narrowing::Changed(_) => 0,
+    }
+}
+
+fn changed_flag(n: Narrowing) -> u8
+    ensures { λ r. ⌜ r ≡ changedFlag n ⌝ }
+{
+    match n {
+        Narrowing::Refused(_) => 0,
+        Narrowing::Unchanged => 0,
+        Narrowing::Changed(_) => 1,
+    }
+}
+
+fn changed_length(n: Narrowing) -> usize
+    ensures { λ r. ⌜ r ≡ narrowingLength n ⌝ }
+{
+    match n {
+        Narrowing::Refused(_) => 0,
+        Narrowing::Unchanged => 0,
+        Narrowing::Changed(k) => k,
+    }
+}
+
+// Writes three counts at `to`; answers the place past them.
+fn put_row(out: &mut [u8], to: usize, row: [u64; 3]) -> usize
+    requires { ⌜ to + 12 ≤ length (now out) ⌝ }
+    ensures { λ r. ⌜ Wrote (rowBytes row) (now (out .entry)) to (now (out .exit)) r ⌝ }
+{
+    let a = put32(out, to, row[0] as usize);
+    let b = put32(out, a, row[1] as usize);
+    put32(out, b, row[2] as usize)
+}
+
+// Writes the refusal's number, whether it is changed, and the length; answers the place past them.
+fn put_front(out: &mut [u8], n: Narrowing) -> usize
+    requires { ⌜ 6 ≤ length (now out) ⌝ }
+    ensures { λ r. ⌜ Wrote (frontBytes n) (now (out .entry)) 0 (now (out .exit)) r ⌝ }
+{
+    let a = put8(out, 0, refused_number(n));
+    let b = put8(out, a, changed_flag(n));
+    put32(out, b, changed_length(n))
+}
+
+// Writes the head of an answer; answers the place past it.
+fn put_head(out: &mut [u8], r: Narrowed) -> usize
+    requires { ⌜ 30 ≤ length (now out) ⌝ }
+    ensures { λ e. ⌜ Wrote (headBytes (r .narrowing) (r .stayed) (r .went)) (now (out .entry)) 0 (now (out .exit)) e ⌝ }
+{
+    let n = r.narrowing;
+    let a = put_front(out, n);
+    let stayed = r.stayed;
+    let b = put_row(out, a, stayed);
+    let went = r.went;
+    put_row(out, b, went)
+}
+
+// The head of an answer, and the bytes that were written.
+fn tell(r: Narrowed, out: &[u8])
+    requires { ⌜ narrowingLength (r .narrowing) ≤ length (now out) ⌝ }
+{
+    let mut head = [0u8; 30];
+    put_head(&mut head, r);
+    io::write_all(1, &head);
+    let n = r.narrowing;
+    let len = changed_length(n);
+    io::write_all(1, &out[0..len]);
+}
+
+// The answer to a case of kind 1 to 3, by the rest of its head.
+fn narrow(kind: u8, head: &[u8], input: &[u8], out: &mut [u8]) -> Narrowed
+    requires { ⌜ 5 ≤ length (now head) ⌝ }
+    ensures { λ r. ⌜ NarrowedAs (narrowRefusal (length (now (input .entry))) (length (now (out .entry)))) (changeAs kind (now (head .entry)) (now (input .entry))) (now (out .entry)) (now (out .exit)) (r .narrowing) (r .stayed) (r .went) ⌝ }
+{
+    let o = options_of(head[0], id16(head, 1));
+    if kind == 1 {
+        return narrow_table(input, o, out);
+    }
+    if kind == 2 {
+        return narrow_payload(input, id16(head, 3), o, out);
+    }
+    narrow_packet(input, o, out)
+}
+
+// The input of a case, its narrowing and the answer; answers whether another may follow.
+fn answer_case(kind: u8, head: &[u8], input: &mut [u8], out: &mut [u8]) -> bool
+    requires { ⌜ 5 ≤ length (now head) ⌝ }
+{
+    if io::read_full(0, input) != input.len() {
+        return false;
+    }
+    let r = narrow(kind, head, input, out);
+    tell(r, out);
+    true
+}
+
+// One case of kind 1 to 3, within the rooms that are lent; answers whether another may follow.
+fn one_narrowing(kind: u8, input: &mut [u8], out: &mut [u8]) -> bool {
+    let mut head = [0u8; 13];
+    if io::read_full(0, &mut head) != 13 {
+        return false;
+    }
+    if 15 < head[0] {
+        return false;
+    }
+    let room = be32(&head, 5);
+    let len = be32(&head, 9);
+    if out.len() < room {
+        return false;
+    }
+    if input.len() < len {
+        return false;
+    }
+    answer_case(kind, &head, &mut input[0..len], &mut out[0..room])
+}
+
+fn in_rooms(kind: u8, input: &mut [u8; INPUT], out: &mut [u8; OUTPUT]) -> bool {
+    one_narrowing(kind, input, out)
+}
+
+fn main() {
+    let mut kind = [0u8; 1];
+    let mut input = [0u8; INPUT];
+    let mut out = [0u8; OUTPUT];
+    let mut turns = u64::MAX;
+    while 0 < turns {
+        turns -= 1;
+        if io::read_full(0, &mut kind) != 1 {
+            return;
+        }
+        let k = kind[0];
+        if k == 0 {
+            return;
+        }
+        if 3 < k {
+            return;
+        }
+        if !in_rooms(k, &mut input, &mut out) {
+            return;
+        }
+    }
+}
