@@ -97,13 +97,19 @@ unfolding cut
 cut-skip P [] e = clash (cc (step-nil P))
 cut-skip P (b ∷ s) e = rw e
 
-pub cut-packet : (P : ℕ) (s : Bytes) (n : ℕ) → stepOf P s ≡ Packet n → 0 < n → cut P s ≡ accept (take n s) (cut P (drop n s))
-unfolding cut
-cut-packet P [] n e h = clash (cc (step-nil P))
-cut-packet P (b ∷ s) n e h = rw (e, past-drop P (n - 1) s, drop-pos n b s)
+-- a packet found is as long as its head says, so it is not empty
+found-size : (P : ℕ) (s : Bytes) (n : ℕ) (t : Step) → View P s t → t ≡ Packet n → n ≡ sizeOf s
+found-size P s n t (short h) e = clash (cc e)
+found-size P s n t (no-start h c) e = clash (cc e)
+found-size P s n t (long h c l) e = clash (cc e)
+found-size P s n t (whole h c l) e = cc e
 
-cut-size : (P : ℕ) (s : Bytes) → stepOf P s ≡ Packet (sizeOf s) → cut P s ≡ accept (take (sizeOf s) s) (cut P (drop (sizeOf s) s))
-cut-size P s e = cut-packet P s (sizeOf s) e (omega (arith, size-four s))
+pub cut-packet : (P : ℕ) (s : Bytes) (n : ℕ) → stepOf P s ≡ Packet n → cut P s ≡ accept (take n s) (cut P (drop n s))
+unfolding cut
+cut-packet P [] n e = clash (cc (step-nil P))
+cut-packet P (b ∷ s) n e =
+    let size = found-size P (b ∷ s) n (stepOf P (b ∷ s)) (view P (b ∷ s)) e in
+    rw (e, past-drop P (n - 1) s, drop-pos n b s (omega (arith, size, size-four (b ∷ s))))
 
 -- ---- what follows
 
@@ -118,7 +124,7 @@ conserved P =
     by-steps P (λ (s : Bytes). lengths (cut P s .packets) + cut P s .skipped + length (cut P s .held) ≡ length s)
     (λ s e. rw (cut-keep P s e) (omega arith))
     (λ s e h c ih. rw (cut-skip P s e) (omega (arith, length-drop 1 s)))
-    (λ s e h c l ih. rw (cut-size P s e) (omega (arith, length-drop (sizeOf s) s, length-take-le (sizeOf s) s l)))
+    (λ s e h c l ih. rw (cut-packet P s (sizeOf s) e) (omega (arith, length-drop (sizeOf s) s, length-take-le (sizeOf s) s l)))
 
 -- so held before + chunk = accepted packets' bytes + skipped + held after
 pub byte-equation : (P : ℕ) (held chunk : Bytes)
@@ -137,4 +143,4 @@ held-below P p =
     by-steps P (λ (s : Bytes). length (cut P s .held) < P)
     (λ s e. rw (cut-keep P s e) (held-here P s (stepOf P s) (view P s) e p))
     (λ s e h c ih. rw (cut-skip P s e) ih)
-    (λ s e h c l ih. rw (cut-size P s e) ih)
+    (λ s e h c l ih. rw (cut-packet P s (sizeOf s) e) ih)

@@ -3,9 +3,9 @@
 use Prim.Native.Nat.{ℕ, zero, suc, _+_, _-_, _*_, _%_, _≤_, _<_}
 use mathlib.Core.Path.{_≡_, refl, sym, ap, _∙_}
 use mathlib.Core.Bool.{Bool, true, false, cond}
-use mathlib.Core.List.{List, [], _∷_}
+use mathlib.Core.List.{List, [], _∷_, _++_, append-assoc}
 use mathlib.Core.Option.{Option, none, some}
-use native.Mathlib.Nat.{not-suc-le-zero, mod-eq-of-lt}
+use native.Mathlib.Nat.{not-suc-le-zero}
 use native.Mathlib.Numerals.{add-one, sub-one}
 use native.Mathlib.Decide.{decLt}
 use native.Mathlib.Omega.{arith}
@@ -36,11 +36,6 @@ module _ (s : Bytes) (at : ℕ) where
   pub u8-some : (e : ℕ) → at < length s → e ≡ at + 1 → u8 (drop at s) ≡ some (getD s at 0 % 256, drop e s)
   unfolding u8
   u8-some e h q = rw (byte-at e h q)
-
-  -- a byte of the code is below 256
-  pub u8-at : (e : ℕ) → at < length s → getD s at 0 < 256 → e ≡ at + 1 → u8 (drop at s) ≡ some (getD s at 0, drop e s)
-  unfolding u8
-  u8-at e h b q = rw (byte-at e h q, mod-eq-of-lt b)
 
   pub bytes-at : (n e : ℕ) → e ≤ length s → e ≡ at + n → bytes n (drop at s) ≡ some (take n (drop at s), drop e s)
   unfolding bytes
@@ -85,9 +80,9 @@ module _ (s : Bytes) (at : ℕ) where
   unfolding counted8
   counted8-none h = rw (u8-none s at h)
 
-  pub counted8-at : at < length s → getD s at 0 < 256 → counted8 (drop at s) ≡ bytes (getD s at 0) (drop (at + 1) s)
+  pub counted8-at : at < length s → counted8 (drop at s) ≡ bytes (getD s at 0 % 256) (drop (at + 1) s)
   unfolding counted8
-  counted8-at h b = rw (u8-at s at (at + 1) h b refl)
+  counted8-at h = rw (u8-some s at (at + 1) h refl)
 
   pub counted16-none : length s < at + 2 → counted16 (drop at s) ≡ none
   unfolding counted16
@@ -117,3 +112,18 @@ module _ {A : Type 0} (p : Reader A) (s : Bytes) where
   unfolding many
   many-next zero a r h e = absurd (not-suc-le-zero h)
   many-next (suc n) a r h e = rw (e, sub-one)
+
+module _ {A : Type 0} where
+  -- `pre` before what is read next
+  abbrev pub behind : List A → Out (List A) → Out (List A)
+  behind pre o = bind o (λ as′ r. some (pre ++ as′, r))
+
+  -- nothing before it
+  pub behind-nothing : (o : Out (List A)) → o ≡ behind [] o
+  behind-nothing none = refl
+  behind-nothing (some x) = refl
+
+  -- one more before it
+  pub behind-one : (pre : List A) (a : A) (o : Out (List A)) → behind pre (bind o (λ as′ r. some (a ∷ as′, r))) ≡ behind (pre ++ a ∷ []) o
+  behind-one pre a none = refl
+  behind-one pre a (some x) = rw (append-assoc pre (a ∷ []) (x .0))

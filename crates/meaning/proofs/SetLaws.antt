@@ -5,7 +5,7 @@ use mathlib.Core.Bool.{Bool, true, false, cond}
 use native.Mathlib.Nat.{add-zero, add-suc, pow-succ', div-div-eq-div-mul, div-one, pow-suc, one-mul, mod-eq-of-lt, mod-lt, div-eq-of-lt, mul-div-cancel, div-self, mul-mod-left}
 use native.Mathlib.Omega.{arith}
 use native.Mathlib.Decide.{ℕ-discrete, decLt}
-use lib.Pow.{pow-lt, pow-pos, pow-add}
+use lib.Pow.{pow-lt, pow-pos, pow-add, field, mod-mod-pow}
 use lib.Arith.{lt-one, digits-mod, lt-of-le-ne}
 use lib.Bits.{bitOr, or-shr, or-step}
 use lib.Count.{ones, onesIn, ones-step}
@@ -111,9 +111,16 @@ in-word ws i k h =
     let r : (i * 64 + k) % 64 ≡ k = omega arith in
     rw (q, r)
 
+-- bits below 64 are those of the number's rest by 2^64
+bit-low : (w k : ℕ) → k < 64 → bitAt (w % 2 ^ 64) k ≡ bitAt w k
+bit-low w k h =
+    let e : 64 ≡ 63 - k + 1 + k = omega arith in
+    ap (λ (n : ℕ). w % 2 ^ n / 2 ^ k % 2) e ∙ ap (λ (x : ℕ). x % 2) (field w (63 - k + 1) k) ∙ mod-mod-pow (w / 2 ^ k) (63 - k) 1
+
 -- the identifiers of the words up to word i: those of the words before it, and its ones
-pub ones-turn : (ws : Words) (i : ℕ) → getD ws i 0 < 2 ^ 64 → howMany (inSet ws) ((i + 1) * 64) ≡ howMany (inSet ws) (i * 64) + ones (getD ws i 0)
-ones-turn ws i h =
+pub ones-turn : (ws : Words) (i : ℕ) → howMany (inSet ws) ((i + 1) * 64) ≡ howMany (inSet ws) (i * 64) + ones (getD ws i 0 % 2 ^ 64)
+ones-turn ws i =
+    let w = getD ws i 0 in
     let e : (i + 1) * 64 ≡ i * 64 + 64 = omega arith in
-    let word = ones-many 64 (getD ws i 0) h ∙ sym (many-same (λ k. inSet ws (i * 64 + k)) (λ k. eqb (bitAt (getD ws i 0) k) 1) 64 (in-word ws i)) in
-    ap (howMany (inSet ws)) e ∙ many-cat (inSet ws) (i * 64) 64 ∙ ap (λ (n : ℕ). howMany (inSet ws) (i * 64) + n) (sym word)
+    let same = many-same (λ k. inSet ws (i * 64 + k)) (λ k. eqb (bitAt (w % 2 ^ 64) k) 1) 64 (λ k h. in-word ws i k h ∙ ap (λ (b : ℕ). eqb b 1) (sym (bit-low w k h))) in
+    ap (howMany (inSet ws)) e ∙ many-cat (inSet ws) (i * 64) 64 ∙ ap (λ (n : ℕ). howMany (inSet ws) (i * 64) + n) (same ∙ sym (ones-many 64 (w % 2 ^ 64) (mod-lt w (pow-pos 64))))

@@ -84,22 +84,22 @@ run-holds L o st (c ∷ cs) four h =
 
 -- ---- numbers that hold two or three
 
-pub pair-pack : (x : ℕ × ℕ) → x .1 < 65536 → pairOf (packPair x) ≡ x
+pair-pack : (x : ℕ × ℕ) → x .1 < 65536 → pairOf (packPair x) ≡ x
 unfolding pairOf packPair
 pair-pack x h = ap₂ (λ (a b : ℕ). (a, b)) (omega arith) (omega arith)
 
 abbrev SmallHead : Fragment → Type 0
 SmallHead f = (f .flags < 256) × (length (f .body) < 1099511627776)
 
-pub head-identifier : (f : Fragment) → SmallHead f → headIdentifier (packHead f) ≡ f .identifier
+head-identifier : (f : Fragment) → SmallHead f → headIdentifier (packHead f) ≡ f .identifier
 unfolding headIdentifier packHead
 head-identifier f h = omega (arith, h .0, h .1)
 
-pub head-flags : (f : Fragment) → SmallHead f → headFlags (packHead f) ≡ f .flags
+head-flags : (f : Fragment) → SmallHead f → headFlags (packHead f) ≡ f .flags
 unfolding headFlags packHead
 head-flags f h = omega (arith, h .0, h .1)
 
-pub head-length : (f : Fragment) → SmallHead f → headLength (packHead f) ≡ length (f .body)
+head-length : (f : Fragment) → SmallHead f → headLength (packHead f) ≡ length (f .body)
 unfolding headLength packHead
 head-length f h = omega (arith, h .0, h .1)
 

@@ -4,12 +4,13 @@ use mathlib.Core.Path.{_≡_, refl, sym, ap, _∙_}
 use mathlib.Core.Bool.{Bool, true, false, not}
 use mathlib.Core.List.{List, [], _∷_, _++_, map, Sublistᴰ}
 use mathlib.Core.Option.{Option, none, some, Option·getD}
+use native.Mathlib.Omega.{arith}
 use lib.ListN.{length}
 use Rattle.meaning.specs.Bytes.{Bytes}
 use Rattle.meaning.specs.Lists.{keep, count}
 use Rattle.meaning.specs.Packets.{cut}
 use Rattle.meaning.specs.Tables.{Entry, Mpt, mpt, Table, table}
-use Rattle.meaning.specs.Narrow.{wanted, wantedEntry, mptBody, mptWithout, tableBytes, narrowTable, narrowPayload, narrowPacket, narrowedPacket, isPart}
+use Rattle.meaning.specs.Narrow.{wanted, wantedEntry, mptBody, mptWithout, newBody, tableBytes, narrowTable, narrowPayload, narrowPacket, narrowedPacket, isPart}
 use Rattle.meaning.specs.Learn.{Limits}
 use Rattle.meaning.specs.Rules.{copiesAll}
 use Rattle.meaning.specs.Refusals.{packetLimit}
@@ -20,7 +21,7 @@ use Rattle.meaning.specs.declared.Part.{Part}
 use Rattle.meaning.specs.declared.Options.{Options}
 use Rattle.meaning.proofs.ListLaws.{keep-sublist, stay-go}
 use Rattle.meaning.proofs.CutLaws.{lengths, byte-equation}
-use Rattle.meaning.proofs.TableLaws.{mpt-reads, table-again, withBody}
+use Rattle.meaning.proofs.TableLaws.{mpt-reads, table-again, table-split, body-narrows, withBody}
 use Rattle.meaning.proofs.NarrowLaws.{alone-narrows, payload-narrows, packet-narrows}
 
 -- ---- no byte is lost: held before + chunk = accepted packets' bytes + skipped + held after
@@ -33,6 +34,9 @@ bytes-add-up L o st chunk e = rw e (byte-equation (packetLimit (L .work)) (st .h
 
 -- ---- a narrowed table
 
+pub same-wishes : (o : Options) → Fewer o o
+same-wishes o = record { service-same = refl; caption-too = λ e. e; carousel-too = λ e. e; eit-too = λ e. e }
+
 -- Its entries are those of the old table that are wanted, in order, and its count is their number.
 pub entries-are-wanted : (o : Options) (b : Bytes) (m : Mpt) (more : Bytes) → mpt b ≡ some (m, more)
     → (mpt (mptBody (m .front) (keep (wantedEntry o) (m .entries)) more) ≡ some (record { front = m .front; entries = keep (wantedEntry o) (m .entries) }, more))
@@ -40,8 +44,12 @@ pub entries-are-wanted : (o : Options) (b : Bytes) (m : Mpt) (more : Bytes) → 
 entries-are-wanted o b m more e = (mpt-reads o b m more e, keep-sublist (wantedEntry o) (m .entries))
 
 -- Its length fits its bytes: whatever follows, it reads as itself.
-pub length-fits : (t : Table) (b rest : Bytes) → length b < 65536 → table (tableBytes t b ++ rest) ≡ some (withBody t b, rest)
-length-fits t b rest h = table-again t b rest h
+pub length-fits : (o : Options) (p : ℕ) (s more : Bytes) (t : Table) → table s ≡ some (t, more) → (b : Bytes) → newBody o p (t .number) (t .body) ≡ some b
+    → (rest : Bytes) → table (tableBytes t b ++ rest) ≡ some (withBody t b, rest)
+length-fits o p s more t e b q rest =
+    let few = table-split s t more e .few in
+    let less = body-narrows (same-wishes o) p (t .number) .shorter (t .body) b q in
+    table-again t b rest (omega (arith, few, less))
 
 -- Of each kind, those that stayed and those that went are those that were there.
 pub stayed-and-went : (o : Options) (kind : Part) (ps : List Part)
@@ -49,9 +57,6 @@ pub stayed-and-went : (o : Options) (kind : Part) (ps : List Part)
 stayed-and-went o kind ps = stay-go (wanted o) (isPart kind) ps
 
 -- ---- narrowing is never longer, and again changes nothing
-
-pub same-wishes : (o : Options) → Fewer o o
-same-wishes o = record { service-same = refl; caption-too = λ e. e; carousel-too = λ e. e; eit-too = λ e. e }
 
 pub table-shorter : (o : Options) (t y : Bytes) → narrowTable o t ≡ some y → length y ≤ length t
 table-shorter o = alone-narrows (same-wishes o) .shorter

@@ -19,7 +19,8 @@ use Rattle.meaning.specs.Narrow.{wanted, isPart, byPart, stayed, went, partsFro
 use Rattle.meaning.specs.declared.Part.{Part}
 use Rattle.meaning.specs.declared.Part.the-variants.{Caption, Carousel, Other}
 use Rattle.meaning.specs.declared.Options.{Options}
-use Rattle.meaning.proofs.Reading.{past, u8-at, u8-none, many-none, many-next}
+use Rattle.meaning.proofs.Reading.{past, u8-none, many-none, many-next}
+use Rattle.octets.proofs.ByteLaws.{u8-at}
 use Rattle.meaning.proofs.TableLaws.{mpt-split}
 use Rattle.tables.specs.Answers.{Ends, AssetIs, TableIs}
 use Rattle.tables.specs.declared.assets.Asset.{Asset}

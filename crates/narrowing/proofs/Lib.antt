@@ -1,5 +1,4 @@
 -- Laws for narrowing, one for each return of a function and each turn of a loop.
-pub mod Behind
 pub mod MptLaws
 pub mod PltLaws
 pub mod ExactLaws

@@ -18,7 +18,8 @@ use Rattle.meaning.specs.Narrow.{wanted, wantedEntry, mptBody, mptWithout}
 use Rattle.meaning.specs.declared.Part.{Part}
 use Rattle.meaning.specs.declared.Options.{Options}
 use Rattle.meaning.proofs.ListLaws.{keep-length, keep-all}
-use Rattle.meaning.proofs.Reading.{past, u8-at, u8-none, many-none, many-next}
+use Rattle.meaning.proofs.Reading.{past, u8-none, many-none, many-next, behind, behind-nothing, behind-one}
+use Rattle.octets.proofs.ByteLaws.{u8-at, rest-of}
 use Rattle.meaning.proofs.Framed.{many-framed}
 use Rattle.meaning.proofs.TableLaws.{entry-framed}
 use Rattle.meaning.proofs.Writes.{wrote-none, wrote-then}
@@ -28,7 +29,6 @@ use Rattle.tables.specs.declared.fields.End.{End}
 use Rattle.tables.specs.declared.locations.Carrier.{Carrier}
 use Rattle.narrowing.specs.Bodies.{bytesOf, keptBytes, WalkIs, MptLess}
 use Rattle.narrowing.specs.declared.mpt.Walk.{Walk}
-use Rattle.narrowing.proofs.Behind.{behind, behind-nothing, behind-one, rest-of}
 
 -- ---- those kept of two lists, and of a list and one more
 

@@ -12,7 +12,8 @@ use Rattle.meaning.specs.Readers.{many}
 use Rattle.meaning.specs.Tables.{Package, packageEntry, plt, serviceOf}
 use Rattle.meaning.specs.Narrow.{isService, lastOf, pltOnly}
 use Rattle.meaning.specs.Writing.{Wrote}
-use Rattle.meaning.proofs.Reading.{u8-at, u8-none, many-none, many-next}
+use Rattle.meaning.proofs.Reading.{u8-none, many-none, many-next, behind, behind-nothing, behind-one}
+use Rattle.octets.proofs.ByteLaws.{u8-at, rest-of}
 use Rattle.meaning.proofs.Writes.{wrote-then}
 use Rattle.tables.specs.Answers.{nameOf, PackageIs}
 use Rattle.tables.specs.declared.locations.Carrier.{Carrier}
@@ -20,7 +21,6 @@ use Rattle.tables.specs.declared.packages.Named.{Named}
 use Rattle.tables.specs.declared.packages.Package as read
 use Rattle.narrowing.specs.Bodies.{isNamed, oneEntry, PltIs}
 use Rattle.narrowing.specs.declared.plt.PltChange.{PltChange}
-use Rattle.narrowing.proofs.Behind.{behind, behind-nothing, behind-one, rest-of}
 
 -- a name and a service, as the code and as the definitions test them
 named-service : (s : ℕ) (n : Option ℕ) → isNamed (nameOf n) s ≡ isService s n

@@ -18,7 +18,8 @@ use Rattle.meaning.specs.Tables.{clockRelation, location, asset, entry, sameByt
 use Rattle.meaning.proofs.ListLaws.{clash}
 use Rattle.meaning.proofs.Local.{asset-local}
 use Rattle.meaning.proofs.Framed.{progress}
-use Rattle.meaning.proofs.Reading.{u8-at, u8-none, bytes-at, bytes-none, counted8-none}
+use Rattle.meaning.proofs.Reading.{u8-none, bytes-at, bytes-none, counted8-none}
+use Rattle.octets.proofs.ByteLaws.{u8-at}
 use Rattle.tables.specs.Answers.{Ends, LocationsAre, assetTail, AssetIs}
 use Rattle.tables.specs.declared.fields.End.{End}
 use Rattle.tables.specs.declared.locations.Carrier.{Carrier}

@@ -3,13 +3,14 @@
 use Prim.Native.Nat.{ℕ, zero, suc, _+_, _-_, _≤_, _<_}
 use mathlib.Core.Path.{_≡_, refl, _∙_}
 use mathlib.Core.Logic.{_⊎_, inl, inr}
-use mathlib.Core.List.{List, [], _∷_, _++_, append-assoc, append-nil}
+use mathlib.Core.List.{List, [], _∷_, _++_, append-nil}
 use mathlib.Core.Option.{Option, none, some}
 use lib.ListN.{length, drop, getD}
 use Rattle.meaning.specs.Bytes.{Bytes, be16At}
 use Rattle.meaning.specs.Readers.{Out, bind, give, bytes, many}
 use Rattle.meaning.specs.Tables.{locationBody, location, firstOf}
-use Rattle.meaning.proofs.Reading.{u8-at, u8-none, u16-at, u16-none, many-none, many-next}
+use Rattle.meaning.proofs.Reading.{u8-none, u16-at, u16-none, many-none, many-next, behind, behind-nothing, behind-one}
+use Rattle.octets.proofs.ByteLaws.{u8-at}
 use Rattle.tables.specs.Answers.{Ends, carrierOf, LocationIs, LocationsAre, elsewhereOf, firstCarrier}
 use Rattle.tables.specs.declared.fields.End.{End}
 use Rattle.tables.specs.declared.locations.Carrier.{Carrier}
@@ -69,19 +70,6 @@ first-more [] none = refl
 first-more [] (some p) = refl
 first-more (none ∷ pre) a = first-more pre a
 first-more (some p ∷ pre) a = refl
-
--- `pre` before what is read next
-abbrev behind : {A : Type 0} → List A → Out (List A) → Out (List A)
-behind pre o = bind o (λ as′ r. some (pre ++ as′, r))
-
--- nothing before it, and one more before it
-behind-nothing : {A : Type 0} (o : Out (List A)) → o ≡ behind [] o
-behind-nothing none = refl
-behind-nothing (some x) = refl
-
-behind-one : {A : Type 0} (pre : List A) (a : A) (o : Out (List A)) → behind pre (bind o (λ as′ r. some (a ∷ as′, r))) ≡ behind (pre ++ a ∷ []) o
-behind-one pre a none = refl
-behind-one pre a (some x) = rw (append-assoc pre (a ∷ []) (x .0))
 
 -- Of `count` locations at `at`, `pre` were read, up to `to`, and `left` are left.
 pub record Sofar (s : Bytes) (at count to left : ℕ) (found : Carrier) : Type 0 where

@@ -7,27 +7,21 @@ use Rattle.octets.proofs.be32.Reads as reads
 use Rattle.octets.proofs.be32.Lts as lts
 use Rattle.octets.proofs.be16.Reads as be16-reads
 
--- src/lib.rt:45:5
 be16-requires : tie.Need-be16-requires
 be16-requires c κs = search needs
 
--- src/lib.rt:45:5
 mul-result : tie.Need-mul-result
 mul-result c = search needs
 
--- src/lib.rt:45:35
 add-be16 : tie.Need-add-be16
 add-be16 c = search needs
 
--- src/lib.rt:45:27
 be16-requires-2 : tie.Need-be16-requires-2
 be16-requires-2 c κs = search needs
 
--- src/lib.rt:45:5
 add-result : tie.Need-add-result
 add-result c = search needs
 
--- src/lib.rt:41:1
 returns : tie.Need-returns
 unfolding be32At
 returns c = search needs

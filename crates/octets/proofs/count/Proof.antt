@@ -2,6 +2,7 @@ use Rattle.meaning.proofs.SetLaws.{ones-turn}
 use Rattle.meaning.specs.Sets.{inSet, howMany}
 use borrow.Author.Needs.{needs}
 use native.Mathlib.Omega.{arith}
+use native.Mathlib.Nat.{mod-eq-of-lt}
 use mathlib.Core.Path.{_≡_, refl, ap, _∙_}
 use Prim.Native.Nat.{_+_, _-_, _*_, _≤_}
 use Rattle.octets.proofs.count.Statement.{statement}
@@ -16,43 +17,35 @@ Inv-loop words n₀ i₀ n i = (i ≤ 1024) × (n ≡ howMany (inSet words) (i *
 abbrev μ-loop : tie.MeasureT-loop
 μ-loop words n₀ i₀ n i = 1024 - i
 
--- src/lib.rt:117:5
 loop-holds : tie.Need-loop-holds Inv-loop μ-loop
 unfolding howMany
 loop-holds c = (omega arith, refl, omega arith)
 
--- src/lib.rt:118:24
 mul-word-ones : tie.Need-mul-word-ones Inv-loop μ-loop
 mul-word-ones c = search needs
 
--- src/lib.rt:118:24
 element-copy-out-word-ones : tie.Need-element-copy-out-word-ones Inv-loop μ-loop
 element-copy-out-word-ones c = search needs
 
--- src/lib.rt:118:14
 word-ones-requires : tie.Need-word-ones-requires Inv-loop μ-loop
 word-ones-requires c κs = search needs
 
--- src/lib.rt:118:9
 add-n : tie.Need-add-n Inv-loop μ-loop
 add-n c = search needs
 
--- src/lib.rt:119:9
 add-i : tie.Need-add-i Inv-loop μ-loop
 add-i c = search needs
 
--- src/lib.rt:117:5
 loop-less : tie.Need-loop-less Inv-loop μ-loop
 loop-less c = search needs
 
--- src/lib.rt:117:5
 loop-again : tie.Need-loop-again Inv-loop μ-loop
 loop-again c =
     let st = c .before .before .before in
-    let n = ones-turn (st .before .args .words .now) (st .loop .i) (c .word-ones .ensures .2) in
+    let w = mod-eq-of-lt (c .word-ones .ensures .2) in
+    let n = rw w at (ones-turn (st .before .args .words .now) (st .loop .i)) in
     (omega arith, omega arith, omega arith)
 
--- src/lib.rt:111:1
 returns : tie.Need-returns Inv-loop μ-loop
 returns c =
     let e : c .before .loop .i ≡ 1024 = omega arith in

@@ -9,19 +9,15 @@ use Rattle.octets.proofs.has.Reads as reads
 use Rattle.octets.proofs.has.Lts as lts
 use Rattle.octets.proofs.word_bit.Reads as word-bit-reads
 
--- src/lib.rt:87:13
 mul-w : tie.Need-mul-w
 mul-w c = search needs
 
--- src/lib.rt:87:13
 element-copy-out-w : tie.Need-element-copy-out-w
 element-copy-out-w c = search needs
 
--- src/lib.rt:89:5
 word-bit-requires : tie.Need-word-bit-requires
 word-bit-requires c κs = search needs
 
--- src/lib.rt:83:1
 returns : tie.Need-returns
 unfolding inSet
 returns c = ap (λ (b : ℕ). eqb b 1) (c .word-bit .ensures)

@@ -6,23 +6,18 @@ use Rattle.octets.proofs.id16.Reads as reads
 use Rattle.octets.proofs.id16.Lts as lts
 use Rattle.octets.proofs.pair.Reads as pair-reads
 
--- src/lib.rt:29:10
 shared-slice-read-pair : tie.Need-shared-slice-read-pair
 shared-slice-read-pair c = search needs
 
--- src/lib.rt:29:19
 add-pair : tie.Need-add-pair
 add-pair c = search needs
 
--- src/lib.rt:29:17
 shared-slice-read-pair-2 : tie.Need-shared-slice-read-pair-2
 shared-slice-read-pair-2 c = search needs
 
--- src/lib.rt:29:5
 pair-requires : tie.Need-pair-requires
 pair-requires c κs = search needs
 
--- src/lib.rt:25:1
 returns : tie.Need-returns
 unfolding be16At
 returns c = search needs

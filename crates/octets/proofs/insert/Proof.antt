@@ -11,27 +11,21 @@ use Rattle.octets.proofs.insert.Tie as tie
 use Rattle.octets.proofs.insert.Reads as reads
 use Rattle.octets.proofs.insert.Lts as lts
 
--- src/lib.rt:98:13
 mul-w : tie.Need-mul-w
 mul-w c = search needs
 
--- src/lib.rt:98:13
 element-copy-out-w : tie.Need-element-copy-out-w
 element-copy-out-w c = search needs
 
--- src/lib.rt:100:21
 shl-words : tie.Need-shl-words
 shl-words c = search needs
 
--- src/lib.rt:100:5
 mul-words : tie.Need-mul-words
 mul-words c = search needs
 
--- src/lib.rt:100:5
 element-write-words : tie.Need-element-write-words
 element-write-words c = search needs
 
--- src/lib.rt:93:1
 returns : tie.Need-returns
 unfolding withId
 returns c =

@@ -16,50 +16,39 @@ Inv-loop room₀ from n to i₀ room i = (i ≤ n) × (length room ≡ length ro
 abbrev μ-loop : tie.MeasureT-loop
 μ-loop room₀ from n to i₀ room i = n - i
 
--- src/lib.rt:67:5
 loop-holds : tie.Need-loop-holds Inv-loop μ-loop
 loop-holds c = (omega arith, refl, rw add-zero (wrote-none _ _))
 
--- src/lib.rt:68:29
 add-room : tie.Need-add-room Inv-loop μ-loop
 add-room c = omega arith
 
--- src/lib.rt:68:24
 slice-read-room : tie.Need-slice-read-room Inv-loop μ-loop
 slice-read-room c = omega arith
 
--- src/lib.rt:68:14
 add-room-2 : tie.Need-add-room-2 Inv-loop μ-loop
 add-room-2 c = omega arith
 
--- src/lib.rt:68:9
 slice-write-room : tie.Need-slice-write-room Inv-loop μ-loop
 slice-write-room c = omega arith
 
--- src/lib.rt:69:9
 add-i : tie.Need-add-i Inv-loop μ-loop
 add-i c = omega arith
 
--- src/lib.rt:67:5
 loop-less : tie.Need-loop-less Inv-loop μ-loop
 loop-less c = omega arith
 
--- src/lib.rt:67:5
 loop-again : tie.Need-loop-again Inv-loop μ-loop
 loop-again c =
     let l = c .before .before .loop in
     let a = c .before .before .before .args in
     (omega arith, simp length-set (l .inv .1), move-turn (a .room .now) (l .room) (a .from) (a .to) (l .i) (omega arith) (omega arith) (l .inv .1) (l .inv .2))
 
--- src/lib.rt:71:5
 add-result : tie.Need-add-result Inv-loop μ-loop
 add-result c = omega arith
 
--- src/lib.rt:62:1
 same-length : tie.Need-same-length Inv-loop μ-loop
 same-length c = c .before .loop .inv .1
 
--- src/lib.rt:62:1
 returns : tie.Need-returns Inv-loop μ-loop
 returns c =
     wrote-upto _ _ _ _ (c .before .loop .i) (c .before .before .args .n) (omega arith) (c .before .loop .inv .2)

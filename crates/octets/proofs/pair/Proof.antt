@@ -8,15 +8,12 @@ use Rattle.octets.proofs.pair.Tie as tie
 use Rattle.octets.proofs.pair.Reads as reads
 use Rattle.octets.proofs.pair.Lts as lts
 
--- src/lib.rt:21:5
 mul-result : tie.Need-mul-result
 mul-result c = search needs
 
--- src/lib.rt:21:5
 add-result : tie.Need-add-result
 add-result c = search needs
 
--- src/lib.rt:18:1
 returns : tie.Need-returns
 unfolding be16
 returns c = sym (mod-eq-of-lt (search needs))

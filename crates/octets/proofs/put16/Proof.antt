@@ -7,27 +7,21 @@ use Rattle.octets.proofs.put16.Reads as reads
 use Rattle.octets.proofs.put16.Lts as lts
 use Rattle.octets.proofs.put8.Reads as put8-reads
 
--- src/lib.rt:63:29
 cast-put8 : tie.Need-cast-put8
 cast-put8 c = search needs
 
--- src/lib.rt:63:9
 put8-requires : tie.Need-put8-requires
 put8-requires c κs = search needs
 
--- src/lib.rt:64:20
 cast-put8-2 : tie.Need-cast-put8-2
 cast-put8-2 c = search needs
 
--- src/lib.rt:64:5
 put8-requires-2 : tie.Need-put8-requires-2
 put8-requires-2 c κs = search needs
 
--- src/lib.rt:59:1
 same-length : tie.Need-same-length
 same-length c = search needs
 
--- src/lib.rt:59:1
 returns : tie.Need-returns
 unfolding put16
 returns c = wrote-then (c .before .before .before .before .before .before .put8 .ensures) (c .before .before .put82 .ensures)

@@ -8,20 +8,16 @@ use Rattle.octets.proofs.put32.Reads as reads
 use Rattle.octets.proofs.put32.Lts as lts
 use Rattle.octets.proofs.put16.Reads as put16-reads
 
--- src/lib.rt:72:9
 put16-requires : tie.Need-put16-requires
 put16-requires c κs = search needs
 
--- src/lib.rt:73:5
 put16-requires-2 : tie.Need-put16-requires-2
 unfolding put16
 put16-requires-2 c κs = let p = c .before .before .before .put16 in omega (arith, p .ensures .end)
 
--- src/lib.rt:68:1
 same-length : tie.Need-same-length
 same-length c = search needs
 
--- src/lib.rt:68:1
 returns : tie.Need-returns
 unfolding put32
 returns c = wrote-then (c .before .before .before .before .before .before .put16 .ensures) (c .before .before .put162 .ensures)

@@ -5,11 +5,9 @@ use Rattle.octets.proofs.word_bit.Tie as tie
 use Rattle.octets.proofs.word_bit.Reads as reads
 use Rattle.octets.proofs.word_bit.Lts as lts
 
--- src/lib.rt:79:6
 shr-result : tie.Need-shr-result
 shr-result c = search needs
 
--- src/lib.rt:75:1
 returns : tie.Need-returns
 returns c = and-mask _ 1
 

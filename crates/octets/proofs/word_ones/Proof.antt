@@ -6,7 +6,6 @@ use Rattle.octets.proofs.word_ones.Tie as tie
 use Rattle.octets.proofs.word_ones.Reads as reads
 use Rattle.octets.proofs.word_ones.Lts as lts
 
--- src/lib.rt:104:1
 returns : tie.Need-returns
 returns c = (refl, ones-le 64 (c .args .w) (search needs), search needs)
 

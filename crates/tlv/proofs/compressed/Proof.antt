@@ -12,16 +12,13 @@ use Rattle.tlv.proofs.compressed.Tie as tie
 use Rattle.tlv.proofs.compressed.Reads as reads
 use Rattle.tlv.proofs.compressed.Lts as lts
 
--- src/lib.rt:103:9
 returns : tie.Need-returns
 unfolding compressed
 returns c = rw (lt-leb 3 _ (c .if1 .taken))
 
--- src/lib.rt:105:16
 shared-slice-read-kind : tie.Need-shared-slice-read-kind
 shared-slice-read-kind c = search needs
 
--- src/lib.rt:99:1
 returns-2 : tie.Need-returns-2
 unfolding compressed byKind
 returns-2 c =
@@ -30,17 +27,14 @@ returns-2 c =
       | inr w ↦ rw (le-leb 3 _ (c .before .before .if1 .left), w)
     ]
 
--- src/lib.rt:99:1
 returns-3 : tie.Need-returns-3
 unfolding compressed byKind
 returns-3 c = rw (le-leb 3 _ (c .before .before .if1 .left), c .match .keys2)
 
--- src/lib.rt:99:1
 returns-4 : tie.Need-returns-4
 unfolding compressed byKind
 returns-4 c = rw (le-leb 3 _ (c .before .before .if1 .left), c .match .keys3)
 
--- src/lib.rt:99:1
 returns-5 : tie.Need-returns-5
 unfolding compressed
 returns-5 c = rw (le-leb 3 _ (c .before .before .if1 .left), no-kind _ (c .match .rest .0 .0 .1) (c .match .rest .0 .1) (c .match .rest .1))

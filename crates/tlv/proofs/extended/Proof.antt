@@ -8,36 +8,28 @@ use Rattle.tlv.proofs.extended.Lts as lts
 use Rattle.octets.proofs.be16.Reads as be16-reads
 use Rattle.tlv.proofs.head_to.Reads as head-to-reads
 
--- src/lib.rt:166:18
 add-if1 : tie.Need-add-if1
 add-if1 c = search needs
 
--- src/lib.rt:167:9
 returns : tie.Need-returns
 unfolding extendedTo
 returns c = rw (lt-ltb _ _ (c .if1 .taken))
 
--- src/lib.rt:169:16
 add-head-to : tie.Need-add-head-to
 add-head-to c = search needs
 
--- src/lib.rt:169:33
 add-be16 : tie.Need-add-be16
 add-be16 c = search needs
 
--- src/lib.rt:169:25
 be16-requires : tie.Need-be16-requires
 be16-requires c κs = search needs
 
--- src/lib.rt:169:16
 add-head-to-2 : tie.Need-add-head-to-2
 add-head-to-2 c = search needs
 
--- src/lib.rt:169:5
 head-to-requires : tie.Need-head-to-requires
 head-to-requires c κs = search needs
 
--- src/lib.rt:162:1
 returns-2 : tie.Need-returns-2
 unfolding extendedTo
 returns-2 c = rw (le-ltb _ _ (c .before .before .if1 .left), ← c .before .be16 .ensures .0) (c .head-to .ensures)

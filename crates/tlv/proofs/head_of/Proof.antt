@@ -14,33 +14,26 @@ use Rattle.octets.proofs.wide.Reads as wide-reads
 use Rattle.tlv.proofs.extended.Reads as extended-reads
 use Rattle.tlv.proofs.head_to.Reads as head-to-reads
 
--- src/lib.rt:177:9
 returns : tie.Need-returns
 returns c = head-short (c .before .before .args .s .now) (c .if1 .taken)
 
--- src/lib.rt:179:17
 shared-slice-read-flags : tie.Need-shared-slice-read-flags
 shared-slice-read-flags c = search needs
 
--- src/lib.rt:180:19
 wide-requires : tie.Need-wide-requires
 wide-requires c κs = search needs
 
--- src/lib.rt:180:19
 mul-at : tie.Need-mul-at
 mul-at c = search needs
 
--- src/lib.rt:180:14
 add-at : tie.Need-add-at
 add-at c = search needs
 
--- src/lib.rt:182:9
 extended-requires : tie.Need-extended-requires
 extended-requires c κs =
     let f = getD (c .before .before .before .before .before .args .s .now) 0 0 in
     (omega arith, omega (arith, c .before .wide .ensures .0, and-mask (f / 32) 1))
 
--- src/lib.rt:182:9
 returns-2 : tie.Need-returns-2
 returns-2 c =
     let s = c .before .before .before .before .before .before .args .s .now in
@@ -49,11 +42,9 @@ returns-2 c =
     (head-extended s _ (c .before .before .before .before .if1 .left) (omega (arith, c .before .before .before .shared-slice-known2 .given 0))
     (omega (arith, c .before .before .wide .ensures .0, and-mask (f / 32) 1)) (omega (arith, c .before .if2 .taken, and-mask (f / 2) 1)))
 
--- src/lib.rt:184:5
 head-to-requires : tie.Need-head-to-requires
 head-to-requires c κs = search needs
 
--- src/lib.rt:173:1
 returns-3 : tie.Need-returns-3
 returns-3 c =
     let s = c .before .before .before .before .before .before .args .s .now in

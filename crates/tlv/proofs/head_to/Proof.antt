@@ -7,20 +7,16 @@ use Rattle.tlv.proofs.head_to.Reads as reads
 use Rattle.tlv.proofs.head_to.Lts as lts
 use Rattle.octets.proofs.id16.Reads as id16-reads
 
--- src/lib.rt:156:9
 returns : tie.Need-returns
 unfolding headTo
 returns c = rw (lt-ltb _ _ (c .if1 .taken))
 
--- src/lib.rt:158:37
 id16-requires : tie.Need-id16-requires
 id16-requires c κs = search needs
 
--- src/lib.rt:158:55
 shared-slice-read-t7 : tie.Need-shared-slice-read-t7
 shared-slice-read-t7 c = search needs
 
--- src/lib.rt:151:1
 returns-2 : tie.Need-returns-2
 unfolding headTo
 returns-2 c = rw (le-ltb _ _ (c .before .before .if1 .left), ← c .before .id16 .ensures)

@@ -10,26 +10,21 @@ use Rattle.tlv.proofs.header_length.Reads as reads
 use Rattle.tlv.proofs.header_length.Lts as lts
 use Rattle.octets.proofs.wide.Reads as wide-reads
 
--- src/lib.rt:133:9
 returns : tie.Need-returns
 returns c =
     let s = c .before .before .args .s .now in
     let h : length s ≤ 0 = omega arith in
     omega (arith, List·getD-eq-default s 0 h)
 
--- src/lib.rt:135:10
 shared-slice-read-wide : tie.Need-shared-slice-read-wide
 shared-slice-read-wide c = search needs
 
--- src/lib.rt:135:5
 wide-requires : tie.Need-wide-requires
 wide-requires c κs = search needs
 
--- src/lib.rt:135:5
 mul-result : tie.Need-mul-result
 mul-result c = search needs
 
--- src/lib.rt:129:1
 returns-2 : tie.Need-returns-2
 returns-2 c = search needs
 

@@ -15,50 +15,39 @@ use Rattle.tlv.proofs.mmtp_of.Lts as lts
 use Rattle.tlv.proofs.head_of.Reads as head-of-reads
 use Rattle.tlv.proofs.place_of.Reads as place-of-reads
 
--- src/lib.rt:202:9
 returns : tie.Need-returns
 returns c = unread-short (c .before .before .args .p .now) (c .if1 .taken)
 
--- src/lib.rt:204:46
 shared-slice-read-place-of : tie.Need-shared-slice-read-place-of
 shared-slice-read-place-of c = search needs
 
--- src/lib.rt:204:52
 sub-place-of : tie.Need-sub-place-of
 sub-place-of c = search needs
 
--- src/lib.rt:204:52
 part-place-of-start : tie.Need-part-place-of-start
 part-place-of-start c = search needs
 
--- src/lib.rt:204:52
 part-place-of-end : tie.Need-part-place-of-end
 part-place-of-end c = search needs
 
--- src/lib.rt:204:37
 place-of-requires : tie.Need-place-of-requires
 place-of-requires c κs = search needs
 
--- src/lib.rt:204:19
 enum-known-at : tie.Need-enum-known-at
 enum-known-at c = search needs
 
--- src/lib.rt:205:9
 enum-told : tie.Need-enum-told
 enum-told c = search needs
 
--- src/lib.rt:205:9
 returns-2 : tie.Need-returns-2
 returns-2 c =
     let p = c .before .before .before .before .before .before .before .args .p .now in
     unread-place p (omega arith)
     (unplaced (placeOf (getD p 1 0) (drop 4 p)) (sym (c .enum-told .given .1) ∙ c .before .before .place-of .ensures ∙ ap (λ (z : List ℕ). placed (placeOf (getD p 1 0) z)) (to-end p 4)))
 
--- src/lib.rt:207:8
 sub-if2 : tie.Need-sub-if2
 sub-if2 c = search needs
 
--- src/lib.rt:208:9
 returns-3 : tie.Need-returns-3
 returns-3 c =
     let p = c .before .before .before .before .before .before .before .before .before .args .p .now in
@@ -67,35 +56,27 @@ returns-3 c =
     (placed-at (placeOf (getD p 1 0) (drop 4 p)) _ _ (sym (g .1) ∙ c .before .before .before .before .place-of .ensures ∙ ap (λ (z : List ℕ). placed (placeOf (getD p 1 0) z)) (to-end p 4)))
     (c .if2 .taken)
 
--- src/lib.rt:210:17
 add-place : tie.Need-add-place
 add-place c = search needs
 
--- src/lib.rt:211:58
 sub-head-of : tie.Need-sub-head-of
 sub-head-of c = search needs
 
--- src/lib.rt:211:58
 part-head-of-start : tie.Need-part-head-of-start
 part-head-of-start c = search needs
 
--- src/lib.rt:211:58
 part-head-of-end : tie.Need-part-head-of-end
 part-head-of-end c = search needs
 
--- src/lib.rt:211:50
 head-of-requires : tie.Need-head-of-requires
 head-of-requires c κs = search needs
 
--- src/lib.rt:211:22
 enum-known-start : tie.Need-enum-known-start
 enum-known-start c = search needs
 
--- src/lib.rt:212:9
 enum-told-2 : tie.Need-enum-told-2
 enum-told-2 c = search needs
 
--- src/lib.rt:212:9
 returns-4 : tie.Need-returns-4
 returns-4 c =
     let p = c .before .before .before .before .before .before .before .before .before .before .before .before .before .args .p .now in
@@ -105,7 +86,6 @@ returns-4 c =
     (placed-at (placeOf (getD p 1 0) (drop 4 p)) _ _ (sym (g .1) ∙ c .before .before .before .before .before .before .before .before .place-of .ensures ∙ ap (λ (z : List ℕ). placed (placeOf (getD p 1 0) z)) (to-end p 4)))
     (omega arith) h
 
--- src/lib.rt:214:24
 add-t16 : tie.Need-add-t16
 add-t16 c =
     let p = c .before .before .before .before .before .before .before .before .before .before .before .before .before .before .args .p .now in
@@ -113,7 +93,6 @@ add-t16 c =
     let h = rw (c .before .start .given .1, to-end p (g .0 .0 + 4)) at (c .before .before .before .head-of .ensures) in
     omega (arith, h .1, length-drop (g .0 .0 + 4) p)
 
--- src/lib.rt:198:1
 returns-5 : tie.Need-returns-5
 returns-5 c =
     let p = c .before .before .before .before .before .before .before .before .before .before .before .before .before .before .args .p .now in

@@ -12,40 +12,32 @@ use Rattle.tlv.proofs.next.Lts as lts
 use Rattle.tlv.proofs.size_at.Reads as size-at-reads
 use Rattle.tlv.proofs.starts_packet.Reads as starts-packet-reads
 
--- src/lib.rt:83:9
 returns : tie.Need-returns
 returns c = let a = c .before .before .args in sym (keep-short (a .most) (drop (a .at) (a .run .now)) (omega (arith, length-drop (a .at) (a .run .now))))
 
--- src/lib.rt:86:9
 returns-2 : tie.Need-returns-2
 returns-2 c = let a = c .before .before .before .args in sym (keep-short (a .most) (drop (a .at) (a .run .now)) (omega (arith, length-drop (a .at) (a .run .now))))
 
--- src/lib.rt:88:9
 starts-packet-requires : tie.Need-starts-packet-requires
 starts-packet-requires c κs = search needs
 
--- src/lib.rt:89:9
 returns-3 : tie.Need-returns-3
 returns-3 c =
     let a = c .before .before .before .before .before .args in
     sym (skip-here (a .most) (drop (a .at) (a .run .now)) (omega (arith, length-drop (a .at) (a .run .now))) (sym (c .before .starts-packet .ensures) ∙ not-true (c .before .starts-packet .result) (c .if3 .taken)))
 
--- src/lib.rt:91:9
 size-at-requires : tie.Need-size-at-requires
 size-at-requires c κs = search needs
 
--- src/lib.rt:92:8
 sub-if4 : tie.Need-sub-if4
 sub-if4 c = search needs
 
--- src/lib.rt:93:9
 returns-4 : tie.Need-returns-4
 returns-4 c =
     let a = c .before .before .before .before .before .before .before .args in
     let l = length-drop (a .at) (a .run .now) in
     sym (keep-long (a .most) (drop (a .at) (a .run .now)) (omega arith) (sym (c .before .before .before .starts-packet .ensures) ∙ not-false (c .before .before .before .starts-packet .result) (c .before .before .if3 .left)) (omega arith))
 
--- src/lib.rt:78:1
 returns-5 : tie.Need-returns-5
 returns-5 c =
     let a = c .before .before .before .before .before .before .before .args in

@@ -10,27 +10,21 @@ use Rattle.tlv.proofs.payload_of.Tie as tie
 use Rattle.tlv.proofs.payload_of.Reads as reads
 use Rattle.tlv.proofs.payload_of.Lts as lts
 
--- src/lib.rt:192:16
 sub-result : tie.Need-sub-result
 sub-result c = search needs
 
--- src/lib.rt:192:16
 part-result-start : tie.Need-part-result-start
 part-result-start c = search needs
 
--- src/lib.rt:192:16
 part-result-end : tie.Need-part-result-end
 part-result-end c = search needs
 
--- src/lib.rt:192:9
 returns : tie.Need-returns
 returns c = to-end (c .before .before .args .s .now) (c .before .before .args .start)
 
--- src/lib.rt:194:5
 slice-aggregate-result : tie.Need-slice-aggregate-result
 slice-aggregate-result c = search needs
 
--- src/lib.rt:188:1
 returns-2 : tie.Need-returns-2
 returns-2 c =
     let s = c .before .before .args .s .now in

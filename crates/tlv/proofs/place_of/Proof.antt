@@ -9,38 +9,30 @@ use Rattle.tlv.proofs.compressed.Reads as compressed-reads
 use Rattle.tlv.proofs.header_length.Reads as header-length-reads
 use Rattle.tlv.proofs.udp_body.Reads as udp-body-reads
 
--- src/lib.rt:143:17
 compressed-requires : tie.Need-compressed-requires
 compressed-requires c κs = search needs
 
--- src/lib.rt:144:29
 header-length-requires : tie.Need-header-length-requires
 header-length-requires c κs = search needs
 
--- src/lib.rt:144:17
 udp-body-requires : tie.Need-udp-body-requires
 udp-body-requires c κs = search needs
 
--- src/lib.rt:145:17
 udp-body-requires-2 : tie.Need-udp-body-requires-2
 udp-body-requires-2 c κs = search needs
 
--- src/lib.rt:139:1
 returns : tie.Need-returns
 unfolding placeOf
 returns c = rw (c .before .match .keys1) (c .compressed .ensures)
 
--- src/lib.rt:139:1
 returns-2 : tie.Need-returns-2
 unfolding placeOf
 returns-2 c = rw (c .before .before .match .keys2, ← c .before .header-length .ensures .0) (c .udp-body .ensures)
 
--- src/lib.rt:139:1
 returns-3 : tie.Need-returns-3
 unfolding placeOf
 returns-3 c = rw (c .before .match .keys3) (c .udp-body2 .ensures)
 
--- src/lib.rt:139:1
 returns-4 : tie.Need-returns-4
 returns-4 c = rw (no-ip _ (c .before .before .args .s .now) (c .match .rest .0 .0 .1) (c .match .rest .0 .1) (c .match .rest .1))
 

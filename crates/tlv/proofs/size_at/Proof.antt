@@ -7,19 +7,15 @@ use Rattle.tlv.proofs.size_at.Reads as reads
 use Rattle.tlv.proofs.size_at.Lts as lts
 use Rattle.octets.proofs.be16.Reads as be16-reads
 
--- src/lib.rt:46:19
 add-be16 : tie.Need-add-be16
 add-be16 c = search needs
 
--- src/lib.rt:46:9
 be16-requires : tie.Need-be16-requires
 be16-requires c κs = search needs
 
--- src/lib.rt:46:5
 add-result : tie.Need-add-result
 add-result c = search needs
 
--- src/lib.rt:42:1
 returns : tie.Need-returns
 returns c = let a = c .before .before .args in rw (size-is (a .run .now) (a .at)) (omega arith, omega arith)
 

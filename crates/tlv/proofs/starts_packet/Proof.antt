@@ -13,23 +13,18 @@ use Rattle.tlv.proofs.starts_packet.Lts as lts
 use Rattle.tlv.proofs.candidate.Reads as candidate-reads
 use Rattle.tlv.proofs.size_at.Reads as size-at-reads
 
--- src/lib.rt:67:9
 candidate-requires : tie.Need-candidate-requires
 candidate-requires c κs = search needs
 
--- src/lib.rt:68:9
 returns : tie.Need-returns
 returns c = rw (← c .before .candidate .ensures, not-true (c .before .candidate .result) (c .if1 .taken))
 
--- src/lib.rt:70:21
 size-at-requires : tie.Need-size-at-requires
 size-at-requires c κs = search needs
 
--- src/lib.rt:70:16
 add-next : tie.Need-add-next
 add-next c = search needs
 
--- src/lib.rt:72:9
 returns-2 : tie.Need-returns-2
 returns-2 c =
     let a = c .before .before .before .before .before .args in
@@ -37,11 +32,9 @@ returns-2 c =
     let h : length (a .run .now) - a .at ≤ n = omega arith in
     rw (← c .before .before .before .candidate .ensures, not-false (c .before .before .before .candidate .result) (c .before .before .if1 .left), followed-is (a .run .now) (a .at), ← c .before .size-at .ensures .0, le-leb _ _ h)
 
--- src/lib.rt:74:5
 shared-slice-read-result : tie.Need-shared-slice-read-result
 shared-slice-read-result c = search needs
 
--- src/lib.rt:63:1
 returns-3 : tie.Need-returns-3
 returns-3 c =
     let a = c .before .before .before .before .before .before .args in

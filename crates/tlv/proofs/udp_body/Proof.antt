@@ -8,33 +8,26 @@ use Rattle.tlv.proofs.udp_body.Reads as reads
 use Rattle.tlv.proofs.udp_body.Lts as lts
 use Rattle.octets.proofs.be16.Reads as be16-reads
 
--- src/lib.rt:119:18
 add-if1 : tie.Need-add-if1
 add-if1 c = search needs
 
--- src/lib.rt:120:9
 returns : tie.Need-returns
 unfolding udp
 returns c = rw (lt-leb _ _ (c .if1 .taken))
 
--- src/lib.rt:122:16
 add-be16 : tie.Need-add-be16
 add-be16 c = search needs
 
--- src/lib.rt:122:8
 be16-requires : tie.Need-be16-requires
 be16-requires c κs = search needs
 
--- src/lib.rt:123:9
 returns-2 : tie.Need-returns-2
 unfolding udp
 returns-2 c = rw (le-leb _ _ (c .before .before .if1 .left), ← c .before .be16 .ensures .0, c .if2 .taken)
 
--- src/lib.rt:125:15
 add-t3 : tie.Need-add-t3
 add-t3 c = search needs
 
--- src/lib.rt:115:1
 returns-3 : tie.Need-returns-3
 unfolding udp
 returns-3 c = rw (le-leb _ _ (c .before .before .if1 .left), ← c .before .be16 .ensures .0, ne-eqb _ 123 (c .if2 .left))

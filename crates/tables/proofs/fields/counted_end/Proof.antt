@@ -1,5 +1,8 @@
 use Rattle.meaning.proofs.Reading.{counted8-at, counted8-none}
 use native.Mathlib.Omega.{arith}
+use native.Mathlib.Nat.{mod-eq-of-lt}
+use lib.ListN.{getD}
+use Prim.Native.Nat.{_<_}
 use borrow.Author.Needs.{needs}
 use Rattle.tables.proofs.fields.counted_end.Statement.{statement}
 use Rattle.tables.proofs.fields.counted_end.Tie as tie
@@ -23,7 +26,8 @@ returns-2 : tie.Need-returns-2
 returns-2 c =
     let a = c .before .before .before .before .before .args in
     let w = c .before .wide .ensures in
-    rw (counted8-at (a .s .now) (a .at) (omega arith) (omega arith), ← w .0) (c .bytes-end .ensures)
+    let small : getD (a .s .now) (a .at) 0 < 256 = omega arith in
+    rw (counted8-at (a .s .now) (a .at) (omega arith), mod-eq-of-lt small, ← w .0) (c .bytes-end .ensures)
 
 pub counted-end-spec : {M : Type 1} → statement M
 counted-end-spec =

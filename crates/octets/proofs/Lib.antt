@@ -1,0 +1,2 @@
+-- What the proofs of the crates above cite of bytes and slices.
+pub mod ByteLaws
