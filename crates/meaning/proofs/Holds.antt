@@ -20,47 +20,10 @@ use Rattle.meaning.specs.Messages.{Message, messages, indicator}
 use Rattle.meaning.specs.Tables.{elsewhere, locationBody, location, Entry, Mpt, mpt, Package, packageFields, packageEntry, plt, serviceOf, Table, isMpt, isPlt, PaHead, pa}
 use Rattle.meaning.specs.Learn.{Limits, Fragment, Known, Learnt, learnt, Listed, assetNumbers, over, placeFor, listAsset, listed, withList, mptFrom, learnMpt, insertPackage, addPackage, packagesIn, withPackages, pltFrom, learnPlt, learnTable, andLost, learnTables, paTables, withCarousel, learnMessage, learnMessages, withFragments, isOf, without, heldBytes, fragmentOf, grown, growIn, holdFirst, fits, middleOf, middle, joined, lastFor, last, byIndicator, observe, learnFrom, learn}
 use Rattle.meaning.specs.Record.{rising, distinct}
+use Rattle.meaning.specs.Sound.{services, identifiers, Below, SmallFlags, HoldsPackages, HoldsMaps, HoldsFragments, Holds}
 use Rattle.meaning.proofs.ListLaws.{and-both, and-true, or-neither, keep-length}
 use Rattle.meaning.proofs.Framed.{Before, before, Many, many-framed}
 use Rattle.meaning.proofs.TableLaws.{be16-small, u8-split, mpt-split, package-framed}
-
--- ---- the parts
-
-abbrev pub services : List (ℕ × ℕ) → List ℕ
-services ps = map (λ x. x .0) ps
-
-abbrev pub identifiers : List Fragment → List ℕ
-identifiers fs = map (λ f. f .identifier) fs
-
--- each pair's second below a bound
-abbrev pub Below : ℕ → List (ℕ × ℕ) → Type 0
-Below n [] = Unit {0}
-Below n (x ∷ xs) = (x .1 < n) × Below n xs
-
-abbrev pub SmallFlags : List Fragment → Type 0
-SmallFlags [] = Unit {0}
-SmallFlags (f ∷ fs) = (f .flags < 256) × SmallFlags fs
-
-pub record HoldsPackages (ps : List (ℕ × ℕ)) : Type 0 where
-  pub few : length ps ≤ 255
-  pub rise : rising (services ps) ≡ true
-  pub small : Below 65536 ps
-
-pub record HoldsMaps (ms : List (ℕ × ℕ)) : Type 0 where
-  pub few : length ms ≤ 64
-  pub once : distinct (services ms) ≡ true
-  pub small : Below 256 ms
-
-pub record HoldsFragments (T : ℕ) (fs : List Fragment) : Type 0 where
-  pub few : length fs ≤ 256
-  pub once : distinct (identifiers fs) ≡ true
-  pub flags : SmallFlags fs
-  pub within : heldBytes fs ≤ T
-
-pub record Holds (T : ℕ) (k : Known) : Type 0 where
-  pub packages-hold : HoldsPackages (k .packages)
-  pub maps-hold : HoldsMaps (k .maps)
-  pub fragments-hold : HoldsFragments T (k .fragments)
 
 -- ---- packages: a PLT names at most 255, and an insertion keeps them rising
 

@@ -23,7 +23,8 @@ use Rattle.meaning.specs.Push.{fresh, withheld, Passed, passOne, pass, P
 use Rattle.meaning.specs.declared.Options.{Options}
 use Rattle.meaning.proofs.ListLaws.{clash, and-both, and-true, or-either}
 use Rattle.meaning.proofs.CutLaws.{held-below}
-use Rattle.meaning.proofs.Holds.{services, identifiers, Below, SmallFlags, HoldsPackages, HoldsMaps, HoldsFragments, Holds, held-next, learn-holds}
+use Rattle.meaning.specs.Sound.{services, identifiers, Below, SmallFlags, HoldsPackages, HoldsMaps, HoldsFragments, Holds, bodies}
+use Rattle.meaning.proofs.Holds.{held-next, learn-holds}
 
 -- What a sound state holds to.
 pub record HoldsState (L : Limits) (o : Options) (st : State) : Type 0 where
@@ -318,11 +319,6 @@ state-holds r work room maps e =
 pairs-back : (ps : List (ℕ × ℕ)) → Below 65536 ps → map pairOf (map packPair ps) ≡ ps
 pairs-back [] b = refl
 pairs-back (x ∷ ps) b = ap₂ (λ (y : ℕ × ℕ) (l : List (ℕ × ℕ)). y ∷ l) (pair-pack x (b .0)) (pairs-back ps (b .1))
-
--- the bodies one after the other
-unfoldable pub bodies : List Fragment → Bytes
-unfolding flatten
-bodies fs = flatten (map (λ f. f .body) fs)
 
 fragments-back : (fs : List Fragment) (spare : Bytes) → SmallHeads fs → fragmentsIn (map packHead fs) (bodies fs ++ spare) ≡ fs
 unfolding fragmentsIn bodies

@@ -30,7 +30,8 @@ use Rattle.meaning.specs.declared.Options.{Options}
 use Rattle.meaning.specs.declared.Counts.{Counts}
 use Rattle.meaning.proofs.TableLaws.{mpt-split}
 use Rattle.meaning.proofs.SetLaws.{many-same}
-use Rattle.meaning.proofs.Holds.{Below, HoldsFragments, Holds, putHead, put-is, list-length, list-holds, packages-holds, with-fragments, without-holds, first-holds, middle-holds}
+use Rattle.meaning.specs.Sound.{Below, HoldsFragments, Holds}
+use Rattle.meaning.proofs.Holds.{putHead, put-is, list-length, list-holds, packages-holds, with-fragments, without-holds, first-holds, middle-holds}
 
 -- ---- what a list's numbers hold
 

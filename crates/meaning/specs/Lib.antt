@@ -13,6 +13,7 @@ pub mod Learn
 pub mod Rules
 pub mod Refusals
 pub mod Record
+pub mod Sound
 pub mod Push
 pub mod Programs
 pub mod Less

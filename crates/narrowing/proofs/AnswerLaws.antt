@@ -28,7 +28,7 @@ use Rattle.tlv.specs.declared.Mmtp as read
 use Rattle.narrowing.specs.Tables.{ChangeIs, isChange, tablesIn, tablesChange, afterTable}
 use Rattle.narrowing.specs.Answers.{zeros, NarrowedAs, RefusedAs, isRefused, PaPlace, bodyAfter, packetWith, Rows, noRows, countedIn, Below}
 use Rattle.narrowing.specs.declared.table.Change.{Change}
-use Rattle.narrowing.proofs.ExactLaws.{tableAt, part-table}
+use Rattle.tables.proofs.WalkLaws.{tableAt, part-table}
 use Rattle.narrowing.proofs.CountLaws.{counted-rows, below-more, tally-start}
 use Rattle.narrowing.proofs.TableLaws.{stays, changed}
 use Rattle.narrowing.proofs.PayloadLaws.{pa-narrowed}

@@ -28,7 +28,8 @@ use Rattle.tables.specs.declared.fields.End.{End}
 use Rattle.tables.specs.declared.pa.Table as code
 use Rattle.tables.specs.declared.locations.Carrier.{Carrier}
 use Rattle.narrowing.specs.Tables.{Exact, tablesIn}
-use Rattle.narrowing.proofs.ExactLaws.{bodyOf, exact-table, tableAt, part-table, walk-next, walk-stops}
+use Rattle.tables.proofs.WalkLaws.{tableAt, part-table, walk-next, walk-stops}
+use Rattle.narrowing.proofs.ExactLaws.{bodyOf, exact-table}
 use Rattle.narrowing.specs.Answers.{Rows, zeros, kindPlace, rowPlace, bumped, countedIn, noRows, Below, partsRead}
 
 -- ---- what is counted

@@ -26,7 +26,7 @@ use Rattle.meaning.proofs.Writes.{wrote-none, wrote-then}
 use Rattle.octets.proofs.ByteLaws.{rest-of}
 use Rattle.tables.specs.Answers.{TableIs}
 use Rattle.tables.specs.declared.pa.Table.the-variants.{To}
-use Rattle.narrowing.proofs.ExactLaws.{tableAt, raw-at, part-table, walk-next}
+use Rattle.tables.proofs.WalkLaws.{tableAt, raw-at, part-table, walk-next}
 use Rattle.narrowing.specs.declared.table.Change.{Change}
 use Rattle.narrowing.specs.Tables.{ChangeIs, isChange, afterTable, tablesIn, tablesChange, tablesAfter, tablesBytes, Heads}
 

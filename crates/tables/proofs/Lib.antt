@@ -4,3 +4,4 @@ pub mod AssetLaws
 pub mod PackageLaws
 pub mod MessageLaws
 pub mod PaLaws
+pub mod WalkLaws

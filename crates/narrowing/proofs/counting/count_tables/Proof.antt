@@ -3,7 +3,8 @@ use native.Mathlib.Omega.{arith}
 use lib.ListN.{length}
 use Prim.Native.Nat.{_-_}
 use Rattle.narrowing.proofs.CountLaws.{Tallying, tally-start, tally-room, tally-turn, tallied}
-use Rattle.narrowing.proofs.ExactLaws.{part-exact, no-table}
+use Rattle.tables.proofs.WalkLaws.{no-table}
+use Rattle.narrowing.proofs.ExactLaws.{part-exact}
 use Rattle.narrowing.proofs.counting.count_tables.Statement.{statement}
 use Rattle.narrowing.proofs.counting.count_tables.Tie as tie
 

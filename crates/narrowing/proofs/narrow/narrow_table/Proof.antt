@@ -5,7 +5,8 @@ use native.Mathlib.Omega.{arith}
 use borrow.Author.Tests.{not-true, not-false}
 use Rattle.meaning.specs.Narrow.{changeTable}
 use Rattle.meaning.specs.Refusals.{narrowRefusal}
-use Rattle.narrowing.proofs.ExactLaws.{part-exact, no-table}
+use Rattle.tables.proofs.WalkLaws.{no-table}
+use Rattle.narrowing.proofs.ExactLaws.{part-exact}
 use Rattle.narrowing.proofs.AnswerLaws.{not-refused, refused-answer, unchanged-answer, changed-answer, rows-low, part-short, no-table-stays, table-stays, table-changes}
 use borrow.Author.Needs.{needs}
 use Rattle.narrowing.proofs.narrow.narrow_table.Statement.{statement}

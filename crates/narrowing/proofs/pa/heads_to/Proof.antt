@@ -3,7 +3,7 @@ use Prim.Native.Nat.{_-_}
 use mathlib.Core.Path.{_∙_}
 use Rattle.meaning.specs.Bytes.{put16}
 use Rattle.narrowing.proofs.WalkLaws.{HeadsWritten, heads-begin, heads-left, heads-room, heads-two, heads-next, heads-rest, heads-done}
-use Rattle.narrowing.proofs.ExactLaws.{no-table}
+use Rattle.tables.proofs.WalkLaws.{no-table}
 use borrow.Author.Needs.{needs}
 use Rattle.narrowing.proofs.pa.heads_to.Statement.{statement}
 use Rattle.narrowing.proofs.pa.heads_to.Tie as tie

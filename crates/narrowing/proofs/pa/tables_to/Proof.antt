@@ -2,7 +2,8 @@ use native.Mathlib.Omega.{arith}
 use lib.ListN.{length}
 use Prim.Native.Nat.{_-_}
 use Rattle.narrowing.proofs.WalkLaws.{TablesSofar, tables-begin, tables-left, tables-room, tables-next, tables-done}
-use Rattle.narrowing.proofs.ExactLaws.{part-exact, no-table}
+use Rattle.tables.proofs.WalkLaws.{no-table}
+use Rattle.narrowing.proofs.ExactLaws.{part-exact}
 use borrow.Author.Needs.{needs}
 use Rattle.narrowing.proofs.pa.tables_to.Statement.{statement}
 use Rattle.narrowing.proofs.pa.tables_to.Tie as tie
