@@ -2,9 +2,10 @@
 //! them in order.
 
 use std::collections::BTreeSet;
+use std::process::Command;
 
 use face::{Kind, Narrowed};
-use oracle::cases::{self, Case, Narrowing, Reader};
+use oracle::cases::{Case, Narrowing, Reader};
 use oracle::named::{Named, named};
 
 use crate::subject::Subject;
@@ -91,36 +92,37 @@ fn at_least_300_are_damaged_and_small() {
     }
 }
 
+/// What the command `oracle cases` writes.
+fn cases(words: &[&str]) -> Vec<u8> {
+    let output = Command::new(env!("CARGO_BIN_EXE_oracle"))
+        .arg("cases")
+        .args(words)
+        .output()
+        .expect("the command runs");
+    assert!(output.status.success(), "{words:?}");
+    output.stdout
+}
+
 #[test]
 fn the_command_writes_them_in_order() {
-    let cases = named();
-    let expected: Vec<_> = cases
+    let named = named();
+    let expected: Vec<_> = named
         .iter()
         .map(|case| Case::Narrowing(Narrowing::from(&case.input)))
         .collect();
-    let bytes = cases::named();
+    let bytes = cases(&["--named"]);
     assert!(bytes.len() < 1_500_000, "{} bytes", bytes.len());
     assert_eq!(Reader::new(&bytes).collect::<Vec<_>>(), expected);
 }
 
-/// `cases --streams 0`: the narrowings of the same seeds and nothing else.
 #[test]
 fn without_streams_the_narrowings_of_the_same_seeds_are_left() {
-    let written = |streams: bool| {
-        let seeds = 0..60;
-        seeds
-            .flat_map(|seed| cases::of_seed(seed, streams, usize::MAX))
-            .collect::<Vec<u8>>()
-    };
-    let (without, with) = (written(false), written(true));
+    let without = cases(&["--seeds", "0..60", "--streams", "0"]);
+    let with = cases(&["--seeds", "0..60"]);
     let narrowing = |case: &Case| matches!(case, Case::Narrowing(_));
-    let (without, with): (Vec<_>, Vec<_>) = (
-        Reader::new(&without).collect(),
-        Reader::new(&with).collect(),
-    );
-    assert!(without.iter().all(narrowing));
-    assert_eq!(with.iter().filter(|case| !narrowing(case)).count(), 60);
-    let left: Vec<_> = with.into_iter().filter(narrowing).collect();
+    let without: Vec<_> = Reader::new(&without).collect();
+    let (left, streams): (Vec<_>, Vec<_>) = Reader::new(&with).partition(narrowing);
+    assert_eq!(streams.len(), 60);
+    assert!(without.iter().all(narrowing) && without.len() > 60);
     assert_eq!(without, left);
-    assert!(without.len() > 60);
 }
