@@ -4,7 +4,7 @@
 use std::collections::BTreeSet;
 use std::process::Command;
 
-use face::{Kind, Narrowed};
+use face::{Kind, Narrowed, Options};
 use oracle::cases::{Case, Narrowing, Reader};
 use oracle::named::{Named, named};
 
@@ -38,6 +38,29 @@ fn answers_are_those_that_stand_beside_the_cases() {
             None => assert!(case.name.starts_with("damaged "), "{}", case.name),
         }
     }
+}
+
+/// The side of the original that the bench measures. EIT off would drop a packet there, before it is narrowed.
+#[test]
+fn the_originals_packet_without_learning_narrows_alike() {
+    let packets = named().into_iter();
+    let packets: Vec<_> = packets
+        .filter(|case| case.input.kind == Kind::Packet)
+        .collect();
+    let mut changed = 0;
+    for Named { name, input, .. } in &packets {
+        if let Narrowed::Changed { out, .. } = Subject::original().answer(input) {
+            let options = Options {
+                eit: true,
+                ..input.options
+            };
+            let mut written = Vec::new();
+            original::Narrowing::new(options).packet(&input.bytes, &mut written);
+            assert_eq!(written, out, "{name}");
+            changed += 1;
+        }
+    }
+    assert!(changed > 20);
 }
 
 /// What cases there are of a kind: refused, unchanged and changed ones, and lengths.
