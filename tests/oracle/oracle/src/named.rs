@@ -7,6 +7,7 @@ use maker::Input;
 
 mod damaged;
 mod examples;
+mod packets;
 mod readings;
 mod sizes;
 
@@ -23,6 +24,7 @@ pub fn named() -> Vec<Named> {
     [
         examples::examples(),
         readings::readings(),
+        packets::packets(),
         sizes::sizes(),
         damaged::damaged(),
     ]

@@ -12,8 +12,7 @@ pub(super) fn readings() -> Vec<Named> {
         last_of_the_service(),
         asset_layout(),
         one_message(),
-        header_at_the_end(),
-        not_rewritable(),
+        short_messages(),
         table_numbers(),
         same_bytes(),
         head_entries(),
@@ -22,14 +21,12 @@ pub(super) fn readings() -> Vec<Named> {
         names_of_packages(),
         kind_alone(),
         flag_bits(),
-        eit_off(),
         after_the_last_entry(),
+        behind_the_table(),
         locations(),
         counts(),
+        counts_beside_a_plt(),
         refused_in_copy_all(),
-        unread_header_bits(),
-        first_bytes_of_a_packet(),
-        payload_types(),
     ]
     .concat()
 }
@@ -50,19 +47,6 @@ fn narrows(name: impl Into<String>, around: impl Fn(&[Vec<u8>]) -> Vec<u8>) -> N
 fn stays(name: impl Into<String>, around: impl Fn(&[Vec<u8>]) -> Vec<u8>) -> Named {
     let before = around(&[video(1), caption(2)]);
     payload(name, NO_CAPTIONS, 0xf000, before, Narrowed::Unchanged)
-}
-
-/// A packet around the payload of these entries: the caption goes, the video stays.
-fn packet_narrows(name: impl Into<String>, around: impl Fn(&[u8]) -> Vec<u8>) -> Named {
-    let [before, after] = [vec![video(1), caption(2)], vec![video(1)]]
-        .map(|entries| around(&whole(&pa(&[mpt(&entries)]))));
-    packet(name, NO_CAPTIONS, before, cut(after))
-}
-
-/// A packet around the same payload that stays as it is.
-fn packet_stays(name: impl Into<String>, around: impl Fn(&[u8]) -> Vec<u8>) -> Named {
-    let before = around(&whole(&pa(&[mpt(&[video(1), caption(2)])])));
-    packet(name, NO_CAPTIONS, before, Narrowed::Unchanged)
 }
 
 fn leftover_bytes() -> Vec<Named> {
@@ -133,38 +117,17 @@ fn asset_layout() -> Vec<Named> {
 
 fn one_message() -> Vec<Named> {
     let message = |entries: &[Vec<u8>]| pa(&[mpt(entries)]);
+    let both = [message(&[video(1), caption(2)]), message(&[caption(3)])];
+    let first = cut(whole(&message(&[video(1)])));
     let numbered = |number: u16| {
         move |entries: &[Vec<u8>]| whole(&long_message(number, &message(entries)[7..]))
     };
-    let longer = |entries: &[Vec<u8>]| {
-        let mut payload = whole(&message(entries));
-        payload[8] += 1;
-        payload
-    };
-    let second = whole(&[message(&[video(1), caption(2)]), message(&[caption(3)])].concat());
-    let first = cut(whole(&message(&[video(1)])));
     vec![
-        stays("r05 a message one byte longer than there is", longer),
-        stays("r05 a message's head cut short", |entries| {
-            longer(entries)[..8].to_vec()
-        }),
-        stays("r05 a message's head alone", |_| whole(&pa(&[])[..7])),
-        stays("r05 a message with no body", |_| {
-            whole(&long_message(0, &[]))
-        }),
-        stays("r05 a PA message with no table", |_| whole(&pa(&[]))),
-        stays("r05 a PA message with a head entry cut", |_| {
-            whole(&long_message(0, &[1, 0x20, 5, 0]))
-        }),
-        stays(
-            "r05 a PA message counts more entries than there are",
-            |_| whole(&long_message(0, &[9; 20])),
-        ),
         payload(
             "r05 a second message is not read and goes",
             NO_CAPTIONS,
             0xf000,
-            second,
+            whole(&both.concat()),
             first,
         ),
         stays("r05 an aggregate", |entries| aggregate(&[message(entries)])),
@@ -172,56 +135,28 @@ fn one_message() -> Vec<Named> {
         stays("r05 message 1", numbered(1)),
         stays("r05 message 0x0100", numbered(0x0100)),
         stays("r05 message 0x7000", numbered(0x7000)),
-        stays("r05 a payload of one byte", |_| vec![0]),
-        stays("r05 a payload of two bytes", |_| vec![0, 0]),
     ]
 }
 
-/// An MMTP packet with a counter and an extension of one byte in its head.
-fn with_counter_and_extension(identifier: u16, payload: &[u8]) -> Vec<u8> {
-    let mut packet = mmtp(2, identifier, &[1, 2, 3, 4, 0, 0, 0, 1, 9]);
-    packet[0] = 0x22;
-    packet.extend(payload);
-    packet
-}
-
-fn header_at_the_end() -> Vec<Named> {
-    let head = |length: usize| move |_: &[u8]| compressed(&mmtp(2, 1, &[])[..length]);
-    let extended =
-        |length: usize| move |_: &[u8]| compressed(&with_counter_and_extension(1, &[])[..length]);
-    vec![
-        packet_stays("r07 the MMTP header ends the packet", head(12)),
-        packet_stays("r07 the MMTP header is cut by one byte", head(11)),
-        packet_stays("r07 the extension ends the packet", extended(21)),
-        packet_stays("r07 the extension is cut by one byte", extended(20)),
-        packet_stays("r07 no MMTP header", head(0)),
-        packet_narrows("r07 counter and extension before the payload", |payload| {
-            compressed(&with_counter_and_extension(1, payload))
-        }),
-    ]
-}
-
-fn not_rewritable() -> Vec<Named> {
-    let behind = |kind: u8, head: Vec<u8>| {
-        move |payload: &[u8]| tlv(kind, &[head.clone(), mmtp(2, 1, payload)].concat())
+/// Messages that do not fit, or have no table.
+fn short_messages() -> Vec<Named> {
+    let longer = |entries: &[Vec<u8>]| {
+        let mut payload = whole(&pa(&[mpt(entries)]));
+        payload[8] += 1;
+        payload
     };
-    let compressed_as = |byte: u8, length: usize| {
-        let mut head = vec![0; length];
-        head[2] = byte;
-        behind(3, head)
-    };
+    let cut_to = |length: usize| move |_: &[Vec<u8>]| whole(&pa(&[]))[..length].to_vec();
+    let body = |body: &'static [u8]| move |_: &[Vec<u8>]| whole(&long_message(0, body));
     vec![
-        packet_stays("r08 IPv4 with a header of 0", behind(1, vec![0x40; 8])),
-        packet_stays("r08 IPv4 with a header of 20", behind(1, vec![0x45; 28])),
-        packet_stays("r08 IPv6", behind(2, vec![0x60; 48])),
-        packet_stays("r08 compressed header 0x20", compressed_as(0x20, 23)),
-        packet_stays("r08 compressed header 0x60", compressed_as(0x60, 45)),
-        packet_stays(
-            "r08 compressed header of no known kind",
-            compressed_as(0x40, 3),
-        ),
-        packet_narrows("r08 compressed header 0x21", compressed_as(0x21, 3)),
-        packet_narrows("r08 compressed header 0x61", compressed_as(0x61, 3)),
+        stays("r05 a message one byte longer than there is", longer),
+        stays("r05 a payload of one byte", cut_to(1)),
+        stays("r05 a payload of two bytes", cut_to(2)),
+        stays("r05 a message's head cut short", cut_to(8)),
+        stays("r05 a message's head alone", cut_to(9)),
+        stays("r05 a message with no body", body(&[])),
+        stays("r05 a PA message with no table", body(&[0])),
+        stays("r05 a head entry cut short", body(&[1, 0x20, 5, 0])),
+        stays("r05 more head entries than bytes", body(&[9; 20])),
     ]
 }
 
@@ -242,47 +177,28 @@ fn table_numbers() -> Vec<Named> {
 }
 
 fn same_bytes() -> Vec<Named> {
+    let ours = only(0x0401);
     let alone = plt(&[service_at(0x0401, 1)]);
-    let before = whole(&pa(std::slice::from_ref(&alone)));
-    let with_rest = [&before[..], &[1, 2, 3]].concat();
-    let sent = |payload: &[u8]| signalling(0, payload);
-    let case = |name, identifier, bytes: &Vec<u8>, answer| {
-        payload(name, only(0x0401), identifier, bytes.clone(), answer)
+    let inside = whole(&pa(std::slice::from_ref(&alone)));
+    let longer = [&inside[..], &[1, 2, 3]].concat();
+    let as_table = |name, options, answer| table(name, options, alone.clone(), answer);
+    let as_payload = |name, identifier, bytes: &[u8], answer| {
+        payload(name, ours, identifier, bytes.to_vec(), answer)
     };
-    let same = || listed(before.clone());
+    let as_packet = |name, bytes: &[u8]| {
+        let after = listed(signalling(0, &inside));
+        packet(name, ours, signalling(0, bytes), after)
+    };
+    let same = listed(inside.clone());
+    let stays = Narrowed::Unchanged;
     vec![
-        table(
-            "r14 a PLT to the same bytes",
-            only(0x0401),
-            alone.clone(),
-            listed(alone.clone()),
-        ),
-        case("r14 a payload to the same bytes", 0, &before, same()),
-        case("r14 bytes after the message go", 0, &with_rest, same()),
-        case(
-            "r14 a PLT on another identifier",
-            1,
-            &with_rest,
-            Narrowed::Unchanged,
-        ),
-        packet(
-            "r14 a packet to the same bytes",
-            only(0x0401),
-            sent(&before),
-            listed(sent(&before)),
-        ),
-        packet(
-            "r14 bytes after a packet's message go",
-            only(0x0401),
-            sent(&with_rest),
-            listed(sent(&before)),
-        ),
-        table(
-            "r14 no service is named",
-            NO_CAPTIONS,
-            alone,
-            Narrowed::Unchanged,
-        ),
+        as_table("r14 a PLT to the same bytes", ours, listed(alone.clone())),
+        as_table("r14 no service is named", NO_CAPTIONS, stays.clone()),
+        as_payload("r14 a payload to the same bytes", 0, &inside, same.clone()),
+        as_payload("r14 bytes after the message go", 0, &longer, same),
+        as_payload("r14 a PLT on another identifier", 1, &longer, stays),
+        as_packet("r14 a packet to the same bytes", &inside),
+        as_packet("r14 bytes after a packet's message go", &longer),
     ]
 }
 
@@ -394,44 +310,20 @@ fn names_of_packages() -> Vec<Named> {
 
 fn kind_alone() -> Vec<Named> {
     let around = |entries: &[Vec<u8>]| whole(&pa(&[mpt(entries), mpt_of(0x11, entries, &[])]));
-    let before = [video(5), caption(5), carousel(5)];
+    let all = [video(5), caption(5), carousel(5)];
     let neither = Options {
         carousel: false,
         ..NO_CAPTIONS_OF_0401
     };
-    let case = |name, options, entries: &[Vec<u8>], stayed, went| {
-        let after = counted(around(entries), stayed, went);
-        payload(name, options, 0xf001, around(&before), after)
-    };
+    let case = |name, options, answer| payload(name, options, 0xf001, around(&all), answer);
+    let no_captions = counted(around(&[video(5), carousel(5)]), [0, 2, 2], [2, 0, 0]);
+    let no_carousels = counted(around(&all[..2]), [2, 0, 2], [0, 2, 0]);
+    let others = counted(around(&all[..1]), [0, 0, 2], [2, 2, 0]);
     vec![
-        case(
-            "r20 captions go from every MPT",
-            NO_CAPTIONS_OF_0401,
-            &[video(5), carousel(5)],
-            [0, 2, 2],
-            [2, 0, 0],
-        ),
-        case(
-            "r20 carousels go from every MPT",
-            NO_CAROUSELS,
-            &[video(5), caption(5)],
-            [2, 0, 2],
-            [0, 2, 0],
-        ),
-        case(
-            "r20 both go from every MPT",
-            neither,
-            &[video(5)],
-            [0, 0, 2],
-            [2, 2, 0],
-        ),
-        payload(
-            "r20 both stay in every MPT",
-            only(0x0401),
-            0xf001,
-            around(&before),
-            Narrowed::Unchanged,
-        ),
+        case("r20 captions go", NO_CAPTIONS_OF_0401, no_captions),
+        case("r20 carousels go", NO_CAROUSELS, no_carousels),
+        case("r20 captions and carousels go", neither, others),
+        case("r20 all stay", only(0x0401), Narrowed::Unchanged),
     ]
 }
 
@@ -454,74 +346,43 @@ fn flag_bits() -> Vec<Named> {
     ]
 }
 
-fn eit_off() -> Vec<Named> {
-    let neither = Options {
-        eit: false,
-        ..NO_CAPTIONS
-    };
-    let sent = |entries: &[Vec<u8>]| tables(0x8000, &[mpt(entries)]);
-    let before = sent(&[video(1), caption(2)]);
-    vec![
-        packet(
-            "r22 EIT off, captions off, on 0x8000",
-            neither,
-            before.clone(),
-            cut(sent(&[video(1)])),
-        ),
-        packet(
-            "r22 EIT off alone, on 0x8000",
-            NO_EIT,
-            before,
-            Narrowed::Unchanged,
-        ),
-    ]
-}
-
-/// An entry that ends behind its table, though inside the message, does not read.
 fn after_the_last_entry() -> Vec<Named> {
     let with =
         |tail: &'static [u8]| move |entries: &[Vec<u8>]| whole(&pa(&[mpt_of(0x11, entries, tail)]));
     let [before, after] = [2, 1].map(|count| {
         let packages = [service_at(0x0401, 1), service_at(0x0402, 2)];
-        let mut body = vec![count];
-        body.extend(packages[..usize::from(count)].concat());
-        body.extend([8, 9]);
-        table_of(0x80, &body)
+        let packages = packages[..usize::from(count)].concat();
+        table_of(0x80, &[&[count][..], &packages, &[8, 9]].concat())
     });
+    vec![
+        narrows("r24 two bytes after an MPT's last entry", with(&[8, 9])),
+        narrows("r24 an entry's bytes after the last", with(&[0; 18])),
+        table(
+            "r24 two bytes after a PLT's last entry",
+            only(0x0401),
+            before,
+            listed(after),
+        ),
+    ]
+}
+
+/// An entry that ends behind its table, though inside the message, does not read.
+fn behind_the_table() -> Vec<Named> {
     let shorter = |mut table: Vec<u8>| {
         table[3] -= 1;
         whole(&pa_with_heads(&[], &[table]))
     };
     let described = asset(&[1], "stpp", &[0], &[], &[7, 7]);
-    let of_plt = shorter(plt(&[service_at(0x0401, 1)]));
+    let case = |name, identifier, table: Vec<u8>| {
+        let bytes = shorter(table);
+        let options = NO_CAPTIONS_OF_0401;
+        payload(name, options, identifier, bytes, Narrowed::Unchanged)
+    };
+    let list = plt(&[service_at(0x0401, 1)]);
     vec![
-        narrows(
-            "r24 two bytes after an MPT's last entry stay",
-            with(&[8, 9]),
-        ),
-        narrows(
-            "r24 a whole entry after an MPT's last stays",
-            with(&[0; 18]),
-        ),
-        table(
-            "r24 two bytes after a PLT's last entry stay",
-            only(0x0401),
-            before,
-            listed(after),
-        ),
-        stays("r24 an entry one byte longer than its MPT", |entries| {
-            shorter(mpt(entries))
-        }),
-        stays("r24 descriptors one byte longer than their MPT", |_| {
-            shorter(mpt(&[video(1), described.clone()]))
-        }),
-        payload(
-            "r24 an entry one byte longer than its PLT",
-            only(0x0401),
-            0,
-            of_plt,
-            Narrowed::Unchanged,
-        ),
+        case("r24 an entry ends behind its MPT", 1, mpt(&[caption(1)])),
+        case("r24 descriptors end behind their MPT", 1, mpt(&[described])),
+        case("r24 an entry ends behind its PLT", 0, list),
     ]
 }
 
@@ -570,44 +431,32 @@ fn counts() -> Vec<Named> {
     let mut unreadable = mpt(&assets);
     unreadable[10] += 1;
     let around = |first: &[Vec<u8>], last: &[Vec<u8>]| {
-        whole(&pa(&[
-            mpt(first),
-            unreadable.clone(),
-            mpt_of(0x11, last, &[]),
-        ]))
+        let last = mpt_of(0x11, last, &[]);
+        whole(&pa(&[mpt(first), unreadable.clone(), last]))
     };
     let case = |name, options, after| payload(name, options, 0, around(&assets, &captions), after);
     let no_captions = around(&[&carousels[..], &others].concat(), &[]);
     let no_carousels = around(&[&captions[..], &others].concat(), &captions);
-    let beside = |entries: &[Vec<u8>]| whole(&pa(&[mpt(entries), plt(&[service_at(0x0401, 1)])]));
-    let both = beside(&[caption(1), video(2)]);
-    let stayed = counted(both.clone(), [1, 0, 1], [0; 3]);
+    let (no_captions, no_carousels) = (
+        counted(no_captions, [0, 2, 3], [2, 0, 0]),
+        counted(no_carousels, [2, 0, 3], [0, 2, 0]),
+    );
     vec![
-        case(
-            "r26 captions go",
-            NO_CAPTIONS,
-            counted(no_captions, [0, 2, 3], [2, 0, 0]),
-        ),
-        case(
-            "r26 carousels go",
-            NO_CAROUSELS,
-            counted(no_carousels, [2, 0, 3], [0, 2, 0]),
-        ),
+        case("r26 captions go", NO_CAPTIONS, no_captions),
+        case("r26 carousels go", NO_CAROUSELS, no_carousels),
         case("r26 nothing goes", ALL, Narrowed::Unchanged),
-        payload(
-            "r26 only the PLT changed",
-            only(0x0401),
-            0,
-            both.clone(),
-            stayed,
-        ),
-        payload(
-            "r26 PLT and MPT changed",
-            NO_CAPTIONS_OF_0401,
-            0,
-            both,
-            cut(beside(&[video(2)])),
-        ),
+    ]
+}
+
+fn counts_beside_a_plt() -> Vec<Named> {
+    let around = |entries: &[Vec<u8>]| whole(&pa(&[mpt(entries), plt(&[service_at(0x0401, 1)])]));
+    let both = around(&[caption(1), video(2)]);
+    let stayed = counted(both.clone(), [1, 0, 1], [0; 3]);
+    let case = |name, options, answer| payload(name, options, 0, both.clone(), answer);
+    let changed = cut(around(&[video(2)]));
+    vec![
+        case("r26 only the PLT changed", only(0x0401), stayed),
+        case("r26 PLT and MPT changed", NO_CAPTIONS_OF_0401, changed),
     ]
 }
 
@@ -628,58 +477,5 @@ fn refused_in_copy_all() -> Vec<Named> {
             before,
             Narrowed::Unchanged,
         ),
-    ]
-}
-
-fn unread_header_bits() -> Vec<Named> {
-    let first = |byte: u8| {
-        move |payload: &[u8]| {
-            let mut packet = mmtp(2, 1, payload);
-            packet[0] = byte;
-            compressed(&packet)
-        }
-    };
-    let high = |payload: &[u8]| compressed(&mmtp(0xc2, 1, payload));
-    vec![
-        packet_narrows("r28 the MMTP version", first(0xc0)),
-        packet_narrows("r28 the FEC bits", first(0x18)),
-        packet_narrows("r28 all bits but counter and extension", first(0xdd)),
-        packet_narrows("r28 the two high bits of the payload type", high),
-    ]
-}
-
-fn first_bytes_of_a_packet() -> Vec<Named> {
-    let sent = |payload: &[u8]| signalling(1, payload);
-    let [before, after] = [vec![video(1), caption(2)], vec![video(1)]]
-        .map(|entries| sent(&whole(&pa(&[mpt(&entries)]))));
-    let begun = |first: [u8; 4]| [&first[..], &before[4..]].concat();
-    let mut narrowed = after;
-    narrowed[0] = 0;
-    let mut cases = vec![packet(
-        "of a packet's first bytes only the type is read",
-        NO_CAPTIONS,
-        begun([0, 3, 0xff, 0xff]),
-        cut(narrowed),
-    )];
-    for kind in [0, 1, 2, 4, 0xfe, 0xff] {
-        let name = format!("a packet of type {kind:#04x}");
-        let bytes = begun([0x7f, kind, before[2], before[3]]);
-        cases.push(packet(name, NO_CAPTIONS, bytes, Narrowed::Unchanged));
-    }
-    for length in [0, 1, 2, 3, 4, 6, 7] {
-        let name = format!("the first {length} bytes of a packet");
-        let bytes = before[..length].to_vec();
-        cases.push(packet(name, NO_CAPTIONS, bytes, Narrowed::Unchanged));
-    }
-    cases
-}
-
-fn payload_types() -> Vec<Named> {
-    let typed = |kind: u8| move |payload: &[u8]| compressed(&mmtp(kind, 1, payload));
-    vec![
-        packet_stays("a packet of payload type 0", typed(0)),
-        packet_stays("a packet of payload type 1", typed(1)),
-        packet_stays("a packet of payload type 3", typed(3)),
-        packet_stays("a packet of payload type 63", typed(63)),
     ]
 }

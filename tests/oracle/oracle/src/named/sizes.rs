@@ -17,8 +17,12 @@ pub(super) fn sizes() -> Vec<Named> {
         short_inputs(),
         long_inputs(),
         outputs(),
+        refusals(),
         lengths(),
-        entries(),
+        mpt_entries(),
+        miscounted(),
+        plt_entries(),
+        many_tables(),
     ]
     .concat()
 }
@@ -95,39 +99,28 @@ fn outputs() -> Vec<Named> {
             case(name, kind, "the longest output", OUTPUT_ROOM),
         ]
     };
-    let zeros = |name, length: usize, room: usize, number| {
-        table(
-            name,
-            NO_CAPTIONS,
-            vec![0; length],
-            Narrowed::Refused(number),
-        )
-        .lent(room)
+    KINDS.into_iter().flat_map(of_kind).collect()
+}
+
+/// Each refusal alone, and both at once.
+fn refusals() -> Vec<Named> {
+    let case = |name, length: usize, room: usize, answer| {
+        table(name, NO_CAPTIONS, vec![0; length], answer).lent(room)
     };
-    let mut cases: Vec<_> = KINDS.into_iter().flat_map(of_kind).collect();
-    cases.extend([
-        table(
-            "nothing into no output",
-            NO_CAPTIONS,
-            vec![],
-            Narrowed::Unchanged,
-        ),
-        zeros("one byte into no output", 1, 0, 6),
-        zeros(
-            "the longest input, output one byte shorter",
-            LONGEST,
-            LONGEST - 1,
-            6,
-        ),
-        zeros(
-            "too long, output one byte shorter: 5 before 6",
+    let refused = Narrowed::Refused;
+    vec![
+        case("nothing, no output", 0, 0, Narrowed::Unchanged),
+        case("one byte, no output", 1, 0, refused(6)),
+        case("longest, output shorter", LONGEST, LONGEST - 1, refused(6)),
+        case(
+            "too long, output as long",
             LONGEST + 1,
-            LONGEST,
-            5,
+            LONGEST + 1,
+            refused(5),
         ),
-        zeros("too long, no output: 5 before 6", LONGEST + 1, 0, 5),
-    ]);
-    cases
+        case("too long, output shorter", LONGEST + 1, LONGEST, refused(5)),
+        case("too long, no output", LONGEST + 1, 0, refused(5)),
+    ]
 }
 
 /// An MPT of a video, whose descriptors bring it to the highest length, and of a caption before it.
@@ -152,20 +145,16 @@ fn lengths() -> Vec<Named> {
     let [long_table, short_table] = longest_mpt();
     let [long_packet, short_packet] = longest_packet();
     let [before, after] = usual(Kind::Table);
+    let right = before.len() as u16 - 4;
     let longer = [&before[..], &[9]].concat();
     let says = |name, length: u16| {
         let mut bytes = before.clone();
         bytes[2..4].copy_from_slice(&length.to_be_bytes());
         table(name, NO_CAPTIONS, bytes, Narrowed::Unchanged)
     };
-    let right = before.len() as u16 - 4;
+    let changes = |name, before, after| table(name, NO_CAPTIONS, before, cut(after));
     vec![
-        table(
-            "an MPT of length 65,535",
-            NO_CAPTIONS,
-            long_table,
-            cut(short_table),
-        ),
+        changes("an MPT of length 65,535", long_table, short_table),
         packet(
             "a packet of length 65,535",
             NO_CAPTIONS,
@@ -176,121 +165,84 @@ fn lengths() -> Vec<Named> {
         says("a table says one byte more than there is", right + 1),
         says("a table says one byte less than there is", right - 1),
         says("a table says 0 bytes", 0),
+        changes("a byte behind a table goes", longer, after),
+    ]
+}
+
+/// MPTs of 0, 1 and 255 entries.
+fn mpt_entries() -> Vec<Named> {
+    let entry = |nth: usize| [video, caption, carousel][nth % 3](nth as u16);
+    let mixed: Vec<_> = (0..255).map(entry).collect();
+    let kept: Vec<_> = (0..255).filter(|nth| nth % 3 != 1).map(entry).collect();
+    let captions = |count: u16| mpt(&(0..count).map(caption).collect::<Vec<_>>());
+    let goes = |name, count: u16| {
+        let after = counted(mpt(&[]), [0; 3], [count.into(), 0, 0]);
+        table(name, NO_CAPTIONS, captions(count), after)
+    };
+    let stays = |name, count| table(name, NO_CAROUSELS, captions(count), Narrowed::Unchanged);
+    let third = counted(mpt(&kept), [0, 85, 85], [85, 0, 0]);
+    vec![
+        stays("an MPT of no entry", 0),
+        stays("an MPT of one entry that stays", 1),
+        stays("an MPT of 255 entries that stay", 255),
+        goes("an MPT of one entry that goes", 1),
+        goes("an MPT of 255 entries that go", 255),
         table(
-            "a byte behind a table goes",
+            "an MPT of 255, a third goes",
             NO_CAPTIONS,
-            longer,
-            cut(after),
+            mpt(&mixed),
+            third,
         ),
     ]
 }
 
-/// Tables of 0, 1 and 255 entries, and one more or fewer counted than there are.
-fn entries() -> Vec<Named> {
-    let none = || Narrowed::Unchanged;
-    let all = |count: u16| (0..count).map(caption).collect::<Vec<_>>();
-    let mixed: Vec<_> = (0..255)
-        .map(|nth| [video, caption, carousel][nth % 3](nth as u16))
-        .collect();
-    let kept: Vec<_> = (0..255)
-        .filter(|nth| nth % 3 != 1)
-        .map(|nth| mixed[nth].clone())
-        .collect();
-    let services = |count: u16| {
-        (0..count)
-            .map(|nth| service_at(0x0400 + nth, nth))
-            .collect::<Vec<_>>()
+/// MPTs that count another number of entries than there are.
+fn miscounted() -> Vec<Named> {
+    let case = |name, count: u8| {
+        let mut bytes = usual(Kind::Table)[0].clone();
+        bytes[10] = count;
+        table(name, NO_CAPTIONS, bytes, Narrowed::Unchanged)
     };
-    let ours = |nth: u16| listed(plt(&[service_at(0x0400 + nth, nth)]));
-    let gone = |count: u32| counted(mpt(&[]), [0; 3], [count, 0, 0]);
-    let recounted = |count: u8| {
-        let mut table = mpt(&[video(1), caption(2)]);
-        table[10] = count;
-        table
-    };
-    let many = vec![mpt(&[caption(1)]); 255];
-    let narrowed = vec![mpt(&[]); 255];
     vec![
-        table("an MPT of no entry", NO_CAPTIONS, mpt(&[]), none()),
-        table(
-            "an MPT of one entry that goes",
-            NO_CAPTIONS,
-            mpt(&all(1)),
-            gone(1),
-        ),
-        table(
-            "an MPT of one entry that stays",
-            NO_CAROUSELS,
-            mpt(&all(1)),
-            none(),
-        ),
-        table(
-            "an MPT of 255 entries that go",
-            NO_CAPTIONS,
-            mpt(&all(255)),
-            gone(255),
-        ),
-        table(
-            "an MPT of 255 entries that stay",
-            NO_CAROUSELS,
-            mpt(&all(255)),
-            none(),
-        ),
-        table(
-            "an MPT of 255 entries, a third goes",
-            NO_CAPTIONS,
-            mpt(&mixed),
-            counted(mpt(&kept), [0, 85, 85], [85, 0, 0]),
-        ),
-        table(
-            "an MPT counts one entry more than there is",
-            NO_CAPTIONS,
-            recounted(3),
-            none(),
-        ),
-        table(
-            "an MPT counts one entry less than there is",
-            NO_CAPTIONS,
-            recounted(1),
-            none(),
-        ),
-        table(
-            "an MPT counts 255 entries where two are",
-            NO_CAPTIONS,
-            recounted(255),
-            none(),
-        ),
-        table("a PLT of no entry", only(0x0400), plt(&[]), none()),
-        table(
-            "a PLT of one entry",
-            only(0x0400),
-            plt(&services(1)),
-            ours(0),
-        ),
-        table(
-            "a PLT of 255 entries, the first is ours",
-            only(0x0400),
-            plt(&services(255)),
-            ours(0),
-        ),
-        table(
-            "a PLT of 255 entries, the last is ours",
-            only(0x04fe),
-            plt(&services(255)),
-            ours(254),
-        ),
-        table(
-            "a PLT of 255 entries, none is ours",
-            only(0x04ff),
-            plt(&services(255)),
-            none(),
-        ),
-        payload(
-            "255 tables in a message",
-            NO_CAPTIONS,
-            0,
-            whole(&pa(&many)),
-            counted(whole(&pa(&narrowed)), [0; 3], [255, 0, 0]),
-        ),
+        case("an MPT counts one entry more than there is", 3),
+        case("an MPT counts one entry less than there is", 1),
+        case("an MPT counts no entry where two are", 0),
+        case("an MPT counts 255 entries where two are", 255),
     ]
+}
+
+/// PLTs of 0, 1 and 255 packages.
+fn plt_entries() -> Vec<Named> {
+    let service = |nth: u16| service_at(0x0400 + nth, nth);
+    let case = |name, count: u16, ours: u16| {
+        let before = plt(&(0..count).map(service).collect::<Vec<_>>());
+        let there = ours < count;
+        let after = if there {
+            listed(plt(&[service(ours)]))
+        } else {
+            Narrowed::Unchanged
+        };
+        table(name, only(0x0400 + ours), before, after)
+    };
+    vec![
+        case("a PLT of no entry", 0, 0),
+        case("a PLT of one entry", 1, 0),
+        case("a PLT of 255 entries, the first is ours", 255, 0),
+        case("a PLT of 255 entries, the last is ours", 255, 254),
+        case("a PLT of 255 entries, none is ours", 255, 255),
+    ]
+}
+
+/// A message of 255 tables.
+fn many_tables() -> Vec<Named> {
+    let around = |entries: &[Vec<u8>]| whole(&pa(&vec![mpt(entries); 255]));
+    let after = counted(around(&[]), [0; 3], [255, 0, 0]);
+    let before = around(&[caption(1)]);
+    vec![payload(
+        "a message of 255 tables",
+        NO_CAPTIONS,
+        0,
+        before,
+        after,
+    )]
 }
