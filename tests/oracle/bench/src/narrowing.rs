@@ -1,9 +1,11 @@
-//! Rows on narrowing: packets with a table of 8 entries, by the original's `packet` without what it learns, and by
+//! Rows on narrowing: packets with a table of 8 entries or with none, by the original's `packet` without what it learns, and by
 //! the proved `rewrite` with the copy that a recorder makes where nothing changed. Both write to an output that
 //! is there already.
 
 use face::Options;
-use oracle::builders::{NO_CAPTIONS, asset, here, mpt, only, plt, service_at, tables};
+use oracle::builders::{
+    NO_CAPTIONS, asset, here, long_message, mpt, only, plt, service_at, signalling, tables, whole,
+};
 use original::Narrowing;
 
 use crate::measure::Row;
@@ -29,6 +31,12 @@ pub fn rows() -> Vec<Row> {
             proved::packet,
         ),
         row("PLT of 8 entries, one stays", one, plts(), proved::packet),
+        row(
+            "no PA message, 1,400 bytes",
+            neither,
+            others(),
+            proved::packet,
+        ),
         // The original counts no entries: its side is the same as above.
         row(
             "MPT of 8 entries, 2 go, with counts",
@@ -63,6 +71,12 @@ fn plts() -> Vec<Vec<u8>> {
         let service = |nth: u16| service_at(0x0400 + (nth + packet) % 8, nth);
         tables(0, &[plt(&(0..8).map(service).collect::<Vec<_>>())])
     };
+    (0..PACKETS as u16).map(packet).collect()
+}
+
+/// Signalling packets of 1,400 bytes with a message that is not looked into.
+fn others() -> Vec<Vec<u8>> {
+    let packet = |packet: u16| signalling(packet, &whole(&long_message(0x8000, &[7; 1_372])));
     (0..PACKETS as u16).map(packet).collect()
 }
 
