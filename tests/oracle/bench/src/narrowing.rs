@@ -1,6 +1,6 @@
-//! Rows on narrowing: packets with a table of 8 entries or with none, by the original's `packet` without what it learns, and by
-//! the proved `rewrite` with the copy that a recorder makes where nothing changed. Both write to an output that
-//! is there already.
+//! Rows on narrowing: packets with a table of 8 entries, or with none. The original's side is its `packet` without
+//! what it learns, the proved one `rewrite`, and `copy` where nothing changed. Both write to an output that is
+//! there already.
 
 use face::Options;
 use oracle::builders::{
@@ -19,31 +19,17 @@ pub fn rows() -> Vec<Row> {
         carousel: false,
         ..NO_CAPTIONS
     };
-    let one = only(0x0404);
+    let sent = |name, options, packets| row(name, options, packets, proved::packet);
+    // The original counts no entries: its side is the same with counts and without.
+    let counted = |name, options, packets| row(name, options, packets, proved::narrow);
     vec![
-        row("MPT of 8 entries, 1 goes", neither, mpts(1), proved::packet),
-        row("MPT of 8 entries, 2 go", neither, mpts(2), proved::packet),
-        row("MPT of 8 entries, 4 go", neither, mpts(4), proved::packet),
-        row(
-            "MPT of 8 entries, none goes",
-            neither,
-            mpts(0),
-            proved::packet,
-        ),
-        row("PLT of 8 entries, one stays", one, plts(), proved::packet),
-        row(
-            "no PA message, 1,400 bytes",
-            neither,
-            others(),
-            proved::packet,
-        ),
-        // The original counts no entries: its side is the same as above.
-        row(
-            "MPT of 8 entries, 2 go, with counts",
-            neither,
-            mpts(2),
-            proved::narrow,
-        ),
+        sent("MPT of 8 entries, 1 goes", neither, mpts(1)),
+        sent("MPT of 8 entries, 2 go", neither, mpts(2)),
+        sent("MPT of 8 entries, 4 go", neither, mpts(4)),
+        sent("MPT of 8 entries, none goes", neither, mpts(0)),
+        sent("PLT of 8 entries, one stays", only(0x0404), plts()),
+        sent("no PA message, 1,400 bytes", neither, others()),
+        counted("MPT of 8 entries, 2 go, with counts", neither, mpts(2)),
     ]
 }
 
