@@ -9,6 +9,6 @@ fn main() {
     if let Ok(path) = env::var("DISCJUMAR_DRIVER") {
         println!("cargo::rerun-if-changed={path}");
         println!("cargo::rustc-cfg=driver");
-        println!("cargo::rustc-link-arg-bins={path}");
+        println!("cargo::rustc-link-arg={path}");
     }
 }
