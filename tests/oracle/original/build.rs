@@ -1,6 +1,6 @@
-//! Puts two modules into OUT_DIR: 000 untouched, and 000 patched by the table in `replacements.rs`. 000 is
-//! read from the absolute path in DISCJUMAR_ORIGINAL, or from the papers that stand beside the repository;
-//! its text is never copied into the repository.
+//! Puts three modules into OUT_DIR: 000 untouched, and 000 changed by the two tables in `replacements.rs`, with
+//! 01's limits and with narrowing alone. 000 is read from the absolute path in DISCJUMAR_ORIGINAL, or from the
+//! papers that stand beside the repository; its text is never copied into the repository.
 
 use std::path::{Path, PathBuf};
 use std::{env, fs};
@@ -23,10 +23,15 @@ fn build() -> Result<(), String> {
     let mut patched = replacements::apply(&untouched, replacements::REPLACEMENTS)?;
     // As a child of the patched module it has 000's private names in reach: none is made visible.
     patched += &module("inside", &here.join("src/inside.rs"));
+    let narrowing = replacements::apply(&untouched, replacements::NARROWING)?;
     let modules = module("untouched", &out.join("untouched.rs"))
-        + &module("patched", &out.join("patched.rs"));
+        + &module("patched", &out.join("patched.rs"))
+        // Most of 000 is of no use there.
+        + "#[allow(dead_code)]\n"
+        + &module("narrowing", &out.join("narrowing.rs"));
     write(&out.join("untouched.rs"), &untouched)?;
     write(&out.join("patched.rs"), &patched)?;
+    write(&out.join("narrowing.rs"), &narrowing)?;
     write(&out.join("modules.rs"), &modules)
 }
 

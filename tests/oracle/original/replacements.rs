@@ -1,5 +1,6 @@
-//! The replacements that put 01's limits and counts into 000, as (name, needle, replacement). Each must fit
-//! exactly once in the text that those before it left. What they call stands in `src/inside.rs`.
+//! The replacements that put 01's limits and counts into 000, as (name, needle, replacement), and those for the
+//! bench. Each must fit exactly once in the text that those before it left. What they call stands in
+//! `src/inside.rs`.
 
 pub type Replacement = (&'static str, &'static str, &'static str);
 
@@ -69,6 +70,12 @@ pub const REPLACEMENTS: &[Replacement] = &[
         "if signalling {",
         "if signalling && !self.inside.alone {",
     ),
+];
+
+/// Those that leave 000's `packet` without learning and open it to the bench, which measures narrowing alone.
+pub const NARROWING: &[Replacement] = &[
+    ("open", "fn packet(", "pub(super) fn packet("),
+    ("learning", "if signalling {", "if false {"),
 ];
 
 /// The text with all replacements made, or the name of the first that does not fit exactly once.

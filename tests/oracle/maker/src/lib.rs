@@ -62,6 +62,16 @@ pub fn inputs(seed: u64) -> Vec<Input> {
     narrowing::tagged_inputs(seed).0
 }
 
+/// 01's examples 1 to 10, tables to narrow.
+pub fn examples() -> Vec<Input> {
+    examples::inputs()
+}
+
+/// A small input for narrowing with one to three places damaged; the kinds take turns from seed to seed.
+pub fn damaged(seed: u64) -> Input {
+    narrowing::damaged(seed)
+}
+
 /// A clean stream of `size` bytes (none where that is under four) like a broadcast of several services:
 /// packets of 1,400 bytes, and a burst of tables each 60 of them.
 pub fn air(seed: u64, size: usize) -> Vec<u8> {

@@ -3,7 +3,7 @@
 
 use std::collections::BTreeSet;
 
-use face::Kind;
+use face::{Kind, Options};
 
 use crate::Input;
 use crate::broadcast::Broadcast;
@@ -20,6 +20,11 @@ const TAKEN_MOST: usize = 65_539;
 pub(crate) const INPUT_MOST: usize = 131_200;
 const INPUTS: usize = 8;
 const EXAMPLES_EACH: u64 = 50;
+/// The longest damaged input before its damage.
+const SMALL: usize = 400;
+const KINDS: [Kind; 3] = [Kind::Table, Kind::Payload, Kind::Packet];
+/// Flag bytes with something not wanted.
+const LEAVE_OUT: [u8; 7] = [0, 5, 6, 8, 12, 13, 14];
 
 pub(crate) fn tagged_inputs(seed: u64) -> (Vec<Input>, BTreeSet<Tag>) {
     let mut rng = Rng::new(seed, 3);
@@ -42,7 +47,7 @@ fn input(rng: &mut Rng) -> Input {
         1 => broadcast.fill_packages(rng),
         _ => {}
     }
-    let kind = rng.pick(&[Kind::Table, Kind::Payload, Kind::Packet]);
+    let kind = rng.pick(&KINDS);
     let identifier = identifier(rng);
     let mut bytes = if rng.chance(4) {
         rng.note(Tag::RandomInput);
@@ -60,6 +65,35 @@ fn input(rng: &mut Rng) -> Input {
         identifier,
         room: room(rng, bytes.len()),
         bytes,
+    }
+}
+
+pub(crate) fn damaged(seed: u64) -> Input {
+    let mut rng = Rng::new(seed, 6);
+    let kind = KINDS[seed as usize % KINDS.len()];
+    let (broadcast, mut bytes) = small(&mut rng, kind);
+    for _ in 0..rng.pick(&[1, 1, 2, 3]) {
+        damage::bytes(&mut rng, &mut bytes);
+    }
+    let service = rng.pick(&broadcast.numbers());
+    Input {
+        kind,
+        options: Options::from_flags(rng.pick(&LEAVE_OUT), service),
+        identifier: identifier(&mut rng),
+        room: bytes.len(),
+        bytes,
+    }
+}
+
+/// An input that is short enough, and the broadcast that it is of, which has a service.
+fn small(rng: &mut Rng, kind: Kind) -> (Broadcast, Vec<u8>) {
+    loop {
+        let services = rng.within(1..=4);
+        let broadcast = Broadcast::new(rng, services);
+        let bytes = made(rng, kind, &broadcast);
+        if bytes.len() <= SMALL && !broadcast.numbers().is_empty() {
+            return (broadcast, bytes);
+        }
     }
 }
 

@@ -7,6 +7,8 @@
 
 use face::{Kind, Limits, Options};
 
+use crate::named;
+
 /// The rooms of the port's program: what a case may ask for at most.
 const WORK: usize = 131_200;
 const TOTAL: usize = 1_048_576;
@@ -71,6 +73,27 @@ impl<'a> From<&'a maker::Input> for Narrowing<'a> {
             input: &made.bytes,
         }
     }
+}
+
+/// A seed's cases as bytes: its stream, where one is asked for, then at most this many narrowings.
+pub fn of_seed(seed: u64, stream: bool, narrowings: usize) -> Vec<u8> {
+    let mut writer = Writer::default();
+    if stream {
+        writer.stream(&Stream::from(&maker::case(seed)));
+    }
+    for input in maker::inputs(seed).iter().take(narrowings) {
+        writer.narrowing(&Narrowing::from(input));
+    }
+    writer.bytes
+}
+
+/// The named cases as bytes.
+pub fn named() -> Vec<u8> {
+    let mut writer = Writer::default();
+    for case in named::named() {
+        writer.narrowing(&Narrowing::from(&case.input));
+    }
+    writer.bytes
 }
 
 /// Cases as bytes.

@@ -3,8 +3,10 @@
 
 pub mod answers;
 pub mod arguments;
+pub mod builders;
 pub mod cases;
 pub mod compare;
+pub mod named;
 pub mod narrow;
 pub mod programs;
 pub mod run;

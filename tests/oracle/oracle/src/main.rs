@@ -8,11 +8,10 @@ use std::{env, fs};
 
 use face::{Engine, Limits};
 use oracle::arguments::Arguments;
-use oracle::cases::{Narrowing, Stream, Writer};
 use oracle::compare::{self, Outcome};
 use oracle::run::Told;
 use oracle::theorems::{self, Bounds};
-use oracle::{answers, narrow, programs, run};
+use oracle::{answers, cases, narrow, programs, run};
 use original::Original;
 use plain::Plain;
 
@@ -29,6 +28,7 @@ const USAGE: &str = "usage: oracle COMMAND
                               one narrowing of standard input
   cases --seeds A..B [--narrowing N] [--streams 0]
                               the seeds' cases, each with at most N narrowings and its stream, or none
+  cases --named               the named narrowings: what the port's program answers stores
   answers [--by original|plain]
                               the answers to the cases on standard input
   theorems --seeds A..B [--narrowing N] [--longest N] [--most N]
@@ -55,7 +55,7 @@ fn dispatch(command: &str, words: impl Iterator<Item = String>) -> Answer {
         "sums" => read(&[], &[]).and_then(|_| program(programs::sums::<Original>)),
         "run" => run_command(&read(RUN, &[])?),
         "narrow" => narrow_command(&read(NARROW, &["hex"])?),
-        "cases" => cases_command(&read(&["seeds", "narrowing", "streams"], &[])?),
+        "cases" => cases_command(&read(&["seeds", "narrowing", "streams"], &["named"])?),
         "answers" => answers_command(&read(&["by"], &[])?),
         "theorems" => theorems_command(&read(THEOREMS, &[])?),
         "compare" => compare_command("compared", compare::compare, &read(&["seeds"], &[])?),
@@ -119,17 +119,16 @@ fn narrow_command(arguments: &Arguments) -> Answer {
 }
 
 fn cases_command(arguments: &Arguments) -> Answer {
+    let mut output = io::stdout().lock();
+    if arguments.has("named") {
+        output.write_all(&cases::named()).map_err(text)?;
+        return Ok(ExitCode::SUCCESS);
+    }
     let most = arguments.number("narrowing", usize::MAX)?;
-    let streams = arguments.number("streams", 1)?;
+    let streams = arguments.number("streams", 1)? > 0;
     for seed in arguments.seeds()? {
-        let mut writer = Writer::default();
-        if streams > 0 {
-            writer.stream(&Stream::from(&maker::case(seed)));
-        }
-        for input in maker::inputs(seed).iter().take(most) {
-            writer.narrowing(&Narrowing::from(input));
-        }
-        io::stdout().write_all(&writer.bytes).map_err(text)?;
+        let bytes = cases::of_seed(seed, streams, most);
+        output.write_all(&bytes).map_err(text)?;
     }
     Ok(ExitCode::SUCCESS)
 }

@@ -1,5 +1,6 @@
-//! 000 itself, twice: `Original`, with 01's limits, counts and refusals, and `Untouched`, as it is. The
-//! build puts 000 in (see `build.rs`); the readers that it calls are the stand-ins beside this crate.
+//! 000 itself, three times: `Original`, with 01's limits, counts and refusals, `Untouched`, as it is, and
+//! `Narrowing`, its narrowing alone. The build puts 000 in (see `build.rs`); the readers that it calls are the
+//! stand-ins beside this crate.
 
 use face::{Call, Engine, Kind, Limits, Narrowed};
 // What 000 takes from the module above it.
@@ -85,5 +86,19 @@ impl Untouched {
         let mut out = Vec::new();
         self.0.push(chunk, &mut out);
         out
+    }
+}
+
+/// What 000 does with one packet, except for learning: for the bench. Nothing learned, nothing is dropped.
+pub struct Narrowing(narrowing::Filter);
+
+impl Narrowing {
+    pub fn new(options: Options) -> Self {
+        Self(narrowing::Filter::new(options))
+    }
+
+    /// Appends a signalling packet, narrowed or as it is.
+    pub fn packet(&mut self, packet: &[u8], out: &mut Vec<u8>) {
+        self.0.packet(packet, out);
     }
 }

@@ -3,7 +3,7 @@
 #[path = "../replacements.rs"]
 mod replacements;
 
-use replacements::{REPLACEMENTS, apply};
+use replacements::{NARROWING, REPLACEMENTS, apply};
 
 #[test]
 fn each_is_made_in_the_text_that_those_before_it_left() {
@@ -31,8 +31,10 @@ fn one_that_is_found_twice_is_named() {
 
 #[test]
 fn each_has_its_own_name() {
-    let mut names: Vec<_> = REPLACEMENTS.iter().map(|(name, ..)| name).collect();
-    names.sort();
-    names.dedup();
-    assert_eq!(names.len(), REPLACEMENTS.len());
+    for table in [REPLACEMENTS, NARROWING] {
+        let mut names: Vec<_> = table.iter().map(|(name, ..)| name).collect();
+        names.sort();
+        names.dedup();
+        assert_eq!(names.len(), table.len());
+    }
 }

@@ -5,8 +5,8 @@ use oracle::arguments::Arguments;
 use oracle::{compare, narrow, run};
 use original::Original;
 
-use crate::builders::*;
 use crate::subject::LIMITS;
+use oracle::builders::*;
 
 fn told(limits: Limits, room: usize, cuts: &[usize]) -> String {
     let bytes = hex("7F FF 00 01 AA 00");

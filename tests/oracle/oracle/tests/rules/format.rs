@@ -7,8 +7,8 @@ use oracle::cases::{Case, Narrowing, Reader, Stream, Writer};
 use original::Original;
 use plain::Plain;
 
-use crate::builders::*;
 use crate::subject::LIMITS;
+use oracle::builders::*;
 
 fn stream<'a>(chunks: &[&'a [u8]]) -> Stream<'a> {
     Stream {

@@ -2,8 +2,8 @@
 
 use face::Options;
 
-use crate::builders::*;
 use crate::subject::{Run, Subject, each};
+use oracle::builders::*;
 
 /// Services 0401 and 0402 with their MPTs on f001 and f002. Both have video at 5, and each a caption and a
 /// carousel of its own.

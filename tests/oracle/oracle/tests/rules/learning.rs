@@ -1,8 +1,8 @@
 //! The readings that concern what is learned, and what is dropped or ready by it. Learning is seen by the
 //! number of dropped identifiers and by whether media is written.
 
-use crate::builders::*;
 use crate::subject::{Run, each};
+use oracle::builders::*;
 
 /// Makes the packages known; their MPTs are still missing.
 fn know(run: &mut Run, packages: &[Vec<u8>]) {

@@ -3,8 +3,8 @@
 
 use face::Limits;
 
-use crate::builders::*;
 use crate::subject::{LIMITS, each};
+use oracle::builders::*;
 
 /// Asserts whether an 0x8003 was found in the payloads, each on its identifier.
 fn data_found(found: bool, limits: Limits, payloads: &[(u16, Vec<u8>)]) {

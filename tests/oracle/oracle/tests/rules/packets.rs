@@ -3,8 +3,8 @@
 
 use face::{Counts, Limits};
 
-use crate::builders::*;
 use crate::subject::{LIMITS, each};
+use oracle::builders::*;
 
 /// A type, a length and a next byte make a start; the candidate is followed by `next`.
 #[test]

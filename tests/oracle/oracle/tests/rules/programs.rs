@@ -6,7 +6,7 @@ use face::Engine;
 use original::Original;
 use plain::Plain;
 
-use crate::builders::*;
+use oracle::builders::*;
 
 /// What `sums` and `filter` write, with either filter behind them.
 fn written(input: &[u8]) -> [Vec<u8>; 2] {

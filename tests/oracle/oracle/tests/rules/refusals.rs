@@ -2,8 +2,8 @@
 
 use face::{Call, Counts, Kind, Limits, Narrowed};
 
-use crate::builders::*;
 use crate::subject::{LIMITS, each};
+use oracle::builders::*;
 
 fn start(limits: Limits, expected: Option<u8>) {
     each(|filter| assert_eq!((filter.start)(limits, ALL).err(), expected, "{limits:?}"));

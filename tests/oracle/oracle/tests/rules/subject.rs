@@ -1,6 +1,7 @@
 //! The filters that are asked, behind one face, and the words that the tests use for asking.
 
 use face::{Call, Engine, Kind, Limits, Narrowed, Options};
+use maker::Input;
 use original::Original;
 use plain::Plain;
 
@@ -15,8 +16,8 @@ pub const LIMITS: Limits = Limits {
 /// Runs a test with each filter.
 pub fn each(test: impl Fn(&Subject)) {
     for (name, subject) in [
-        ("original", Subject::of::<Original>()),
-        ("plain", Subject::of::<Plain>()),
+        ("original", Subject::original()),
+        ("plain", Subject::plain()),
     ] {
         // Shown where the test fails.
         println!("asked: {name}");
@@ -31,6 +32,14 @@ pub struct Subject {
 }
 
 impl Subject {
+    pub fn original() -> Self {
+        Self::of::<Original>()
+    }
+
+    pub fn plain() -> Self {
+        Self::of::<Plain>()
+    }
+
     fn of<E: Engine + 'static>() -> Self {
         Self {
             start: |limits, options| {
@@ -49,28 +58,25 @@ impl Subject {
         (self.start)(limits, options).unwrap_or_else(|number| panic!("start refused: {number}"))
     }
 
+    /// The answer to a named case.
+    pub fn answer(&self, input: &Input) -> Narrowed {
+        (self.narrow)(
+            input.kind,
+            input.options,
+            input.identifier,
+            &input.bytes,
+            input.room,
+        )
+    }
+
     /// A table narrowed by itself; `None` is unchanged.
     pub fn table(&self, options: Options, input: &[u8]) -> Option<Vec<u8>> {
         changed((self.narrow)(Kind::Table, options, 0, input, input.len()))
     }
-
-    /// A payload narrowed by itself, on an identifier that is not 0.
-    pub fn payload(&self, options: Options, input: &[u8]) -> Option<Vec<u8>> {
-        self.payload_on(0xf000, options, input)
-    }
-
-    pub fn payload_on(&self, identifier: u16, options: Options, input: &[u8]) -> Option<Vec<u8>> {
-        changed((self.narrow)(
-            Kind::Payload,
-            options,
-            identifier,
-            input,
-            input.len(),
-        ))
-    }
 }
 
-fn changed(answer: Narrowed) -> Option<Vec<u8>> {
+/// The bytes of an answer that is not refused; `None` is unchanged.
+pub fn changed(answer: Narrowed) -> Option<Vec<u8>> {
     match answer {
         Narrowed::Refused(number) => panic!("narrowing refused: {number}"),
         Narrowed::Unchanged => None,

@@ -4,8 +4,8 @@ use face::{Kind, Limits};
 use oracle::cases::{Case, Narrowing, Stream};
 use oracle::theorems::{Bounds, theorem, theorems};
 
-use crate::builders::*;
 use crate::subject::LIMITS;
+use oracle::builders::*;
 
 /// 01's example 1.
 #[test]

@@ -1,5 +1,5 @@
 //! Packets, messages and tables, built from the inside out: an entry goes into a table, tables into a PA
-//! message, a message into a payload, a payload into a packet.
+//! message, a message into a payload, a payload into a packet. The named cases and the tests are made of them.
 
 use face::Options;
 
@@ -29,7 +29,7 @@ pub fn only(service: u16) -> Options {
 }
 
 pub fn hex(digits: &str) -> Vec<u8> {
-    oracle::narrow::from_hex(digits).expect("hexadecimal digits")
+    crate::narrow::from_hex(digits).expect("hexadecimal digits")
 }
 
 // Entries and tables

@@ -1,0 +1,115 @@
+//! Measuring: both sides of a row take turns, and the median of their runs counts. The clock is that of the
+//! thread, which stands still while the machine does other things.
+
+use std::hint::black_box;
+
+/// Runs of each side of a row, and how long a run is at least.
+const RUNS: usize = 101;
+const RUN_NANOSECONDS: f64 = 2e6;
+
+/// One turn of a side: it handles all packets of its row, and answers a sum of what it did.
+type Turn = Box<dyn FnMut() -> usize>;
+
+/// Two sides that do the same work: whoever makes a row has compared what they write.
+pub struct Row {
+    pub name: String,
+    /// How many packets a turn handles.
+    pub packets: usize,
+    pub original: Turn,
+    pub proved: Turn,
+}
+
+/// Measures the rows and prints them.
+pub fn table(rows: Vec<Row>) {
+    println!(
+        "ns per packet, median of {RUNS} runs (quickest to slowest); ratio: how many times faster the proved code is"
+    );
+    println!("{:38}{:>26}{:>26}{:>8}", "", "original", "proved", "ratio");
+    for mut row in rows {
+        let [original, proved] = row.times();
+        let (name, ratio) = (row.name, original.median / proved.median);
+        let (original, proved) = (original.told(), proved.told());
+        println!("{name:38}{original:>26}{proved:>26}{ratio:>8.2}");
+    }
+}
+
+impl Row {
+    /// The times of both sides, for one packet.
+    fn times(&mut self) -> [Times; 2] {
+        let mut sides = [&mut self.original, &mut self.proved];
+        let turns = sides.each_mut().map(|side| turns(side));
+        let mut runs = [Vec::new(), Vec::new()];
+        for _ in 0..RUNS {
+            for (nth, side) in sides.iter_mut().enumerate() {
+                let time = run(side, turns[nth]) / turns[nth] as f64;
+                runs[nth].push(time / self.packets as f64);
+            }
+        }
+        runs.map(Times::of)
+    }
+}
+
+struct Times {
+    least: f64,
+    median: f64,
+    most: f64,
+}
+
+impl Times {
+    fn of(mut runs: Vec<f64>) -> Self {
+        runs.sort_by(f64::total_cmp);
+        Self {
+            least: runs[0],
+            median: runs[runs.len() / 2],
+            most: runs[runs.len() - 1],
+        }
+    }
+
+    fn told(&self) -> String {
+        format!("{:.1} ({:.1}-{:.1})", self.median, self.least, self.most)
+    }
+}
+
+/// How many turns make a run long enough. To find out warms the side up.
+fn turns(turn: &mut Turn) -> usize {
+    let mut turns = 1;
+    while run(turn, turns) < RUN_NANOSECONDS {
+        turns *= 2;
+    }
+    turns
+}
+
+/// The time of some turns, in nanoseconds.
+fn run(turn: &mut Turn, turns: usize) -> f64 {
+    let start = now();
+    for _ in 0..turns {
+        black_box(turn());
+    }
+    now() - start
+}
+
+/// C's `timespec` on Linux with 64 bits.
+#[repr(C)]
+struct Time {
+    seconds: i64,
+    nanoseconds: i64,
+}
+
+/// Linux's number of the clock of the thread.
+const THREAD_CLOCK: i32 = 3;
+
+unsafe extern "C" {
+    fn clock_gettime(clock: i32, time: *mut Time) -> i32;
+}
+
+/// The time that the thread has had, in nanoseconds.
+fn now() -> f64 {
+    let mut time = Time {
+        seconds: 0,
+        nanoseconds: 0,
+    };
+    // SAFETY: the function writes one `Time`, and keeps nothing.
+    let status = unsafe { clock_gettime(THREAD_CLOCK, &mut time) };
+    assert_eq!(status, 0, "there is a clock of the thread");
+    time.seconds as f64 * 1e9 + time.nanoseconds as f64
+}

@@ -1,0 +1,98 @@
+//! `cases --named`: narrowings in a fixed order, each with a name to find it by: 01's examples, the readings of
+//! its open sentences, sizes at each limit, and damaged inputs. Beside each that was built by hand stands its
+//! answer; damaged ones are the original's to judge.
+
+use face::{Kind, Narrowed, Options};
+use maker::Input;
+
+mod damaged;
+mod examples;
+mod packets;
+mod readings;
+mod sizes;
+
+#[derive(Debug, Clone, PartialEq, Eq)]
+pub struct Named {
+    pub name: String,
+    pub input: Input,
+    /// `None`: it is not stated here.
+    pub answer: Option<Narrowed>,
+}
+
+/// All of them, in the order in which they are written.
+pub fn named() -> Vec<Named> {
+    [
+        examples::examples(),
+        readings::readings(),
+        packets::packets(),
+        sizes::sizes(),
+        damaged::damaged(),
+    ]
+    .concat()
+}
+
+/// A table; the output is as long as it.
+fn table(name: impl Into<String>, options: Options, bytes: Vec<u8>, answer: Narrowed) -> Named {
+    built(name, Kind::Table, options, 0, bytes, answer)
+}
+
+/// A payload on this identifier.
+fn payload(
+    name: impl Into<String>,
+    options: Options,
+    identifier: u16,
+    bytes: Vec<u8>,
+    answer: Narrowed,
+) -> Named {
+    built(name, Kind::Payload, options, identifier, bytes, answer)
+}
+
+/// A packet; its identifier is in its bytes.
+fn packet(name: impl Into<String>, options: Options, bytes: Vec<u8>, answer: Narrowed) -> Named {
+    built(name, Kind::Packet, options, 0, bytes, answer)
+}
+
+fn built(
+    name: impl Into<String>,
+    kind: Kind,
+    options: Options,
+    identifier: u16,
+    bytes: Vec<u8>,
+    answer: Narrowed,
+) -> Named {
+    let input = Input {
+        kind,
+        options,
+        identifier,
+        room: bytes.len(),
+        bytes,
+    };
+    Named {
+        name: name.into(),
+        input,
+        answer: Some(answer),
+    }
+}
+
+impl Named {
+    /// The same with an output of another length.
+    fn lent(mut self, room: usize) -> Self {
+        self.input.room = room;
+        self
+    }
+}
+
+/// Changed to these bytes: how many captions, carousels and others stayed, and how many went.
+fn counted(out: Vec<u8>, stayed: [u32; 3], went: [u32; 3]) -> Narrowed {
+    Narrowed::Changed { out, stayed, went }
+}
+
+/// One caption went, one other asset stayed.
+fn cut(out: Vec<u8>) -> Narrowed {
+    counted(out, [0, 0, 1], [1, 0, 0])
+}
+
+/// A PLT changed, and there is no MPT whose entries would count.
+fn listed(out: Vec<u8>) -> Narrowed {
+    counted(out, [0; 3], [0; 3])
+}
