@@ -230,21 +230,25 @@ list-length (e ∷ es) = go (e .carrier) (list-length es)
     go none ih = omega arith
     go (some p) ih = omega arith
 
+-- the maps with a list put in
+pub maps-hold-after : (p : ℕ) (es : List Entry) (ms : List (ℕ × ℕ)) → length es < 256 → placeFor p ms < 64 → HoldsMaps ms
+    → HoldsMaps (take (placeFor p ms) ms ++ ((p, length (listed es)) ∷ drop (suc (placeFor p ms)) ms))
+maps-hold-after p es ms l h m =
+    let n = length (listed es) in
+    rw (put-is p n ms)
+    (record {
+      few = put-length 64 p n ms (m .few) h;
+      once = put-once p n ms (m .once);
+      small = put-below 256 p n ms (omega (arith, list-length es)) (m .small);
+    })
+
 pub list-holds : (T p : ℕ) (es : List Entry) (k : Known) → length es < 256 → placeFor p (k .maps) < 64 → Holds T k → Holds T (withList p (listed es) k (placeFor p (k .maps)))
 unfolding withList
-list-holds T p es k l h s =
-    let m = s .maps-hold in
-    let n = length (listed es) in
-    record {
-      packages-hold = s .packages-hold;
-      maps-hold = rw (put-is p n (k .maps))
-          (record {
-            few = put-length 64 p n (k .maps) (m .few) h;
-            once = put-once p n (k .maps) (m .once);
-            small = put-below 256 p n (k .maps) (omega (arith, list-length es)) (m .small);
-          });
-      fragments-hold = s .fragments-hold;
-    }
+list-holds T p es k l h s = record {
+  packages-hold = s .packages-hold;
+  maps-hold = maps-hold-after p es (k .maps) l h (s .maps-hold);
+  fragments-hold = s .fragments-hold;
+}
 
 mpt-holds : (T p : ℕ) (b : Bytes) (x : Out Mpt) → mpt b ≡ x → (k : Known) → Holds T k → Holds T (mptFrom p x k .known)
 mpt-holds T p b none e k s = s
@@ -308,7 +312,7 @@ keep-any g a (f ∷ fs) e =
     go true x ih = rw x ih
     go false x ih = ih
 
-not-false : (b : Bool) → not b ≡ true → b ≡ false
+pub not-false : (b : Bool) → not b ≡ true → b ≡ false
 not-false true e = sym e
 not-false false e = refl
 
@@ -358,7 +362,7 @@ snoc-any a (g ∷ fs) f e x =
     let h = or-neither (eqb a (g .identifier)) (any (eqb a) (identifiers fs)) e in
     rw (h .0) (snoc-any a fs f (h .1) x)
 
-eqb-swap : (a b : ℕ) → eqb a b ≡ false → eqb b a ≡ false
+pub eqb-swap : (a b : ℕ) → eqb a b ≡ false → eqb b a ≡ false
 eqb-swap a b e = ne-eqb b a (λ x. eqb-false a b e (sym x))
 
 snoc-once : (fs : List Fragment) (f : Fragment) → distinct (identifiers fs) ≡ true → any (eqb (f .identifier)) (identifiers fs) ≡ false → distinct (identifiers (fs ++ (f ∷ []))) ≡ true

@@ -1,11 +1,11 @@
--- Sets of identifiers: what an insertion changes and what not, and the sum of the words' ones is the number of identifiers in the set.
+-- Sets of identifiers: what an insertion and a removal change and what not, and the sum of the words' ones is the number of identifiers in the set.
 use Prim.Native.Nat.{ℕ, zero, suc, max, _+_, _-_, _*_, _/_, _%_, _^_, _≤_, _<_}
 use mathlib.Core.Path.{_≡_, refl, sym, ap, ap₂, _∙_}
 use mathlib.Core.Bool.{Bool, true, false, cond}
-use native.Mathlib.Nat.{add-zero, add-suc, pow-succ', div-div-eq-div-mul, div-one, pow-suc, one-mul, mod-eq-of-lt, mod-lt, div-eq-of-lt, mul-div-cancel, div-self, mul-mod-left}
+use native.Mathlib.Nat.{add-zero, add-suc, pow-succ', div-div-eq-div-mul, div-one, pow-suc, one-mul, mod-eq-of-lt, mod-lt, div-eq-of-lt, mul-div-cancel, div-self, mul-mod-left, mul-assoc}
 use native.Mathlib.Omega.{arith}
 use native.Mathlib.Decide.{ℕ-discrete, decLt}
-use lib.Pow.{pow-lt, pow-pos, pow-add, field, mod-mod-pow}
+use lib.Pow.{pow-lt, pow-pos, pow-add, field, mod-mod-pow, mod-pow-add, split, high, low, shl-exact, shr-shr}
 use lib.Arith.{lt-one, digits-mod, lt-of-le-ne}
 use lib.Bits.{bitOr, or-shr, or-step}
 use lib.Count.{ones, onesIn, ones-step}
@@ -13,7 +13,7 @@ use lib.Dec.{eqb}
 use lib.ListN.{length, getD, set}
 use lib.Seq.{getD-set-same, getD-set-other}
 use borrow.Author.Tests.{eq-eqb}
-use Rattle.meaning.specs.Sets.{Words, bitAt, inSet, withId, howMany}
+use Rattle.meaning.specs.Sets.{Words, bitAt, inSet, withId, withoutId, howMany}
 
 -- ---- one bit of a word
 
@@ -59,6 +59,74 @@ insert-other ws p q i h =
           let same : bitAt (bitOr (getD ws (p / 64) 0) (2 ^ (p % 64))) (q % 64) ≡ bitAt (getD ws (p / 64) 0) (q % 64) =
           rw (bit-or, bit-pow-other (p % 64) (q % 64) (λ m. h (omega arith))) (omega arith) in
           rw (e, getD-set-same ws (p / 64) _ 0 i) (ap (λ (b : ℕ). eqb b 1) same)
+    ]
+
+-- ---- get after remove
+
+-- bits below m are those of the number's rest by 2^m
+bit-rest : (w m k : ℕ) → k < m → bitAt (w % 2 ^ m) k ≡ bitAt w k
+bit-rest w m k h =
+    let e : m ≡ m - suc k + 1 + k = omega arith in
+    ap (λ (n : ℕ). w % 2 ^ n / 2 ^ k % 2) e ∙ ap (λ (x : ℕ). x % 2) (field w (m - suc k + 1) k) ∙ mod-mod-pow (w / 2 ^ k) (m - suc k) 1
+
+-- bits from m on are those of the quotient by 2^m
+bit-rise : (w m k : ℕ) → m ≤ k → bitAt w k ≡ bitAt (w / 2 ^ m) (k - m)
+bit-rise w m k h =
+    let e : m + (k - m) ≡ k = omega arith in
+    sym (ap (λ (x : ℕ). x % 2) (shr-shr w m (k - m)) ∙ ap (λ (n : ℕ). w / 2 ^ n % 2) e)
+
+module _ (w k : ℕ) where
+  -- a word without its bit k: what is above the bit, and what is below it
+  cleared : w - bitAt w k * 2 ^ k ≡ w / 2 ^ (1 + k) * 2 ^ (1 + k) + w % 2 ^ k
+  cleared = omega (arith, split w (1 + k), mod-pow-add w 1 k)
+
+  pub bit-fits : bitAt w k * 2 ^ k ≤ w
+  bit-fits = omega (arith, split w (1 + k), mod-pow-add w 1 k)
+
+  pub shl-bit : k < 64 → bitAt w k * 2 ^ k % 18446744073709551616 ≡ bitAt w k * 2 ^ k
+  shl-bit h = shl-exact 1 k 64 (omega arith) (omega arith)
+
+  twice : w / 2 ^ (1 + k) * 2 ^ (1 + k) ≡ w / 2 ^ (1 + k) * 2 * 2 ^ k
+  twice = rw (pow-add 2 1 k, mul-assoc)
+
+  below : w % 2 ^ k < 2 ^ k
+  below = mod-lt w (pow-pos k)
+
+  cleared-same : bitAt (w - bitAt w k * 2 ^ k) k ≡ 0
+  cleared-same = rw (cleared, twice, high (w / 2 ^ (1 + k) * 2) k below) (mul-mod-left (w / 2 ^ (1 + k)) 2)
+
+  cleared-less : (j : ℕ) → j < k → bitAt (w - bitAt w k * 2 ^ k) j ≡ bitAt w j
+  cleared-less j h =
+      let e : (w - bitAt w k * 2 ^ k) % 2 ^ k ≡ w % 2 ^ k = rw (cleared, twice) (low (w / 2 ^ (1 + k) * 2) k below) in
+      sym (bit-rest _ k j h) ∙ ap (λ (n : ℕ). bitAt n j) e ∙ bit-rest w k j h
+
+  cleared-more : (j : ℕ) → k < j → bitAt (w - bitAt w k * 2 ^ k) j ≡ bitAt w j
+  cleared-more j h =
+      let l : w % 2 ^ k < 2 ^ (1 + k) = omega (arith, below, pow-lt {i = k} {j = 1 + k} (omega arith)) in
+      let e : (w - bitAt w k * 2 ^ k) / 2 ^ (1 + k) ≡ w / 2 ^ (1 + k) = rw cleared (high (w / 2 ^ (1 + k)) (1 + k) l) in
+      bit-rise _ (1 + k) j (omega arith) ∙ ap (λ (n : ℕ). bitAt n (j - (1 + k))) e ∙ sym (bit-rise w (1 + k) j (omega arith))
+
+  cleared-other : (j : ℕ) → (k ≡ j → ⊥) → bitAt (w - bitAt w k * 2 ^ k) j ≡ bitAt w j
+  cleared-other j h =
+      elim (decLt j k) [
+        | yes l ↦ cleared-less j l
+        | no l ↦ cleared-more j (lt-of-le-ne (omega arith) h)
+      ]
+
+pub remove-same : (ws : Words) (p : ℕ) → p / 64 < length ws → inSet (withoutId ws p) p ≡ false
+unfolding inSet withoutId
+remove-same ws p i =
+    let w = getD ws (p / 64) 0 in
+    ap (λ (b : ℕ). eqb (bitAt b (p % 64)) 1) (getD-set-same ws (p / 64) (w - bitAt w (p % 64) * 2 ^ (p % 64)) 0 i) ∙ ap (λ (b : ℕ). eqb b 1) (cleared-same w (p % 64))
+
+pub remove-other : (ws : Words) (p q : ℕ) → p / 64 < length ws → (p ≡ q → ⊥) → inSet (withoutId ws p) q ≡ inSet ws q
+unfolding inSet withoutId
+remove-other ws p q i h =
+    let w = getD ws (p / 64) 0 in
+    elim (ℕ-discrete (q / 64) (p / 64)) [
+      | no d ↦ rw (getD-set-other ws (p / 64) (q / 64) _ 0 d)
+      | yes e ↦
+          rw (e, getD-set-same ws (p / 64) _ 0 i) (ap (λ (b : ℕ). eqb b 1) (cleared-other w (p % 64) (q % 64) (λ m. h (omega arith))))
     ]
 
 -- ---- counting by a test
@@ -111,16 +179,10 @@ in-word ws i k h =
     let r : (i * 64 + k) % 64 ≡ k = omega arith in
     rw (q, r)
 
--- bits below 64 are those of the number's rest by 2^64
-bit-low : (w k : ℕ) → k < 64 → bitAt (w % 2 ^ 64) k ≡ bitAt w k
-bit-low w k h =
-    let e : 64 ≡ 63 - k + 1 + k = omega arith in
-    ap (λ (n : ℕ). w % 2 ^ n / 2 ^ k % 2) e ∙ ap (λ (x : ℕ). x % 2) (field w (63 - k + 1) k) ∙ mod-mod-pow (w / 2 ^ k) (63 - k) 1
-
 -- the identifiers of the words up to word i: those of the words before it, and its ones
 pub ones-turn : (ws : Words) (i : ℕ) → howMany (inSet ws) ((i + 1) * 64) ≡ howMany (inSet ws) (i * 64) + ones (getD ws i 0 % 2 ^ 64)
 ones-turn ws i =
     let w = getD ws i 0 in
     let e : (i + 1) * 64 ≡ i * 64 + 64 = omega arith in
-    let same = many-same (λ k. inSet ws (i * 64 + k)) (λ k. eqb (bitAt (w % 2 ^ 64) k) 1) 64 (λ k h. in-word ws i k h ∙ ap (λ (b : ℕ). eqb b 1) (sym (bit-low w k h))) in
+    let same = many-same (λ k. inSet ws (i * 64 + k)) (λ k. eqb (bitAt (w % 2 ^ 64) k) 1) 64 (λ k h. in-word ws i k h ∙ ap (λ (b : ℕ). eqb b 1) (sym (bit-rest w 64 k h))) in
     ap (howMany (inSet ws)) e ∙ many-cat (inSet ws) (i * 64) 64 ∙ ap (λ (n : ℕ). howMany (inSet ws) (i * 64) + n) (same ∙ sym (ones-many 64 (w % 2 ^ 64) (mod-lt w (pow-pos 64))))

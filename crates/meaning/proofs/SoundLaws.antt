@@ -89,18 +89,18 @@ pair-pack : (x : ℕ × ℕ) → x .1 < 65536 → pairOf (packPair x) ≡ x
 unfolding pairOf packPair
 pair-pack x h = ap₂ (λ (a b : ℕ). (a, b)) (omega arith) (omega arith)
 
-abbrev SmallHead : Fragment → Type 0
+abbrev pub SmallHead : Fragment → Type 0
 SmallHead f = (f .flags < 256) × (length (f .body) < 1099511627776)
 
-head-identifier : (f : Fragment) → SmallHead f → headIdentifier (packHead f) ≡ f .identifier
+pub head-identifier : (f : Fragment) → SmallHead f → headIdentifier (packHead f) ≡ f .identifier
 unfolding headIdentifier packHead
 head-identifier f h = omega (arith, h .0, h .1)
 
-head-flags : (f : Fragment) → SmallHead f → headFlags (packHead f) ≡ f .flags
+pub head-flags : (f : Fragment) → SmallHead f → headFlags (packHead f) ≡ f .flags
 unfolding headFlags packHead
 head-flags f h = omega (arith, h .0, h .1)
 
-head-length : (f : Fragment) → SmallHead f → headLength (packHead f) ≡ length (f .body)
+pub head-length : (f : Fragment) → SmallHead f → headLength (packHead f) ≡ length (f .body)
 unfolding headLength packHead
 head-length f h = omega (arith, h .0, h .1)
 
@@ -111,14 +111,14 @@ pub slots-used : (n : ℕ) (xs : List ℕ) → take (length xs) (slots n xs) ≡
 unfolding slots
 slots-used n xs = take-at xs (replicate (n - length xs) 0) (length xs) refl
 
-used : (n : ℕ) {A : Type 0} (f : A → ℕ) (xs : List A) → take (length xs) (slots n (map f xs)) ≡ map f xs
+pub used : (n : ℕ) {A : Type 0} (f : A → ℕ) (xs : List A) → take (length xs) (slots n (map f xs)) ≡ map f xs
 used n f xs = ap (λ (k : ℕ). take k (slots n (map f xs))) (sym (length-map xs f)) ∙ slots-used n (map f xs)
 
 firsts-of : (ps : List (ℕ × ℕ)) → Below 65536 ps → map (λ x. pairOf x .0) (map packPair ps) ≡ services ps
 firsts-of [] b = refl
 firsts-of (x ∷ ps) b = ap₂ (λ (a : ℕ) (l : List ℕ). a ∷ l) (ap (λ z. z .0) (pair-pack x (b .0))) (firsts-of ps (b .1))
 
-below-wider : {m n : ℕ} (ps : List (ℕ × ℕ)) → m ≤ n → Below m ps → Below n ps
+pub below-wider : {m n : ℕ} (ps : List (ℕ × ℕ)) → m ≤ n → Below m ps → Below n ps
 below-wider [] l b = tt
 below-wider (x ∷ ps) l b = (omega (arith, b .0), below-wider ps l (b .1))
 
@@ -130,11 +130,11 @@ counts-of (x ∷ ps) b =
     rw (e, le-leb (x .1) 255 (omega (arith, b .0))) (counts-of ps (b .1))
 
 -- each fragment is within the sum, which is within T
-abbrev SmallHeads : List Fragment → Type 0
+abbrev pub SmallHeads : List Fragment → Type 0
 SmallHeads [] = Unit {0}
 SmallHeads (f ∷ fs) = SmallHead f × SmallHeads fs
 
-heads-small : (T : ℕ) (fs : List Fragment) → SmallFlags fs → heldBytes fs ≤ T → T ≤ 16777216 → SmallHeads fs
+pub heads-small : (T : ℕ) (fs : List Fragment) → SmallFlags fs → heldBytes fs ≤ T → T ≤ 16777216 → SmallHeads fs
 heads-small T [] s h t = tt
 heads-small T (f ∷ fs) s h t =
     ((s .0, omega (arith, held-next f fs)), heads-small T fs (s .1) (omega (arith, held-next f fs)) t)
@@ -143,7 +143,7 @@ identifiers-of : (fs : List Fragment) → SmallHeads fs → map headIdentifier (
 identifiers-of [] h = refl
 identifiers-of (f ∷ fs) h = ap₂ (λ (a : ℕ) (l : List ℕ). a ∷ l) (head-identifier f (h .0)) (identifiers-of fs (h .1))
 
-lengths-of : (fs : List Fragment) → SmallHeads fs → sum (map headLength (map packHead fs)) ≡ heldBytes fs
+pub lengths-of : (fs : List Fragment) → SmallHeads fs → sum (map headLength (map packHead fs)) ≡ heldBytes fs
 unfolding sum heldBytes
 lengths-of [] h = refl
 lengths-of (f ∷ fs) h = ap₂ (λ (a b : ℕ). a + b) (head-length f (h .0)) (lengths-of fs (h .1))
@@ -316,7 +316,7 @@ state-holds r work room maps e =
 
 -- ---- the record of a state, with rooms that begin with its bytes, holds that state
 
-pairs-back : (ps : List (ℕ × ℕ)) → Below 65536 ps → map pairOf (map packPair ps) ≡ ps
+pub pairs-back : (ps : List (ℕ × ℕ)) → Below 65536 ps → map pairOf (map packPair ps) ≡ ps
 pairs-back [] b = refl
 pairs-back (x ∷ ps) b = ap₂ (λ (y : ℕ × ℕ) (l : List (ℕ × ℕ)). y ∷ l) (pair-pack x (b .0)) (pairs-back ps (b .1))
 

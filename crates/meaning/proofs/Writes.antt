@@ -1,13 +1,13 @@
--- Writing one thing after another into a lent slice: nothing, a byte, one write and then a next, and the turns of the two loops that
--- copy. Rests on Wrote alone.
+-- Writing one thing after another into a lent slice: nothing, a byte, one write and then a next, and the turns of the loops that
+-- copy and move. Rests on Wrote alone.
 use Prim.Native.Nat.{ℕ, suc, _+_, _-_, _≤_, _<_}
 use mathlib.Core.Path.{_≡_, refl, sym, ap, ap₂, _∙_}
 use mathlib.Core.List.{List, [], _∷_, _++_, append-assoc, append-nil}
 use native.Mathlib.Nat.{add-zero, add-assoc}
 use native.Mathlib.Numerals.{add-one}
 use native.Mathlib.Omega.{arith}
-use lib.ListN.{length, take, drop, getD, set, length-append, length-drop, take-append-drop}
-use lib.Seq.{take-suc, take-suc-set, drop-set-lt, drop-drop, getD-drop, length-take-le, take-length, take-at, drop-at}
+use lib.ListN.{length, take, drop, getD, set, length-append, length-drop, take-append-drop, List·getD-append}
+use lib.Seq.{take-suc, take-suc-set, take-set-lt, drop-set-lt, set-append-left, drop-drop, drop-cons, getD-drop, getD-take, length-take-le, take-length, take-at, drop-at}
 use Rattle.meaning.specs.Bytes.{Bytes}
 use Rattle.meaning.specs.Writing.{Wrote}
 
@@ -84,6 +84,36 @@ is-wrote y d d′ to r h e q =
       front = ap (take r) q ∙ take-at (take to d ++ y) (drop r d) r l;
       back = ap (drop r) q ∙ drop-at (take to d ++ y) (drop r d) r l;
     }
+
+-- A byte before what was written is still the old one.
+pub wrote-short : (y d d′ : Bytes) (to r j : ℕ) → to ≤ length d → j < to → Wrote y d to d′ r → getD d′ j 0 ≡ getD d j 0
+wrote-short y d d′ to r j h k u =
+    let l : j < length (take to d) = omega (arith, length-take-le to d h) in
+    ap (λ (s : Bytes). getD s j 0) (wrote-is y d d′ to r u ∙ append-assoc (take to d) y (drop r d)) ∙ List·getD-append (take to d) (y ++ drop r d) 0 j l ∙ getD-take to d j 0 k
+
+-- A byte written just before what was written.
+pub wrote-before : (b : ℕ) (y d d′ : Bytes) (to r : ℕ) → to < length d → Wrote y d (to + 1) d′ r → Wrote (b ∷ y) d to (set d′ to b) r
+wrote-before b y d d′ to r h u =
+    let l : to < length (take (to + 1) d) = omega (arith, length-take-le (to + 1) d (omega arith)) in
+    let p : set (take (to + 1) d) to b ≡ take to d ++ (b ∷ []) =
+    sym (take-set-lt (to + 1) d to b (omega arith)) ∙ ap (λ (n : ℕ). take n (set d to b)) (add-one to) ∙ take-suc-set d to b h in
+    is-wrote (b ∷ y) d (set d′ to b) to r (omega arith) (omega (arith, u .end))
+    (ap (λ (s : Bytes). set s to b) (wrote-is y d d′ (to + 1) r u ∙ append-assoc (take (to + 1) d) y (drop r d))
+    ∙ set-append-left (take (to + 1) d) (y ++ drop r d) to b l ∙ ap (λ (s : Bytes). s ++ (y ++ drop r d)) p ∙ regroup (take to d) y (drop r d))
+  where
+    regroup : (s y t : Bytes) → (s ++ (b ∷ [])) ++ (y ++ t) ≡ (s ++ (b ∷ y)) ++ t
+    regroup s y t = simp append-assoc
+
+-- One more byte of a move up, which counts down: what is read was not written yet.
+pub move-up-turn : (d₀ d : Bytes) (from to n i : ℕ) → from ≤ to → i < n → to + n ≤ length d₀ → Wrote (take (n - (i + 1)) (drop (from + (i + 1)) d₀)) d₀ (to + (i + 1)) d (to + n)
+    → Wrote (take (n - i) (drop (from + i) d₀)) d₀ (to + i) (set d (to + i) (getD d (from + i) 0)) (to + n)
+move-up-turn d₀ d from to n i h k l u =
+    let g : getD d (from + i) 0 ≡ getD d₀ (from + i) 0 = wrote-short _ d₀ d (to + (i + 1)) (to + n) (from + i) (omega arith) (omega arith) u in
+    let m : n - i ≡ suc (n - (i + 1)) = omega arith in
+    let y : take (n - i) (drop (from + i) d₀) ≡ getD d₀ (from + i) 0 ∷ take (n - (i + 1)) (drop (from + (i + 1)) d₀) =
+    ap₂ (λ (j : ℕ) (s : Bytes). take j s) m (drop-cons d₀ (from + i) 0 (omega arith))
+    ∙ ap (λ (j : ℕ). getD d₀ (from + i) 0 ∷ take (n - (i + 1)) (drop j d₀)) (let z : suc (from + i) ≡ from + (i + 1) = omega arith in z) in
+    rw (y, g) (wrote-before (getD d₀ (from + i) 0) _ d₀ d (to + i) (to + n) (omega arith) (rw (← add-assoc to i 1) at u))
 
 -- x in the middle of what was written becomes z, as long as x
 pub wrote-patch : (a x z b d d′ d″ : Bytes) (to at r q : ℕ) → to ≤ length d → at ≡ to + length a → length z ≡ length x

@@ -5,7 +5,7 @@ ghost use mathlib.Core.List.{[], _∷_};
 ghost use lib.ListN.{length, take, drop, getD};
 ghost use Rattle.meaning.specs.Bytes.{be16, be16At, be32At, put16, put32};
 ghost use Rattle.meaning.specs.Writing.{Wrote};
-ghost use Rattle.meaning.specs.Sets.{bitAt, inSet, withId, howMany};
+ghost use Rattle.meaning.specs.Sets.{bitAt, inSet, withId, withoutId, howMany};
 ghost use lib.Count.{ones};
 
 // A byte as a size.
@@ -99,6 +99,19 @@ pub fn move_down(room: &mut [u8], from: usize, n: usize, to: usize) -> usize
     to + i
 }
 
+// Moves `n` bytes of `room` from `from` up to `to`; the two places may overlap. Answers the place past them.
+pub fn move_up(room: &mut [u8], from: usize, n: usize, to: usize) -> usize
+    requires { ⌜ (from ≤ to) × (to + n ≤ length (now room)) ⌝ }
+    ensures { λ r. ⌜ Wrote (take n (drop from (now (room .entry)))) (now (room .entry)) to (now (room .exit)) r ⌝ }
+{
+    let mut left: usize = n;
+    while 0 < left {
+        left -= 1;
+        room[to + left] = room[from + left];
+    }
+    to + n
+}
+
 // Bit `k` of a word, 0 or 1.
 fn word_bit(w: u64, k: u64) -> u64
     requires { ⌜ k < 64 ⌝ }
@@ -126,6 +139,17 @@ pub fn insert(words: &mut [u64; 1024], id: u16)
     let w = words[i];
     let k = (p % 64) as u64;
     words[i] = w | (1u64 << k);
+}
+
+// Takes `id` out of the set.
+pub fn remove(words: &mut [u64; 1024], id: u16)
+    ensures { λ _. ⌜ now (words .exit) ≡ withoutId (now (words .entry)) id ⌝ }
+{
+    let p = id as usize;
+    let i = p / 64;
+    let w = words[i];
+    let k = (p % 64) as u64;
+    words[i] = w - (word_bit(w, k) << k);
 }
 
 // The ones of a word.

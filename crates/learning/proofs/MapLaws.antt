@@ -1,0 +1,252 @@
+-- The lists of assets that MPTs give, as the functions of `lists` read, compare and write them: numbers written over a room, the assets of
+-- the entries read so far (Listing), and a list at its place. Rests on MapPairLaws and on Reading, Holds and SpareLaws of `meaning`.
+use Prim.Native.Nat.{ℕ, suc, max, _+_, _-_, _*_, _≤_, _<_}
+use mathlib.Core.Path.{_≡_, refl, sym, ap, ap₂, _∙_}
+use mathlib.Core.Bool.{Bool, true, false, not, _&&_, _||_}
+use mathlib.Core.List.{List, [], _∷_, _++_, append-assoc, append-nil}
+use mathlib.Core.Option.{Option, none, some}
+use native.Mathlib.Nat.{add-zero}
+use native.Mathlib.Numerals.{add-one}
+use native.Mathlib.Omega.{arith}
+use lib.ListN.{length, take, drop, getD, set, length-drop, length-set, take-append-drop}
+use lib.Seq.{length-take-le, drop-cons, take-suc-set, drop-drop, set-getD, paste-suc}
+use lib.Dec.{ltb, eqb}
+use borrow.Author.Tests.{ltb-true, eqb-true, lt-ltb, le-ltb, eq-eqb, ne-eqb}
+use Rattle.meaning.specs.Bytes.{Bytes}
+use Rattle.meaning.specs.Readers.{bind, give, many, raw}
+use Rattle.meaning.specs.Tables.{Entry, entry, mptFront, mpt}
+use Rattle.meaning.specs.Learn.{Listed, kindNumber, assetNumbers, over, placeFor, listAsset, listed}
+use Rattle.meaning.specs.declared.Part.{Part}
+use Rattle.meaning.proofs.ListLaws.{clash, and-both}
+use Rattle.meaning.proofs.SpareLaws.{numbers-length}
+use Rattle.meaning.proofs.TableLaws.{mpt-split}
+use Rattle.meaning.proofs.Reading.{past, u8-none, many-none, many-next, behind, behind-nothing, behind-one}
+use Rattle.octets.proofs.ByteLaws.{u8-at}
+use Rattle.tables.specs.Answers.{Ends, AssetIs, carrierOf}
+use Rattle.tables.specs.declared.assets.Asset.{Asset}
+use Rattle.tables.specs.declared.fields.End.{End}
+use Rattle.tables.specs.declared.locations.Carrier.{Carrier}
+use Rattle.learning.specs.News.{sameNumbers, listNew}
+use Rattle.learning.specs.Steps.{numbersOf, AssetsAre, HeadsAre, lostOne, ListLearnt, MptLearnt}
+use Rattle.learning.specs.Kept.{pairsIn, KeptMaps}
+use Rattle.learning.specs.declared.Extent.{Extent}
+use Rattle.learning.proofs.PairLaws.{pairs-in}
+use Rattle.learning.proofs.MapPairLaws.{held-same, maps-after}
+
+-- ---- numbers written over those of a room
+
+module _ (room : List ℕ) (base : ℕ) (ns : List ℕ) where
+  over-paste : (k : ℕ) → k ≤ length ns → over room base (take k ns) ≡ take base room ++ take k ns ++ drop (base + k) room
+  unfolding over
+  over-paste k h = rw (length-take-le k ns h) (sym (append-assoc (take base room) (take k ns) (drop (base + k) room)))
+
+  pub over-none : room ≡ over room base (take 0 ns)
+  unfolding over
+  over-none = sym (rw add-zero (take-append-drop base room))
+
+  -- one more
+  pub over-next : (i : ℕ) → base + i < length room → i < length ns → set (over room base (take i ns)) (base + i) (getD ns i 0) ≡ over room base (take (i + 1) ns)
+  over-next i h l = rw (over-paste i (omega arith), add-one i, over-paste (suc i) l) (paste-suc room base ns i 0 h l)
+
+-- its own numbers
+pub over-self : (room : List ℕ) (base k : ℕ) → base + k ≤ length room → over room base (take k (drop base room)) ≡ room
+unfolding over
+over-self room base k h =
+    rw (length-take-le k (drop base room) (omega (arith, length-drop base room)), ← drop-drop k base room, take-append-drop k (drop base room))
+    (take-append-drop base room)
+
+-- ---- two lists of numbers compared
+
+pub same-equal : (xs ys : List ℕ) → sameNumbers xs ys ≡ true → xs ≡ ys
+unfolding sameNumbers
+same-equal [] [] e = refl
+same-equal [] (b ∷ bs) e = clash (cc)
+same-equal (a ∷ as′) [] e = clash (cc)
+same-equal (a ∷ as′) (b ∷ bs) e =
+    let h = and-both (eqb a b) (sameNumbers as′ bs) e in
+    ap₂ (λ (x : ℕ) (l : List ℕ). x ∷ l) (eqb-true a b (h .0)) (same-equal as′ bs (h .1))
+
+module _ (room fresh : List ℕ) (base n i : ℕ) (l : i < n) (r : base + n ≤ length room) (f : n ≤ length fresh) where
+  one-more : (xs : List ℕ) (at : ℕ) → at + (n - i) ≤ length xs → take (n - i) (drop at xs) ≡ getD xs at 0 ∷ take (n - (i + 1)) (drop (at + 1) xs)
+  one-more xs at h =
+      let e : n - i ≡ suc (n - (i + 1)) = omega arith in
+      let k : at < length xs = omega arith in
+      rw (e, drop-cons xs at 0 k, add-one at)
+
+  ahead : sameNumbers (take (n - i) (drop (base + i) room)) (take (n - i) (drop i fresh))
+      ≡ (eqb (getD room (base + i) 0) (getD fresh i 0) && sameNumbers (take (n - (i + 1)) (drop (base + i + 1) room)) (take (n - (i + 1)) (drop (i + 1) fresh)))
+  unfolding sameNumbers
+  ahead = rw (one-more room (base + i) (omega arith), one-more fresh i (omega arith))
+
+  pub same-next : getD room (base + i) 0 ≡ getD fresh i 0
+      → sameNumbers (take (n - i) (drop (base + i) room)) (take (n - i) (drop i fresh))
+      ≡ sameNumbers (take (n - (i + 1)) (drop (base + (i + 1)) room)) (take (n - (i + 1)) (drop (i + 1) fresh))
+  same-next q =
+      let e : base + (i + 1) ≡ base + i + 1 = omega arith in
+      rw (e, ahead, eq-eqb _ _ q)
+
+  pub same-not : (getD room (base + i) 0 ≡ getD fresh i 0 → ⊥) → sameNumbers (take (n - i) (drop (base + i) room)) (take (n - i) (drop i fresh)) ≡ false
+  same-not q = ahead ∙ rw (ne-eqb _ _ q)
+
+-- ---- the numbers of assets
+
+-- two numbers more
+pub two-more : (xs : List ℕ) (i j a b : ℕ) → i + 1 < length xs → j ≡ i + 2 → take j (set (set xs i a) (i + 1) b) ≡ take i xs ++ a ∷ b ∷ []
+two-more xs i j a b h q =
+    let e : j ≡ suc (suc i) = omega arith in
+    let k : suc i < length (set xs i a) = simp length-set (omega arith) in
+    let l : i < length xs = omega arith in
+    rw (e, add-one i, take-suc-set (set xs i a) (suc i) b k, take-suc-set xs i a l) (append-assoc (take i xs) (a ∷ []) (b ∷ []))
+
+numbers-append : (xs ys : Listed) → assetNumbers (xs ++ ys) ≡ assetNumbers xs ++ assetNumbers ys
+unfolding assetNumbers
+numbers-append [] ys = refl
+numbers-append (x ∷ xs) ys = ap (λ (l : List ℕ). x .0 ∷ kindNumber (x .1) ∷ l) (numbers-append xs ys)
+
+listed-append : (xs ys : List Entry) → listed (xs ++ ys) ≡ listed xs ++ listed ys
+unfolding listed
+listed-append [] ys = refl
+listed-append (x ∷ xs) ys = go (x .carrier) (listed-append xs ys)
+  where
+    go : (o : Option ℕ) → listed (xs ++ ys) ≡ listed xs ++ listed ys → listAsset o (x .part) (listed (xs ++ ys)) ≡ listAsset o (x .part) (listed xs) ++ listed ys
+    go none ih = ih
+    go (some p) ih = ap (λ (l : Listed). (p, x .part) ∷ l) ih
+
+numbers-one : (o : Option ℕ) (part : Part) → assetNumbers (listAsset o part []) ≡ numbersOf (carrierOf o) part
+unfolding assetNumbers
+numbers-one none part = refl
+numbers-one (some p) part = refl
+
+numbers-next : (pre : List Entry) (e : Entry) → assetNumbers (listed (pre ++ e ∷ [])) ≡ assetNumbers (listed pre) ++ numbersOf (carrierOf (e .carrier)) (e .part)
+unfolding listed
+numbers-next pre e =
+    ap assetNumbers (listed-append pre (e ∷ [])) ∙ numbers-append (listed pre) (listed (e ∷ []))
+    ∙ ap (λ (l : List ℕ). assetNumbers (listed pre) ++ l) (numbers-one (e .carrier) (e .part))
+
+-- ---- the entries of an MPT's body
+
+-- Of `count` entries at `at` some were read, up to `from`, and `left` are left; `fresh` starts with the numbers of the n listed ones.
+pub record Listing (b : Bytes) (at count : ℕ) (fresh : List ℕ) (from left n : ℕ) : Type 0 where
+  pub pre : List Entry
+  pub reads : many count entry (drop at b) ≡ behind pre (many left entry (drop from b))
+  pub numbers : take (2 * n) fresh ≡ assetNumbers (listed pre)
+  pub few : n + left ≤ 255
+  pub room : length fresh ≡ 510
+
+module _ (b : Bytes) (at count : ℕ) where
+  pub list-start : (fresh : List ℕ) → count < 256 → length fresh ≡ 510 → Listing b at count fresh at count 0
+  unfolding assetNumbers listed
+  list-start fresh h l = record { pre = []; reads = behind-nothing (many count entry (drop at b)); numbers = refl; few = omega arith; room = l }
+
+  module _ (fresh : List ℕ) (from left n : ℕ) (i : Listing b at count fresh from left n) where
+    pub list-next : (e : ℕ) (part : Part) (c : Carrier) (fresh′ : List ℕ) (r : ℕ) → 0 < left → AssetIs b from (Asset.Entry e part c)
+        → take (2 * r) fresh′ ≡ take (2 * n) fresh ++ numbersOf c part → r ≤ n + 1 → length fresh′ ≡ 510
+        → Listing b at count fresh′ e (left - 1) r
+    list-next e part c fresh′ r h a t few same =
+        let x : Entry = record { part = part; carrier = a .2 .0; bytes-of = take (e - from) (drop from b) } in
+        record {
+          pre = i .pre ++ x ∷ [];
+          reads = i .reads ∙ rw (many-next entry (drop from b) left x (drop e b) h (a .2 .1)) (behind-one (i .pre) x (many (left - 1) entry (drop e b)));
+          numbers = t ∙ ap₂ (λ (l : List ℕ) (k : Carrier). l ++ numbersOf k part) (i .numbers) (a .2 .2) ∙ sym (numbers-next (i .pre) x);
+          few = omega (arith, i .few);
+          room = same;
+        }
+
+    -- one that cannot be read
+    pub list-cut : 0 < left → entry (drop from b) ≡ none → many count entry (drop at b) ≡ none
+    list-cut h q = i .reads ∙ rw (many-none entry (drop from b) left h q)
+
+    pub list-all : left ≡ 0 → many count entry (drop at b) ≡ some (i .pre, drop from b)
+    unfolding many
+    list-all z = i .reads ∙ rw (z, append-nil (i .pre))
+
+    list-count : n ≡ length (listed (i .pre))
+    list-count =
+        let k : length (take (2 * n) fresh) ≡ 2 * n = length-take-le (2 * n) fresh (omega (arith, i .few, i .room)) in
+        omega (arith, k, ap length (i .numbers), numbers-length (listed (i .pre)))
+
+module _ (b : Bytes) where
+  pub front-none : mptFront b ≡ none → mpt b ≡ none
+  unfolding mpt raw
+  front-none q = rw q
+
+  -- its count is at h
+  module _ (h : ℕ) (f : Ends (mptFront b) b (End.At h)) where
+    pub count-none : length b ≤ h → mpt b ≡ none
+    unfolding mpt raw
+    count-none k = rw (f .1 .1, u8-none b h k)
+
+    module _ (k : h < length b) (n : ℕ) (is : n ≡ getD b h 0) (low : n < 256) where
+      mpt-many : mpt b ≡ bind (many n entry (drop (h + 1) b)) (λ es. give (record { front = take h b; entries = es }))
+      unfolding mpt raw
+      mpt-many = rw (f .1 .1, u8-at b h (h + 1) k (omega arith) refl, past b h (f .0), is)
+
+      pub entries-none : (fresh : List ℕ) (from left m : ℕ) → Listing b (h + 1) n fresh from left m → 0 < left → entry (drop from b) ≡ none → mpt b ≡ none
+      entries-none fresh from left m i l q = rw (mpt-many, list-cut b (h + 1) n fresh from left m i l q)
+
+      pub assets-are : (fresh : List ℕ) (from left m : ℕ) → Listing b (h + 1) n fresh from left m → left ≡ 0 → AssetsAre (mpt b) (End.At m) fresh
+      assets-are fresh from left m i z =
+          (omega (arith, i .few), (record { front = take h b; entries = i .pre }, drop from b, rw (mpt-many, list-all b (h + 1) n fresh from left m i z), list-count b (h + 1) n fresh from left m i, i .numbers))
+
+-- ---- a list at its place
+
+-- an extent with another count of maps, that is new or not
+abbrev after : Extent → ℕ → Bool → Extent
+after e m b = record { seen = e .seen; packages = e .packages; maps = m; fragments = e .fragments; lost = e .lost; changed = e .changed || b }
+
+or-false : (a : Bool) → (a || false) ≡ a
+or-false true = refl
+or-false false = refl
+
+or-true : (a : Bool) → (a || true) ≡ true
+or-true true = refl
+or-true false = refl
+
+module _ (i p n : ℕ) (fresh : List ℕ) (e : Extent) (maps room : List ℕ) where
+  -- whether it is held
+  abbrev held : Bool
+  held = ltb i (e .maps) && (eqb (getD maps i 0) (p * 65536 + n) && sameNumbers (take (2 * n) (drop (512 * i) room)) (take (2 * n) fresh))
+
+  pub held-already : held ≡ true → 512 * i + 2 * n ≤ length room → HeadsAre i p n fresh e maps room e maps room
+  held-already h l =
+      let a = and-both (ltb i (e .maps)) _ h in
+      let b = and-both (eqb (getD maps i 0) (p * 65536 + n)) _ (a .1) in
+      let k : i < e .maps = ltb-true i (e .maps) (a .0) in
+      let m : max (e .maps) (i + 1) ≡ e .maps = omega arith in
+      record {
+        maps-are = sym (ap (set maps i) (sym (eqb-true (getD maps i 0) (p * 65536 + n) (b .0))) ∙ set-getD maps i 0);
+        room-is = sym (ap (over room (512 * i)) (sym (same-equal _ _ (b .1))) ∙ over-self room (512 * i) (2 * n) l);
+        extent-is = rw (h, m, or-false (e .changed));
+      }
+
+  pub held-now : held ≡ false → (m : ℕ) → m ≡ max (e .maps) (i + 1) → (room′ : List ℕ) → room′ ≡ over room (512 * i) (take (2 * n) fresh)
+      → HeadsAre i p n fresh e maps room (record { seen = e .seen; packages = e .packages; maps = m; fragments = e .fragments; lost = e .lost; changed = true }) (set maps i (p * 65536 + n)) room′
+  held-now h m q room′ r = record { maps-are = refl; room-is = r; extent-is = rw (h, q, or-true (e .changed)) }
+
+-- ---- an MPT
+
+kept-list : (p : ℕ) (es : List Entry) (fresh : List ℕ) (e : Extent) (maps room : List ℕ) (ms : List (ℕ × ℕ)) → length es < 256 → placeFor p ms < 64 → KeptMaps ms (e .maps) maps
+    → take (2 * length (listed es)) fresh ≡ assetNumbers (listed es) → (r : Extent) (maps′ room′ : List ℕ)
+    → HeadsAre (placeFor p ms) p (length (listed es)) fresh e maps room r maps′ room′ → ListLearnt true p (listed es) ms e room r maps′ room′
+unfolding listNew
+kept-list p es fresh e maps room ms l h k t r maps′ room′ x =
+    let i : ℕ = placeFor p ms in
+    let m : r .maps ≡ max (e .maps) (i + 1) = ap (λ (z : Extent). z .maps) (x .extent-is) in
+    let new : not (held i p (length (listed es)) fresh e maps room) ≡ listNew p (listed es) ms room =
+    rw (k .pairs .are, k .pairs .count, t, held-same p 64 (listed es) (drop (512 * i) room) ms, lt-ltb i 64 h) in
+    (rw (m, x .maps-are) (maps-after p es ms (e .maps) maps l h k), x .room-is ∙ ap (over room (512 * i)) t, x .extent-is ∙ ap₂ (after e) (sym m) new)
+
+module _ (b : Bytes) (p n i : ℕ) (fresh : List ℕ) (e : Extent) (maps room : List ℕ) (a : AssetsAre (mpt b) (End.At n) fresh)
+    (at : i ≡ placeFor p (pairsIn (e .maps) maps)) (ms : List (ℕ × ℕ)) (k : KeptMaps ms (e .maps) maps) where
+  place : i ≡ placeFor p ms
+  place = at ∙ ap (placeFor p) (pairs-in (k .pairs))
+
+  pub list-lost : 64 ≤ i → MptLearnt p (mpt b) ms e room (lostOne e) maps room
+  list-lost h = rw (a .1 .2, ← place, le-ltb i 64 h) (k, refl, refl)
+
+  pub list-kept : i < 64 → (r : Extent) (maps′ room′ : List ℕ) → HeadsAre i p n fresh e maps room r maps′ room′ → MptLearnt p (mpt b) ms e room r maps′ room′
+  list-kept h r maps′ room′ x =
+      let g : placeFor p ms < 64 = omega (arith, place) in
+      let few = mpt-split b (a .1 .0) (a .1 .1) (a .1 .2) .few in
+      rw (a .1 .2, lt-ltb (placeFor p ms) 64 g)
+      (kept-list p (a .1 .0 .entries) fresh e maps room ms few g k (rw (a .1 .3) at (a .1 .4)) r maps′ room′ (rw (place, a .1 .3) at x))

@@ -1,0 +1,68 @@
+use Rattle.learning.proofs.MapLaws.{held-already, held-now}
+use mathlib.Core.Path.{sym, _∙_}
+use native.Mathlib.Omega.{arith}
+use borrow.Author.Needs.{needs}
+use Rattle.learning.proofs.lists.keep_list.Statement.{statement}
+use Rattle.learning.proofs.lists.keep_list.Tie as tie
+
+head-of-requires : tie.Need-head-of-requires
+head-of-requires c κs = search needs
+
+is-held-requires : tie.Need-is-held-requires
+is-held-requires c κs = search needs
+
+same-length : tie.Need-same-length
+same-length c = search needs
+
+returns : tie.Need-returns
+returns c =
+    let a = c .before .before .before .before .before .before .args in
+    let w = rw (c .before .before .before .before .head-of .ensures) at (c .before .is-held .ensures) in
+    held-already (a .i) (a .id) (a .n) (a .fresh .now) (a .e) (a .maps .now) (a .room .now) (sym w ∙ c .if1 .taken) (omega arith)
+
+mul-maps : tie.Need-mul-maps
+mul-maps c = search needs
+
+element-write-maps : tie.Need-element-write-maps
+element-write-maps c = search needs
+
+mul-list-to : tie.Need-mul-list-to
+mul-list-to c = search needs
+
+mul-list-to-2 : tie.Need-mul-list-to-2
+mul-list-to-2 c = search needs
+
+list-to-requires : tie.Need-list-to-requires
+list-to-requires c κs = search needs
+
+count-with-requires : tie.Need-count-with-requires
+count-with-requires c κs = search needs
+
+same-length-2 : tie.Need-same-length-2
+same-length-2 c = search needs
+
+returns-2 : tie.Need-returns-2
+returns-2 c =
+    let a = c .before .before .before .before .before .before .before .before .before .before .before .args in
+    let q = c .before .before .before .before .before .before .before .before .before .head-of .ensures in
+    let w = rw q at (c .before .before .before .before .before .before .is-held .ensures) in
+    rw q
+    (held-now (a .i) (a .id) (a .n) (a .fresh .now) (a .e) (a .maps .now) (a .room .now) (sym w ∙ c .before .before .before .before .before .if1 .left)
+    (c .count-with .result) (c .count-with .ensures) _ (c .before .before .before .list-to .ensures))
+
+pub keep-list-spec : {M : Type 1} → statement M
+keep-list-spec =
+    tie.close
+    (tie.spec
+    head-of-requires
+    is-held-requires
+    same-length
+    returns
+    mul-maps
+    element-write-maps
+    mul-list-to
+    mul-list-to-2
+    list-to-requires
+    count-with-requires
+    same-length-2
+    returns-2)

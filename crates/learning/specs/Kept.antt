@@ -1,0 +1,49 @@
+-- How the code holds what is known: pairs and fragment heads in arrays whose unused slots are zero, bodies one after the other at the front
+-- of the fragment room. A record here says that arrays hold a state; a promise says what state they hold afterwards.
+use Prim.Native.Nat.{ℕ, _+_, _*_, _≤_, _<_}
+use mathlib.Core.Path.{_≡_}
+use mathlib.Core.Bool.{Bool}
+use mathlib.Core.List.{List, map}
+use lib.ListN.{length, take}
+use Rattle.meaning.specs.Bytes.{Bytes}
+use Rattle.meaning.specs.Learn.{Fragment, Known, heldBytes}
+use Rattle.meaning.specs.Record.{slots, packPair, pairOf, packHead}
+use Rattle.meaning.specs.Sound.{Below, HoldsPackages, HoldsMaps, HoldsFragments, bodies}
+use Rattle.learning.specs.declared.Extent.{Extent}
+
+-- The pairs in the first n slots.
+abbrev pub pairsIn : ℕ → List ℕ → List (ℕ × ℕ)
+pairsIn n xs = map pairOf (take n xs)
+
+-- Pairs in an array of N slots, of which n are used.
+pub record Pairs (N : ℕ) (ps : List (ℕ × ℕ)) (n : ℕ) (xs : List ℕ) : Type 0 where
+  pub count : n ≡ length ps
+  pub few : length ps ≤ N
+  pub are : xs ≡ slots N (map packPair ps)
+  pub small : Below 65536 ps
+
+pub record KeptPackages (ps : List (ℕ × ℕ)) (n : ℕ) (xs : List ℕ) : Type 0 where
+  pub pairs : Pairs 255 ps n xs
+  pub hold : HoldsPackages ps
+
+pub record KeptMaps (ms : List (ℕ × ℕ)) (n : ℕ) (xs : List ℕ) : Type 0 where
+  pub pairs : Pairs 64 ms n xs
+  pub hold : HoldsMaps ms
+
+pub record KeptFragments (T : ℕ) (fs : List Fragment) (n : ℕ) (heads : List ℕ) (room : Bytes) : Type 0 where
+  pub count : n ≡ length fs
+  pub are : heads ≡ slots 256 (map packHead fs)
+  pub front : take (heldBytes fs) room ≡ bodies fs
+  pub total : length room ≡ T
+  pub total-few : T ≤ 16777216
+  pub hold : HoldsFragments T fs
+
+-- What is known of tables and messages: all but the fragments.
+pub record Keeps (k : Known) (e : Extent) (carousels packages maps room : List ℕ) : Type 0 where
+  pub seen : e .seen ≡ k .plt-seen
+  pub packages-kept : KeptPackages (k .packages) (e .packages) packages
+  pub maps-kept : KeptMaps (k .maps) (e .maps) maps
+  pub carousels-are : carousels ≡ k .carousels
+  pub carousels-all : length carousels ≡ 1024
+  pub room-is : room ≡ k .room
+  pub room-all : length room ≡ 32768

@@ -1,0 +1,204 @@
+// The lists of assets that MPTs give: their heads in an array, identifier and count in one number, their assets in the map room.
+ghost use mathlib.Core.Path.{_≡_};
+ghost use Prim.Native.Nat.{ℕ, suc, max, _+_, _-_, _*_, _/_, _%_, _≤_, _<_};
+ghost use mathlib.Core.Bool.{_&&_};
+ghost use lib.Dec.{ltb, eqb};
+ghost use mathlib.Core.List.{List, [], _∷_, _++_};
+ghost use lib.ListN.{length, take, drop, getD};
+ghost use Rattle.meaning.specs.Tables.{mpt};
+ghost use Rattle.meaning.specs.Learn.{kindNumber, over, placeFor};
+ghost use Rattle.learning.specs.Kept.{pairsIn, KeptMaps};
+ghost use Rattle.learning.specs.News.{sameNumbers};
+ghost use Rattle.learning.specs.Steps.{numbersOf, AssetsAre, HeadsAre, MptLearnt};
+use crate::Extent;
+use meaning::Part;
+use octets::wide;
+use tables::assets::Asset;
+use tables::assets::asset_at;
+use tables::assets::mpt_front;
+use tables::fields::End;
+use tables::locations::Carrier;
+
+// The place of an identifier's list among the first `n`: where it stands, or `n`.
+pub fn place_for(maps: &[u32; 64], n: usize, id: u16) -> usize
+    requires { ⌜ (n ≤ 64) × (length (now maps) ≡ 64) ⌝ }
+    ensures { λ r. ⌜ (r ≡ placeFor id (pairsIn n (now (maps .entry)))) × (r ≤ n) ⌝ }
+{
+    let p = id as u32;
+    let mut i: usize = 0;
+    while i < n {
+        if maps[i] / 65536 == p {
+            return i;
+        }
+        i += 1;
+    }
+    i
+}
+
+fn kind_number(part: Part) -> u16
+    ensures { λ r. ⌜ r ≡ kindNumber part ⌝ }
+{
+    match part {
+        Part::Caption => 0,
+        Part::Carousel => 1,
+        Part::Other => 2,
+    }
+}
+
+// One more asset behind `n`, if it has an identifier; answers how many there are.
+fn list_asset(fresh: &mut [u16; 510], n: usize, carrier: Carrier, part: Part) -> usize
+    requires { ⌜ (n < 255) × (length (now fresh) ≡ 510) ⌝ }
+    ensures { λ r. ⌜ (take (2 * r) (now (fresh .exit)) ≡ take (2 * n) (now (fresh .entry)) ++ numbersOf carrier part) × (n ≤ r) × (r ≤ n + 1) × (length (now (fresh .exit)) ≡ 510) ⌝ }
+{
+    let Carrier::By(id) = carrier else {
+        return n;
+    };
+    fresh[2 * n] = id;
+    fresh[2 * n + 1] = kind_number(part);
+    n + 1
+}
+
+// The listed assets of an MPT's body.
+fn assets_of(b: &[u8], fresh: &mut [u16; 510]) -> End
+    requires { ⌜ length (now fresh) ≡ 510 ⌝ }
+    ensures { λ r. ⌜ AssetsAre (mpt (now (b .entry))) r (now (fresh .exit)) × (length (now (fresh .exit)) ≡ 510) ⌝ }
+{
+    let End::At(front) = mpt_front(b) else {
+        return End::Nothing;
+    };
+    if b.len() <= front {
+        return End::Nothing;
+    }
+    let mut left = wide(b[front]);
+    let mut from = front + 1;
+    let mut n: usize = 0;
+    while 0 < left {
+        let Asset::Entry { end, part, carrier } = asset_at(b, from) else {
+            return End::Nothing;
+        };
+        from = end;
+        left -= 1;
+        n = list_asset(fresh, n, carrier, part);
+    }
+    End::At(n)
+}
+
+// Whether the first `n` numbers are those of the map room from `base` on.
+fn same_list(fresh: &[u16; 510], n: usize, room: &[u16], base: usize) -> bool
+    requires { ⌜ (n ≤ 510) × (length (now fresh) ≡ 510) × (base + n ≤ length (now room)) ⌝ }
+    ensures { λ r. ⌜ r ≡ sameNumbers (take n (drop base (now (room .entry)))) (take n (now (fresh .entry))) ⌝ }
+{
+    let mut i: usize = 0;
+    while i < n {
+        if room[base + i] != fresh[i] {
+            return false;
+        }
+        i += 1;
+    }
+    true
+}
+
+// Writes the first `n` numbers to the map room from `base` on.
+fn list_to(fresh: &[u16; 510], n: usize, room: &mut [u16], base: usize)
+    requires { ⌜ (n ≤ 510) × (length (now fresh) ≡ 510) × (base + n ≤ length (now room)) ⌝ }
+    ensures { λ _. ⌜ now (room .exit) ≡ over (now (room .entry)) base (take n (now (fresh .entry))) ⌝ }
+{
+    let mut i: usize = 0;
+    while i < n {
+        room[base + i] = fresh[i];
+        i += 1;
+    }
+}
+
+// Whether the list at place `i` is held with this head and these numbers.
+fn is_held(
+    i: usize,
+    head: u32,
+    n: usize,
+    fresh: &[u16; 510],
+    held: usize,
+    maps: &[u32; 64],
+    room: &[u16],
+) -> bool
+    requires { ⌜ (i < 64) × (n ≤ 255) × (held ≤ 64) × (length (now fresh) ≡ 510) × (length (now maps) ≡ 64) × (length (now room) ≡ 32768) ⌝ }
+    ensures { λ r. ⌜ r ≡ (ltb i held && (eqb (getD (now (maps .entry)) i 0) head && sameNumbers (take (2 * n) (drop (512 * i) (now (room .entry)))) (take (2 * n) (now (fresh .entry))))) ⌝ }
+{
+    if held <= i {
+        return false;
+    }
+    if maps[i] != head {
+        return false;
+    }
+    same_list(fresh, 2 * n, room, 512 * i)
+}
+
+// The head of a list: identifier and count.
+fn head_of(id: u16, n: usize) -> u32
+    requires { ⌜ n ≤ 255 ⌝ }
+    ensures { λ r. ⌜ r ≡ id * 65536 + n ⌝ }
+{
+    (id as u32) * 65536 + (n as u32)
+}
+
+// How many lists there are with one at place `i`.
+fn count_with(held: usize, i: usize) -> usize
+    requires { ⌜ (held ≤ 64) × (i ≤ held) ⌝ }
+    ensures { λ r. ⌜ r ≡ max held (i + 1) ⌝ }
+{
+    if i == held {
+        return held + 1;
+    }
+    held
+}
+
+// The list at place `i`, written where it is not held already.
+fn keep_list(
+    i: usize,
+    id: u16,
+    n: usize,
+    fresh: &[u16; 510],
+    e: Extent,
+    maps: &mut [u32; 64],
+    room: &mut [u16],
+) -> Extent
+    requires { ⌜ (i < 64) × (n ≤ 255) × (i ≤ e .maps) × (e .maps ≤ 64) × (length (now fresh) ≡ 510) × (length (now maps) ≡ 64) × (length (now room) ≡ 32768) ⌝ }
+    ensures { λ r. ⌜ HeadsAre i id n (now (fresh .entry)) e (now (maps .entry)) (now (room .entry)) r (now (maps .exit)) (now (room .exit)) ⌝ }
+{
+    let head = head_of(id, n);
+    if is_held(i, head, n, fresh, e.maps, maps, room) {
+        return e;
+    }
+    maps[i] = head;
+    list_to(fresh, 2 * n, room, 512 * i);
+    Extent {
+        seen: e.seen,
+        packages: e.packages,
+        maps: count_with(e.maps, i),
+        fragments: e.fragments,
+        lost: e.lost,
+        changed: true,
+    }
+}
+
+// An MPT's body: its list takes its identifier's place, or is lost.
+pub fn mpt(b: &[u8], id: u16, e: Extent, maps: &mut [u32; 64], room: &mut [u16]) -> Extent
+    requires { ⌜ (e .lost < 18446744073709551615) × (length (now room) ≡ 32768) × ((ms : List (ℕ × ℕ)) × KeptMaps ms (e .maps) (now maps)) ⌝ }
+    ensures { λ r. ⌜ ((ms : List (ℕ × ℕ)) → KeptMaps ms (e .maps) (now (maps .entry)) → MptLearnt id (mpt (now (b .entry))) ms e (now (room .entry)) r (now (maps .exit)) (now (room .exit))) ⌝ }
+{
+    let mut fresh = [0u16; 510];
+    let End::At(n) = assets_of(b, &mut fresh) else {
+        return e;
+    };
+    let i = place_for(maps, e.maps, id);
+    if 64 <= i {
+        return Extent {
+            seen: e.seen,
+            packages: e.packages,
+            maps: e.maps,
+            fragments: e.fragments,
+            lost: e.lost + 1,
+            changed: e.changed,
+        };
+    }
+    keep_list(i, id, n, &fresh, e, maps, room)
+}

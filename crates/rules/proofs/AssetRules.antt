@@ -1,0 +1,101 @@
+-- The assets of a list in the map room, one after the other: what the first of them put into a set or take out of it.
+-- Rests on the definition of a list, `assetsIn`, and on MemberLaws.
+use Prim.Native.Nat.{ℕ, zero, suc, _+_, _*_, _≤_, _<_}
+use mathlib.Core.Path.{_≡_, refl, sym, ap, _∙_}
+use mathlib.Core.Bool.{Bool, true, false, _&&_, _||_}
+use mathlib.Core.List.{List, [], _∷_, _++_}
+use mathlib.Core.Option.{some}
+use native.Mathlib.Omega.{arith}
+use native.Mathlib.Numerals.{add-one}
+use lib.Dec.{eqb}
+use lib.ListN.{length, drop, getD, length-drop}
+use lib.Seq.{getD-drop}
+use Rattle.meaning.specs.Sets.{Words, withId, withoutId}
+use Rattle.meaning.specs.Lists.{any}
+use Rattle.meaning.specs.Learn.{Listed, kindOf, assetsIn}
+use Rattle.meaning.specs.Rules.{listsIt}
+use Rattle.meaning.specs.declared.Part.{Part}
+use Rattle.meaning.specs.declared.Part.the-variants.{Other}
+use Rattle.rules.specs.Changes.{Inserts, Removes}
+use Rattle.rules.proofs.MemberLaws.{or-false, or-assoc, and-true, and-false, inserts-same, removes-same, inserts-one, removes-one, inserts-none, removes-none, inserts-then, removes-then}
+
+-- a kind's number past the two
+pub kind-other : (n : ℕ) → (n ≡ 0 → ⊥) → (n ≡ 1 → ⊥) → kindOf n ≡ Other
+unfolding kindOf
+kind-other zero a b = absurd (a refl)
+kind-other (suc zero) a b = absurd (b refl)
+kind-other (suc (suc n)) a b = refl
+
+-- whether any passes, of some and one more
+pub any-more : {A : Type 0} (f : A → Bool) (xs : List A) (x : A) → any f (xs ++ x ∷ []) ≡ (any f xs || f x)
+unfolding any
+any-more f [] x = or-false (f x)
+any-more f (y ∷ xs) x = ap (λ (b : Bool). f y || b) (any-more f xs x) ∙ sym (or-assoc (f y) (any f xs) (f x))
+
+-- one asset more from the front of a place
+assets-more : (i : ℕ) (ns : List ℕ) → 2 * i + 2 ≤ length ns → assetsIn (suc i) ns ≡ assetsIn i ns ++ ((getD ns (2 * i) 0, kindOf (getD ns (2 * i + 1) 0)) ∷ [])
+unfolding assetsIn
+assets-more i [] h = absurd (omega arith)
+assets-more i (p ∷ []) h = absurd (omega arith)
+assets-more zero (p ∷ k ∷ ns) h = refl
+assets-more (suc i) (p ∷ k ∷ ns) h =
+    let e : 2 * suc i ≡ suc (suc (2 * i)) = omega arith in
+    let d : 2 * suc i + 1 ≡ suc (suc (2 * i + 1)) = omega arith in
+    rw (d, e) (ap (λ (l : Listed). (p, kindOf k) ∷ l) (assets-more i ns (omega arith)))
+
+module _ (test : Part → Bool) (room : List ℕ) (base : ℕ) where
+  -- Whether one of the first i assets at the place has identifier q and a kind that passes the test.
+  abbrev pub named : ℕ → ℕ → Bool
+  named i q = listsIt test q (some (assetsIn i (drop base room)))
+
+  pub named-none : (q : ℕ) → named 0 q ≡ false
+  unfolding any assetsIn
+  named-none q = refl
+
+  module _ (i : ℕ) (h : base + 2 * (i + 1) ≤ length room) where
+    abbrev identifier : ℕ
+    identifier = getD room (base + 2 * i) 0
+
+    abbrev passes : Bool
+    passes = test (kindOf (getD room (base + 2 * i + 1) 0))
+
+    named-more : (q : ℕ) → named (i + 1) q ≡ (named i q || (eqb identifier q && passes))
+    named-more q =
+        let ns = drop base room in
+        let a : assetsIn (i + 1) ns ≡ assetsIn i ns ++ ((getD ns (2 * i) 0, kindOf (getD ns (2 * i + 1) 0)) ∷ []) =
+        rw (add-one i) (assets-more i ns (omega (arith, length-drop base room))) in
+        let e : base + (2 * i + 1) ≡ base + 2 * i + 1 = omega arith in
+        let k : getD ns (2 * i + 1) 0 ≡ getD room (base + 2 * i + 1) 0 = getD-drop base room (2 * i + 1) 0 ∙ ap (λ (n : ℕ). getD room n 0) e in
+        ap (λ (l : Listed). listsIt test q (some l)) a
+        ∙ any-more (λ x. eqb (x .0) q && test (x .1)) (assetsIn i ns) (getD ns (2 * i) 0, kindOf (getD ns (2 * i + 1) 0))
+        ∙ rw (getD-drop base room (2 * i) 0, k)
+
+    passing : passes ≡ true → (q : ℕ) → (named i q || eqb identifier q) ≡ named (i + 1) q
+    passing t q = sym (named-more q ∙ ap (λ (b : Bool). named i q || (eqb identifier q && b)) t ∙ ap (λ (b : Bool). named i q || b) (and-true (eqb identifier q)))
+
+    failing : passes ≡ false → (q : ℕ) → named i q ≡ named (i + 1) q
+    failing t q =
+        sym (named-more q ∙ ap (λ (b : Bool). named i q || (eqb identifier q && b)) t ∙ ap (λ (b : Bool). named i q || b) (and-false (eqb identifier q)) ∙ or-false (named i q))
+
+    module _ (ws now-set : Words) where
+      pub insert-next : identifier < 65536 → passes ≡ true → Inserts (named i) ws now-set → Inserts (named (i + 1)) ws (withId now-set identifier)
+      insert-next s t x =
+          inserts-same (passing t)
+          (inserts-then x (inserts-one now-set identifier (x .all-words) s))
+
+      pub insert-pass : passes ≡ false → Inserts (named i) ws now-set → Inserts (named (i + 1)) ws now-set
+      insert-pass t = inserts-same (failing t)
+
+      pub remove-next : identifier < 65536 → passes ≡ true → Removes (named i) ws now-set → Removes (named (i + 1)) ws (withoutId now-set identifier)
+      remove-next s t x =
+          removes-same (passing t)
+          (removes-then x (removes-one now-set identifier (x .all-words) s))
+
+      pub remove-pass : passes ≡ false → Removes (named i) ws now-set → Removes (named (i + 1)) ws now-set
+      remove-pass t = removes-same (failing t)
+
+  pub insert-begin : (ws : Words) → length ws ≡ 1024 → Inserts (named 0) ws ws
+  insert-begin ws l = inserts-none ws l named-none
+
+  pub remove-begin : (ws : Words) → length ws ≡ 1024 → Removes (named 0) ws ws
+  remove-begin ws l = removes-none ws l named-none

@@ -1,0 +1,170 @@
+-- What packages drop and keep: the list of a package's MPT by its place among the heads, and the packages one after the other.
+-- Rests on the definitions of lists and rules, on AssetRules and on MemberLaws.
+use Prim.Native.Nat.{ℕ, zero, suc, _+_, _*_, _/_, _%_, _≤_, _<_}
+use mathlib.Core.Path.{_≡_, refl, sym, ap, _∙_}
+use mathlib.Core.Bool.{Bool, true, false, cond, not, _&&_, _||_}
+use mathlib.Core.List.{List, [], _∷_, _++_}
+use mathlib.Core.Option.{Option, none, some}
+use native.Mathlib.Omega.{arith}
+use native.Mathlib.Numerals.{add-one}
+use lib.Dec.{eqb}
+use lib.ListN.{length, drop, getD}
+use lib.Seq.{drop-drop}
+use Rattle.meaning.specs.Sets.{Words, withId}
+use Rattle.meaning.specs.Lists.{any}
+use Rattle.meaning.specs.Narrow.{wanted}
+use Rattle.meaning.specs.Record.{pairOf}
+use Rattle.meaning.specs.Sound.{Below}
+use Rattle.meaning.specs.Learn.{Listed, assetsIn, listsIn, placeFor}
+use Rattle.meaning.specs.Rules.{ours, listOf, listsIt, keptBy, droppedBy}
+use Rattle.meaning.specs.declared.Part.{Part}
+use Rattle.meaning.specs.declared.Options.{Options}
+use Rattle.learning.specs.Kept.{pairsIn}
+use Rattle.rules.specs.Changes.{Inserts, Removes, Rooms, listsAt}
+use Rattle.rules.proofs.MemberLaws.{inserts-same, removes-same, inserts-one, inserts-none, removes-none, inserts-then, removes-then}
+use Rattle.rules.proofs.AssetRules.{any-more}
+
+-- ---- the list of an MPT
+
+-- where its place is one of the heads', it is held there
+pub list-found : (p n : ℕ) (maps room : List ℕ) → n ≤ length maps → placeFor p (pairsIn n maps) < n
+    → listOf p (listsAt n maps room) ≡ some (assetsIn (getD maps (placeFor p (pairsIn n maps)) 0 % 65536) (drop (512 * placeFor p (pairsIn n maps)) room))
+unfolding listOf listsIn placeFor pairOf
+list-found p zero maps room l h = absurd (omega arith)
+list-found p (suc n) [] room l h = absurd (omega arith)
+list-found p (suc n) (m ∷ maps) room l h = go (eqb (m / 65536) p) h (λ g. list-found p n maps (drop 512 room) (omega arith) g)
+  where
+    i : ℕ
+    i = placeFor p (pairsIn n maps)
+
+    go : (b : Bool) → cond b 0 (suc i) < suc n
+        → (i < n → listOf p (listsAt n maps (drop 512 room)) ≡ some (assetsIn (getD maps i 0 % 65536) (drop (512 * i) (drop 512 room))))
+        → cond b (some (assetsIn (m % 65536) room)) (listOf p (listsAt n maps (drop 512 room)))
+        ≡ some (assetsIn (getD (m ∷ maps) (cond b 0 (suc i)) 0 % 65536) (drop (512 * cond b 0 (suc i)) room))
+    go true h ih = refl
+    go false h ih =
+        let e : 512 * suc i ≡ 512 + 512 * i = omega arith in
+        ih (omega arith) ∙ ap (λ (r : List ℕ). some (assetsIn (getD maps i 0 % 65536) r)) (drop-drop (512 * i) 512 room ∙ ap (λ (n : ℕ). drop n room) (sym e))
+
+-- where it is past them, there is none
+pub list-none : (p n : ℕ) (maps room : List ℕ) → n ≤ placeFor p (pairsIn n maps) → listOf p (listsAt n maps room) ≡ none
+unfolding listOf listsIn placeFor pairOf
+list-none p zero maps room h = refl
+list-none p (suc n) [] room h = refl
+list-none p (suc n) (m ∷ maps) room h = go (eqb (m / 65536) p) h (λ g. list-none p n maps (drop 512 room) g)
+  where
+    i : ℕ
+    i = placeFor p (pairsIn n maps)
+
+    go : (b : Bool) → suc n ≤ cond b 0 (suc i) → (n ≤ i → listOf p (listsAt n maps (drop 512 room)) ≡ none)
+        → cond b (some (assetsIn (m % 65536) room)) (listOf p (listsAt n maps (drop 512 room))) ≡ none
+    go true h ih = absurd (omega arith)
+    go false h ih = ih (omega arith)
+
+-- a head's count
+count-small : (n i : ℕ) (maps : List ℕ) → Below 256 (pairsIn n maps) → i < n → n ≤ length maps → getD maps i 0 % 65536 < 256
+unfolding pairOf
+count-small zero i maps b h l = absurd (omega arith)
+count-small (suc n) i [] b h l = absurd (omega arith)
+count-small (suc n) zero (m ∷ maps) b h l = b .0
+count-small (suc n) (suc i) (m ∷ maps) b h l = count-small n i maps (b .1) (omega arith) (omega arith)
+
+-- a list that a head tells of is within the room
+pub list-within : (n i : ℕ) (maps room : List ℕ) → Rooms n maps room → i < n → 512 * i + 2 * (getD maps i 0 % 65536) ≤ length room
+list-within n i maps room r h =
+    let c : getD maps i 0 % 65536 < 256 = count-small n i maps (r .small) h (omega (arith, r .heads .few, r .heads .slots-all)) in
+    omega (arith, r .heads .few, r .room-all)
+
+-- ---- one package
+
+module _ (o : Options) (n p : ℕ) (maps room : List ℕ) (r : Rooms n maps room) where
+  abbrev pub test : Bool → Part → Bool
+  test mine part = not (mine && wanted o part)
+
+  abbrev list : Option Listed
+  list = listOf (p % 65536) (listsAt n maps room)
+
+  abbrev place : ℕ
+  place = placeFor (p % 65536) (pairsIn n maps)
+
+  dropped-is : (mine : Bool) → ours (o .service) (p / 65536) ≡ mine → (q : ℕ)
+      → ((not mine && eqb (p % 65536) q) || listsIt (test mine) q list) ≡ droppedBy o (listsAt n maps room) q (pairOf p)
+  unfolding droppedBy pairOf
+  dropped-is true e q = rw e
+  dropped-is false e q = rw e
+
+  kept-is : ours (o .service) (p / 65536) ≡ true → (q : ℕ) → (eqb (p % 65536) q || listsIt (wanted o) q list) ≡ keptBy o (listsAt n maps room) q (pairOf p)
+  unfolding keptBy pairOf
+  kept-is e q = rw e
+
+  module _ (i : ℕ) (e : i ≡ place) where
+    found : (t : Part → Bool) (q : ℕ) → i < n → listsIt t q (some (assetsIn (getD maps i 0 % 65536) (drop (512 * i) room))) ≡ listsIt t q list
+    found t q h =
+        rw e (ap (listsIt t q) (sym (list-found (p % 65536) n maps room (omega (arith, r .heads .few, r .heads .slots-all)) (omega arith))))
+
+    missing : (t : Part → Bool) (q : ℕ) → n ≤ i → listsIt t q list ≡ false
+    unfolding any
+    missing t q h = ap (listsIt t q) (list-none (p % 65536) n maps room (omega arith))
+
+    module _ {a b c : Words} where
+      pub drop-found : (mine : Bool) → ours (o .service) (p / 65536) ≡ mine → i < n → Inserts (λ q. not mine && eqb (p % 65536) q) a b
+          → Inserts (λ q. listsIt (test mine) q (some (assetsIn (getD maps i 0 % 65536) (drop (512 * i) room)))) b c
+          → Inserts (λ q. droppedBy o (listsAt n maps room) q (pairOf p)) a c
+      drop-found mine m h x y = inserts-same (dropped-is mine m) (inserts-then x (inserts-same (λ q. found (test mine) q h) y))
+
+      pub keep-found : ours (o .service) (p / 65536) ≡ true → i < n → Removes (eqb (p % 65536)) a b
+          → Removes (λ q. listsIt (wanted o) q (some (assetsIn (getD maps i 0 % 65536) (drop (512 * i) room)))) b c
+          → Removes (λ q. keptBy o (listsAt n maps room) q (pairOf p)) a c
+      keep-found m h x y = removes-same (kept-is m) (removes-then x (removes-same (λ q. found (wanted o) q h) y))
+
+    module _ {a b : Words} where
+      pub drop-missing : (mine : Bool) → ours (o .service) (p / 65536) ≡ mine → n ≤ i → Inserts (λ q. not mine && eqb (p % 65536) q) a b
+          → Inserts (λ q. droppedBy o (listsAt n maps room) q (pairOf p)) a b
+      drop-missing mine m h x = inserts-same (dropped-is mine m) (inserts-then x (inserts-none b (x .all-words) (λ q. missing (test mine) q h)))
+
+      pub keep-missing : ours (o .service) (p / 65536) ≡ true → n ≤ i → Removes (eqb (p % 65536)) a b → Removes (λ q. keptBy o (listsAt n maps room) q (pairOf p)) a b
+      keep-missing m h x = removes-same (kept-is m) (removes-then x (removes-none b (x .all-words) (λ q. missing (wanted o) q h)))
+
+  -- not ours: nothing of it is kept
+  pub keep-other : (ws : Words) → length ws ≡ 1024 → ours (o .service) (p / 65536) ≡ false → Removes (λ q. keptBy o (listsAt n maps room) q (pairOf p)) ws ws
+  unfolding keptBy pairOf
+  keep-other ws l e = removes-none ws l (λ q. rw e)
+
+-- the MPT's identifier, dropped where the service is not ours
+pub own-dropped : (mine : Bool) (ws : Words) (id : ℕ) → length ws ≡ 1024 → id < 65536 → mine ≡ false → Inserts (λ q. not mine && eqb id q) ws (withId ws id)
+own-dropped mine ws id l s e = inserts-same (λ q. rw e) (inserts-one ws id l s)
+
+pub own-left : (mine : Bool) (ws : Words) (id : ℕ) → length ws ≡ 1024 → mine ≡ true → Inserts (λ q. not mine && eqb id q) ws ws
+own-left mine ws id l e = inserts-none ws l (λ q. rw e)
+
+-- ---- one package after the other
+
+pub pairs-more : (i : ℕ) (xs : List ℕ) → i < length xs → pairsIn (suc i) xs ≡ pairsIn i xs ++ (pairOf (getD xs i 0) ∷ [])
+pairs-more i [] h = absurd (omega arith)
+pairs-more zero (x ∷ xs) h = refl
+pairs-more (suc i) (x ∷ xs) h = ap (λ (l : List (ℕ × ℕ)). pairOf x ∷ l) (pairs-more i xs (omega arith))
+
+module _ (f : ℕ → ℕ × ℕ → Bool) (xs : List ℕ) where
+  abbrev pub byFirst : ℕ → ℕ → Bool
+  byFirst i q = any (f q) (pairsIn i xs)
+
+  by-none : (q : ℕ) → byFirst 0 q ≡ false
+  unfolding any
+  by-none q = refl
+
+  by-more : (i : ℕ) → i < length xs → (q : ℕ) → (byFirst i q || f q (pairOf (getD xs i 0))) ≡ byFirst (i + 1) q
+  by-more i h q = sym (rw (add-one i) (ap (any (f q)) (pairs-more i xs h) ∙ any-more (f q) (pairsIn i xs) (pairOf (getD xs i 0))))
+
+  module _ (ws : Words) (l : length ws ≡ 1024) where
+    pub drops-begin : Inserts (byFirst 0) ws ws
+    drops-begin = inserts-none ws l by-none
+
+    pub keeps-begin : Removes (byFirst 0) ws ws
+    keeps-begin = removes-none ws l by-none
+
+  module _ (i : ℕ) (h : i < length xs) {a b c : Words} where
+    pub drops-next : Inserts (byFirst i) a b → Inserts (λ q. f q (pairOf (getD xs i 0))) b c → Inserts (byFirst (i + 1)) a c
+    drops-next x y = inserts-same (by-more i h) (inserts-then x y)
+
+    pub keeps-next : Removes (byFirst i) a b → Removes (λ q. f q (pairOf (getD xs i 0))) b c → Removes (byFirst (i + 1)) a c
+    keeps-next x y = removes-same (by-more i h) (removes-then x y)

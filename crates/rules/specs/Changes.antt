@@ -1,0 +1,52 @@
+-- What each step of the rules does to a set, identifier by identifier, and what it asks of the arrays that hold packages and lists.
+use Prim.Native.Nat.{ℕ, _≤_, _<_}
+use mathlib.Core.Path.{_≡_}
+use mathlib.Core.Bool.{Bool, not, _&&_, _||_}
+use mathlib.Core.List.{List}
+use lib.ListN.{length}
+use lib.Dec.{ltb}
+use Rattle.meaning.specs.Sets.{Words, inSet}
+use Rattle.meaning.specs.Learn.{Listed, listsIn, placeFor}
+use Rattle.meaning.specs.Sound.{Below}
+use Rattle.learning.specs.Kept.{pairsIn}
+
+-- ---- sets of 65,536 identifiers
+
+-- The set holds those that pass a test.
+pub record SetIs (f : ℕ → Bool) (ws : Words) : Type 0 where
+  pub all-words : length ws ≡ 1024
+  pub member : (q : ℕ) → q < 65536 → inSet ws q ≡ f q
+
+-- From one set to another: those that pass a test come in, or go out; the others stay as they were.
+pub record Inserts (f : ℕ → Bool) (ws ws′ : Words) : Type 0 where
+  pub all-words : length ws′ ≡ 1024
+  pub member : (q : ℕ) → q < 65536 → inSet ws′ q ≡ (inSet ws q || f q)
+
+pub record Removes (f : ℕ → Bool) (ws ws′ : Words) : Type 0 where
+  pub all-words : length ws′ ≡ 1024
+  pub member : (q : ℕ) → q < 65536 → inSet ws′ q ≡ (inSet ws q && not (f q))
+
+-- ---- the arrays
+
+-- n packages in an array of 255.
+pub record Packages (n : ℕ) (packages : List ℕ) : Type 0 where
+  pub few : n ≤ 255
+  pub slots-all : length packages ≡ 255
+
+-- The heads of n lists in an array of 64.
+pub record Heads (n : ℕ) (maps : List ℕ) : Type 0 where
+  pub few : n ≤ 64
+  pub slots-all : length maps ≡ 64
+
+-- The heads, and the assets in the map room.
+pub record Rooms (n : ℕ) (maps room : List ℕ) : Type 0 where
+  pub heads : Heads n maps
+  pub small : Below 256 (pairsIn n maps)
+  pub room-all : length room ≡ 32768
+
+abbrev pub listsAt : ℕ → List ℕ → List ℕ → List (ℕ × Listed)
+listsAt n maps room = listsIn (pairsIn n maps) room
+
+-- Whether a package's MPT has its list, among n.
+abbrev pub listHeld : ℕ → List ℕ → ℕ × ℕ → Bool
+listHeld n maps pkg = ltb (placeFor (pkg .1) (pairsIn n maps)) n

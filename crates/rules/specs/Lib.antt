@@ -1,0 +1,2 @@
+-- What the steps of the rules do to a set of identifiers.
+pub mod Changes
