@@ -1,0 +1,2 @@
+-- Laws that the proofs of the record cite.
+pub mod SoundnessLaws

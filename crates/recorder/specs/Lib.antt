@@ -1,0 +1,2 @@
+-- The record of the code as the definition's.
+pub mod Filter
