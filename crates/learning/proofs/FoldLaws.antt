@@ -1,11 +1,10 @@
 -- Learning from one thing after the other: what a loop has reached is what the definition makes of the things before, and the rest is what
 -- it makes of those left. Rests on StepLaws.
-use Prim.Native.Nat.{ℕ, zero, suc, _+_}
+use Prim.Native.Nat.{ℕ, _+_}
 use native.Mathlib.Nat.{zero-add, add-zero, add-assoc}
-use mathlib.Core.Path.{_≡_, refl, sym, ap, _∙_, subst}
-use mathlib.Core.Bool.{Bool, true, false, _||_}
+use mathlib.Core.Path.{_≡_, refl, sym, ap, _∙_}
+use mathlib.Core.Bool.{Bool, false, _||_}
 use mathlib.Core.List.{List, [], _∷_}
-use native.Mathlib.Omega.{arith}
 use Rattle.meaning.specs.Learn.{Known, Learnt, learnt, andLost}
 use Rattle.learning.specs.Kept.{Keeps}
 use Rattle.learning.specs.Steps.{After}

@@ -19,7 +19,7 @@ use Rattle.meaning.specs.Record.{packHead, headIdentifier, headLength, distinct
 use Rattle.meaning.specs.Sound.{identifiers}
 use Rattle.meaning.proofs.ListLaws.{and-both, or-neither}
 use Rattle.meaning.proofs.Holds.{eqb-swap}
-use Rattle.meaning.proofs.SoundLaws.{SmallHeads, head-identifier}
+use Rattle.meaning.proofs.SoundLaws.{TellAll}
 use Rattle.learning.specs.Fragments.{lens, placeIn, placeOf}
 
 -- ---- the sum of the lengths
@@ -67,10 +67,10 @@ module _ (p : ℕ) (hs : List ℕ) (n : ℕ) (le : n ≤ length hs) where
   unfolding placeIn
   place-end = ap (λ (z : ℕ). placeIn p (drop z (take n hs))) (sym (length-take-le n hs le)) ∙ ap (placeIn p) (drop-length (take n hs))
 
-pub place-heads : (p : ℕ) (fs : List Fragment) → SmallHeads fs → placeIn p (map packHead fs) ≡ placeOf p fs
+pub place-heads : (p : ℕ) (fs : List Fragment) → TellAll fs → placeIn p (map packHead fs) ≡ placeOf p fs
 unfolding placeIn placeOf isOf
 place-heads p [] h = refl
-place-heads p (f ∷ fs) h = ap₂ (λ (x y : ℕ). cond (eqb x p) 0 (suc y)) (head-identifier f (h .0)) (place-heads p fs (h .1))
+place-heads p (f ∷ fs) h = ap₂ (λ (x y : ℕ). cond (eqb x p) 0 (suc y)) (h .0 .identifier-is) (place-heads p fs (h .1))
 
 -- ---- a fragment, those before it and those behind it
 

@@ -15,7 +15,6 @@ use Rattle.meaning.specs.Record.{headFlags, headLength}
 use Rattle.meaning.specs.Sound.{HoldsFragments}
 use Rattle.meaning.proofs.ListLaws.{and-both}
 use Rattle.meaning.proofs.Holds.{first-holds, middle-holds}
-use Rattle.meaning.proofs.SoundLaws.{head-length, head-flags}
 use Rattle.learning.specs.Kept.{KeptFragments}
 use Rattle.learning.specs.Fragments.{lens, placeIn, KeepsFragments, Numbers, Drops, GivesUp, HoldsFirst, PutsBehind, Lengthens, GrowsWithin, GrowsAtPlace, LearnsMiddle}
 use Rattle.learning.specs.declared.fragments.Grown.{Grown}
@@ -70,7 +69,7 @@ module _ (place most : ℕ) (b : Bytes) (n : ℕ) (heads room : List ℕ) (old a
   unfolding fits
   fits-is L p fs em k t =
       let f = t .fragment in
-      let e : length (f .body) ≡ old = sym (eo ∙ ap headLength (t .head-is) ∙ head-length f (t .small-is)) in
+      let e : length (f .body) ≡ old = sym (eo ∙ ap headLength (t .head-is) ∙ t .tells .length-is) in
       ap₂ (λ (x y : Bool). x && y) (ap₂ (λ (x y : ℕ). leb (x + length b) y) e em)
       (ap₂ (λ (x y : ℕ). leb (x + length b) y) (sym (ea ∙ sum-is (L .total) fs n heads room k)) (sym (k .total)))
 
@@ -85,7 +84,7 @@ module _ (place most : ℕ) (b : Bytes) (n : ℕ) (heads room : List ℕ) (old a
       subst (λ (a : Bool). HoldsFragments (L .total) (cond a (growIn p b fs) (without p fs))) fit (middle-holds L p b fs (some f) (k .hold)) in
       let g = u (L .total) p fs at k hold in
       let one : g .fragment ≡ f = Option·some-injective _ _ (sym (g .found) ∙ t .found) in
-      let len : headLength (getD heads place 0) ≡ length (f .body) = ap headLength (t .head-is) ∙ head-length f (t .small-is) in
+      let len : headLength (getD heads place 0) ≡ length (f .body) = ap headLength (t .head-is) ∙ t .tells .length-is in
       let turn : lens (take (place + 1) heads) ≡ lens (take place heads) + headLength (getD heads place 0) = lens-turn heads place (omega (arith, ns .few, ns .slots-all)) in
       let less : lens (take (place + 1) heads) ≤ lens (take n heads) = lens-less heads (place + 1) n (omega arith) in
       let room-fits : lens (take n heads) + length b ≤ length room = fits-room ok in
@@ -95,7 +94,7 @@ module _ (place most : ℕ) (b : Bytes) (n : ℕ) (heads room : List ℕ) (old a
         found = t .found;
         fitting = fit;
         kept = g .kept;
-        flags-are = ef ∙ ap headFlags (t .head-is) ∙ head-flags f (t .small-is);
+        flags-are = ef ∙ ap headFlags (t .head-is) ∙ t .tells .flags-are;
         ordered = omega arith;
         inside = omega arith;
         body-is = ap₂ (λ (j i : ℕ). take j (drop i room′)) m es

@@ -14,7 +14,7 @@ use Rattle.meaning.specs.Tables.{Entry}
 use Rattle.meaning.specs.Learn.{Listed, assetNumbers, placeFor, listed}
 use Rattle.meaning.specs.Record.{slots, packPair}
 use Rattle.meaning.proofs.Holds.{putHead, put-is, maps-hold-after}
-use Rattle.meaning.proofs.SoundLaws.{below-wider}
+use Rattle.meaning.proofs.SoundLaws.{maps-back}
 use Rattle.learning.specs.Kept.{KeptMaps}
 use Rattle.learning.specs.News.{sameNumbers, countAt, sameList}
 
@@ -91,7 +91,7 @@ maps-after p es ms n xs l h k =
         count = rw (put-is p c ms, k .pairs .count) (sym (put-count p c ms));
         few = hold .few;
         are = rw (put-is p c ms, k .pairs .are) (put-slots p c 64 ms (k .pairs .few) h);
-        small = below-wider {m = 256} {n = 65536} after (omega arith) (hold .small);
+        back = maps-back after hold;
       };
       hold = hold;
     }

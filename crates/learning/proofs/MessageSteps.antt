@@ -2,21 +2,19 @@
 -- StepLaws and FoldLaws.
 use Prim.Native.Nat.{ℕ, zero, suc, _+_, _-_, _/_, _%_, _≤_, _<_}
 use mathlib.Core.Path.{_≡_, refl, sym, ap, _∙_, subst}
-use mathlib.Core.Bool.{Bool, true, false, cond, not, _||_}
+use mathlib.Core.Bool.{Bool, true, false, not, _||_}
 use mathlib.Core.List.{List, [], _∷_}
-use mathlib.Core.Option.{Option, none, some}
+use mathlib.Core.Option.{none, some}
 use native.Mathlib.Nat.{add-zero, mod-eq-of-lt}
 use native.Mathlib.Omega.{arith}
 use lib.ListN.{length, take, drop, length-take, length-drop, length-set}
-use lib.Seq.{length-take-le}
-use lib.Dec.{eqb}
 use borrow.Author.Tests.{eq-eqb, ne-eqb}
 use Rattle.meaning.specs.Bytes.{Bytes}
 use Rattle.meaning.specs.Sets.{inSet, withId}
 use Rattle.meaning.specs.Readers.{Out, byte, u16, u32, counted16, counted32, walk}
 use Rattle.meaning.specs.Messages.{Message, indicator, aggregated, longLengths, message, messageBody, consMessage, readEach, inBody, messages}
 use Rattle.meaning.specs.Tables.{pa}
-use Rattle.meaning.specs.Learn.{Known, Learnt, learnt, learnTables, paTables, withCarousel, learnMessage, learnMessages, andLost}
+use Rattle.meaning.specs.Learn.{Known, Learnt, learnTables, paTables, learnMessage, learnMessages, andLost}
 use Rattle.meaning.proofs.Local.{messageBody-local}
 use Rattle.meaning.proofs.Framed.{walk-none, walk-some}
 use Rattle.tables.specs.Answers.{FrameIs}

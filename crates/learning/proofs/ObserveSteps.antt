@@ -1,21 +1,21 @@
 -- A payload by the top bits of its first byte, as `observe` meets it. Rests on StepLaws, and on the promises on fragments.
 use Prim.Native.Nat.{ℕ, zero, suc, _+_, _-_, _/_, _%_, _≤_, _<_}
 use mathlib.Core.Path.{_≡_, refl, sym, ap, ap₂, _∙_}
-use mathlib.Core.Bool.{Bool, true, false, cond, _&&_, _||_}
-use mathlib.Core.List.{List, [], _∷_, _++_}
-use mathlib.Core.Option.{Option, none, some}
+use mathlib.Core.Bool.{Bool, true, false, cond, _&&_}
+use mathlib.Core.List.{List, [], _∷_}
+use mathlib.Core.Option.{none, some}
 use native.Mathlib.Nat.{mod-eq-of-lt}
 use native.Mathlib.Omega.{arith}
 use lib.ListN.{length, take, drop, getD, length-take, length-drop}
 use lib.Dec.{ltb, eqb}
 use Rattle.meaning.specs.Bytes.{Bytes}
 use Rattle.meaning.specs.Sets.{inSet}
-use Rattle.meaning.specs.Readers.{Out, Walk, byte, u16, u32, counted16, counted32, walk}
-use Rattle.meaning.specs.Messages.{Message, indicator, aggregated, longLengths, message, messageBody, consMessage, readEach, inBody, messages}
-use Rattle.meaning.specs.Tables.{Mpt, mpt, Package, plt, Table, isPlt, isMpt, PaHead, pa}
-use Rattle.meaning.specs.Learn.{Limits, Fragment, Known, Learnt, learnt, listed, placeFor, withList, mptFrom, learnMpt, pltFrom, learnPlt, learnTable, learnTables, paTables, withCarousel, learnMessage, learnMessages, andLost, withFragments, without, fragmentOf, growIn, holdFirst, fits, middle, joined, lastFor, last, byIndicator, observe}
+use Rattle.meaning.specs.Readers.{Out, byte, u16, walk}
+use Rattle.meaning.specs.Messages.{Message, indicator, aggregated, longLengths, message, messageBody, readEach, inBody, messages}
+use Rattle.meaning.specs.Tables.{Mpt, mpt, Package, plt, Table, isPlt, isMpt, pa}
+use Rattle.meaning.specs.Learn.{Limits, Fragment, Known, learnt, listed, placeFor, withList, mptFrom, learnMpt, pltFrom, learnPlt, learnTable, learnTables, paTables, withCarousel, learnMessage, learnMessages, withFragments, without, fragmentOf, growIn, holdFirst, middle, joined, last, observe}
 use Rattle.learning.specs.Kept.{KeptFragments, Keeps}
-use Rattle.learning.specs.News.{newsMessages, newsLast, newsBy, news}
+use Rattle.learning.specs.News.{newsMessages, newsLast, news}
 use Rattle.learning.specs.Steps.{After}
 use Rattle.learning.specs.Fragments.{GrewAt, GaveUp}
 use Rattle.learning.specs.Observed.{Holding, Observed, withCount, wholeStep, wholeNew, lastStep, lastNew}

@@ -12,8 +12,7 @@ use lib.Seq.{length-take-le, take-append-le, take-set-lt, take-suc-set, set-spli
 use lib.Dec.{eqb}
 use borrow.Author.Tests.{eq-eqb, eqb-true}
 use Rattle.meaning.specs.Record.{slots, packPair, pairOf}
-use Rattle.meaning.specs.Sound.{Below}
-use Rattle.meaning.proofs.SoundLaws.{slots-used, used, pairs-back}
+use Rattle.meaning.proofs.SoundLaws.{slots-used, used, pair-pack}
 use Rattle.meaning.proofs.ListLaws.{clash, and-both}
 use Rattle.learning.specs.Kept.{pairsIn, Pairs}
 use Rattle.learning.specs.News.{sameNumbers, samePairs}
@@ -137,25 +136,6 @@ module _ {A B : Type 0} (f : A → B) where
   map-drop (suc i) [] = refl
   map-drop (suc i) (x ∷ l) = map-drop i l
 
-module _ (m : ℕ) where
-  below-take : (i : ℕ) (ps : List (ℕ × ℕ)) → Below m ps → Below m (take i ps)
-  below-take zero ps b = tt
-  below-take (suc i) [] b = tt
-  below-take (suc i) (x ∷ ps) b = (b .0, below-take i ps (b .1))
-
-  below-drop : (i : ℕ) (ps : List (ℕ × ℕ)) → Below m ps → Below m (drop i ps)
-  below-drop zero ps b = b
-  below-drop (suc i) [] b = tt
-  below-drop (suc i) (x ∷ ps) b = below-drop i ps (b .1)
-
-  below-append : (ps qs : List (ℕ × ℕ)) → Below m ps → Below m qs → Below m (ps ++ qs)
-  below-append [] qs b c = c
-  below-append (x ∷ ps) qs b c = (b .0, below-append ps qs (b .1) c)
-
-  -- one put before what stands from j on
-  pub below-put : (i j : ℕ) (x : ℕ × ℕ) (ps : List (ℕ × ℕ)) → x .1 < m → Below m ps → Below m (take i ps ++ x ∷ drop j ps)
-  below-put i j x ps h b = below-append (take i ps) (x ∷ drop j ps) (below-take i ps b) (h, below-drop j ps b)
-
 -- the pairs in the first n slots: how many, and the first number of each
 module _ (n : ℕ) (xs : List ℕ) where
   pub in-length : n ≤ length xs → length (pairsIn n xs) ≡ n
@@ -167,12 +147,12 @@ module _ (n : ℕ) (xs : List ℕ) where
 
 pub pairs-none : (N : ℕ) → Pairs N [] 0 (replicate N 0)
 unfolding slots
-pairs-none N = record { count = refl; few = omega arith; are = rw (sub-zero N); small = tt }
+pairs-none N = record { count = refl; few = omega arith; are = rw (sub-zero N); back = refl }
 
 -- the same array, told otherwise
 pub pairs-as : {N : ℕ} {ps qs : List (ℕ × ℕ)} {n m : ℕ} {xs ys : List ℕ} → Pairs N ps n xs → ps ≡ qs → n ≡ m → xs ≡ ys → Pairs N qs m ys
 pairs-as {N} k a b c =
-    record { count = sym b ∙ k .count ∙ ap length a; few = rw a at (k .few); are = sym c ∙ k .are ∙ ap (λ z. slots N (map packPair z)) a; small = rw a at (k .small) }
+    record { count = sym b ∙ k .count ∙ ap length a; few = rw a at (k .few); are = sym c ∙ k .are ∙ ap (λ z. slots N (map packPair z)) a; back = rw a at (k .back) }
 
 module _ {N : ℕ} {ps : List (ℕ × ℕ)} {n : ℕ} {xs : List ℕ} (k : Pairs N ps n xs) where
   packed-few : length (map packPair ps) ≤ N
@@ -183,7 +163,7 @@ module _ {N : ℕ} {ps : List (ℕ × ℕ)} {n : ℕ} {xs : List ℕ} (k : Pairs
 
   -- the pairs in the array are these
   pub pairs-in : pairsIn n xs ≡ ps
-  pairs-in = ap₂ pairsIn (k .count) (k .are) ∙ ap (map pairOf) (used N packPair ps) ∙ pairs-back ps (k .small)
+  pairs-in = ap₂ pairsIn (k .count) (k .are) ∙ ap (map pairOf) (used N packPair ps) ∙ k .back
 
   pub first-at : (i : ℕ) → i < n → getD ps i (0, 0) .0 ≡ getD xs i 0 / 65536
   first-at i h = ap (λ (z : List (ℕ × ℕ)). getD z i (0, 0) .0) (sym pairs-in) ∙ first-in n xs i h
@@ -191,6 +171,14 @@ module _ {N : ℕ} {ps : List (ℕ × ℕ)} {n : ℕ} {xs : List ℕ} (k : Pairs
   module _ (x : ℕ × ℕ) (small : x .1 < 65536) (i : ℕ) (in-ps : i ≤ n) where
     packed-at : (j : ℕ) → map packPair (take i ps ++ x ∷ drop j ps) ≡ take i (map packPair ps) ++ packPair x ∷ drop j (map packPair ps)
     packed-at j = map-append packPair (take i ps) (x ∷ drop j ps) ∙ ap₂ (λ (a b : List ℕ). a ++ packPair x ∷ b) (map-take packPair i ps) (map-drop packPair j ps)
+
+    back-at : (j : ℕ) → map pairOf (map packPair (take i ps ++ x ∷ drop j ps)) ≡ take i ps ++ x ∷ drop j ps
+    back-at j =
+        let qs : List ℕ = map packPair ps in
+        let same : pairOf (packPair x) ≡ x = pair-pack x ∙ ap₂ (λ (a b : ℕ). (a, b)) (omega arith) (omega arith) in
+        ap (map pairOf) (packed-at j) ∙ map-append pairOf (take i qs) (packPair x ∷ drop j qs)
+        ∙ ap₂ (λ (a b : List (ℕ × ℕ)). a ++ pairOf (packPair x) ∷ b) (map-take pairOf i qs) (map-drop pairOf j qs)
+        ∙ ap₂ (λ (y : ℕ × ℕ) (z : List (ℕ × ℕ)). take i z ++ y ∷ drop j z) same (k .back)
 
     length-at : (j : ℕ) → length (take i ps ++ x ∷ drop j ps) ≡ i + suc (length ps - j)
     length-at j =
@@ -207,7 +195,7 @@ module _ {N : ℕ} {ps : List (ℕ × ℕ)} {n : ℕ} {xs : List ℕ} (k : Pairs
           count = omega (arith, length-at (suc i), k .count);
           few = omega (arith, length-at (suc i), k .few, k .count);
           are = ap (λ (z : List ℕ). set z i (packPair x)) (k .are) ∙ slots-put N (map packPair ps) packed-few i packed-in (packPair x) h ∙ ap (slots N) (sym (packed-at (suc i)));
-          small = below-put 65536 i (suc i) x ps small (k .small);
+          back = back-at (suc i);
         }
 
     -- between two
@@ -223,7 +211,7 @@ module _ {N : ℕ} {ps : List (ℕ × ℕ)} {n : ℕ} {xs : List ℕ} (k : Pairs
               ∙ ap₂ (λ (z : List ℕ) (m : ℕ). take i z ++ packPair x ∷ (take (m - i) (drop i z) ++ drop (m + 1) z)) (k .are) l
               ∙ slots-insert N (map packPair ps) packed-few i packed-in (packPair x) (omega arith)
               ∙ ap (slots N) (sym (packed-at i));
-          small = below-put 65536 i i x ps small (k .small);
+          back = back-at i;
         }
 
 -- ---- the same numbers, the same pairs

@@ -18,7 +18,7 @@ use Rattle.meaning.specs.Record.{slots, packHead, headLength}
 use Rattle.meaning.specs.Sound.{HoldsFragments, bodies}
 use Rattle.meaning.proofs.Writes.{wrote-is, wrote-byte, wrote-then}
 use Rattle.meaning.proofs.Holds.{without-holds}
-use Rattle.meaning.proofs.SoundLaws.{SmallHead, SmallHeads, heads-small, lengths-of, head-length, used}
+use Rattle.meaning.proofs.SoundLaws.{Tells, TellAll, heads-tell, used}
 use Rattle.learning.specs.Kept.{KeptFragments}
 use Rattle.learning.specs.Fragments.{lens, placeIn, placeOf, Numbers, GivesUp, PutsBehind, Lengthens}
 use Rattle.learning.proofs.FragmentLaws.{lens-turn, place-heads, Spot, spot}
@@ -43,11 +43,16 @@ unfolding heldBytes sum bodies flatten
 held-bodies [] = refl
 held-bodies (f ∷ fs) = omega (arith, held-bodies fs, length-append (f .body) (bodies fs))
 
+lens-heads : (fs : List Fragment) → TellAll fs → lens (map packHead fs) ≡ length (bodies fs)
+unfolding lens sum bodies flatten
+lens-heads [] h = refl
+lens-heads (f ∷ fs) h = omega (arith, h .0 .length-is, lens-heads fs (h .1), length-append (f .body) (bodies fs))
+
 -- ---- what is held, whole
 
 module _ (T : ℕ) (fs : List Fragment) (n : ℕ) (heads : List ℕ) (room : Bytes) (k : KeptFragments T fs n heads room) where
-  small : SmallHeads fs
-  small = heads-small T fs (k .hold .flags) (k .hold .within) (k .total-few)
+  tell : TellAll fs
+  tell = heads-tell T fs (k .hold) (k .total-few)
 
   first-heads : take n heads ≡ map packHead fs
   first-heads = ap₂ (λ (m : ℕ) (l : List ℕ). take m l) (k .count) (k .are) ∙ used 256 packHead fs
@@ -57,11 +62,10 @@ module _ (T : ℕ) (fs : List Fragment) (n : ℕ) (heads : List ℕ) (room : Byt
   heads-are = k .are ∙ ap (λ (m : ℕ). map packHead fs ++ replicate (256 - m) 0) (length-map fs packHead ∙ sym (k .count))
 
   pub sum-is : lens (take n heads) ≡ heldBytes fs
-  unfolding lens
-  sum-is = ap lens first-heads ∙ lengths-of fs small
+  sum-is = ap lens first-heads ∙ lens-heads fs tell ∙ sym (held-bodies fs)
 
   pub place-is : (p : ℕ) → placeIn p (take n heads) ≡ placeOf p fs
-  place-is p = ap (placeIn p) first-heads ∙ place-heads p fs small
+  place-is p = ap (placeIn p) first-heads ∙ place-heads p fs tell
 
   pub numbers : Numbers n heads room
   numbers = record {
@@ -96,24 +100,20 @@ record Around (xs : List Fragment) (f : Fragment) (ys : List Fragment) (n : ℕ)
   pub heads-split : heads ≡ map packHead xs ++ (packHead f ∷ (map packHead ys ++ replicate (256 - n) 0))
   pub room-split : room ≡ bodies xs ++ (f .body ++ (bodies ys ++ spare))
   pub head-is : getD heads (length xs) 0 ≡ packHead f
-  pub small-is : SmallHead f
+  pub tells : Tells f
   pub start : lens (take (length xs) heads) ≡ length (bodies xs)
   pub end : lens (take (length xs + 1) heads) ≡ length (bodies xs) + length (f .body)
   pub all : lens (take n heads) ≡ length (bodies xs) + (length (f .body) + length (bodies ys))
 
-small-apart : (xs : List Fragment) (f : Fragment) (ys : List Fragment) → SmallHeads (xs ++ (f ∷ ys)) → SmallHeads xs × SmallHead f
-small-apart [] f ys h = (tt, h .0)
-small-apart (x ∷ xs) f ys h = let r = small-apart xs f ys (h .1) in ((h .0, r .0), r .1)
-
-lens-heads : (fs : List Fragment) → SmallHeads fs → lens (map packHead fs) ≡ length (bodies fs)
-unfolding lens
-lens-heads fs h = lengths-of fs h ∙ held-bodies fs
+tell-apart : (xs : List Fragment) (f : Fragment) (ys : List Fragment) → TellAll (xs ++ (f ∷ ys)) → TellAll xs × Tells f
+tell-apart [] f ys h = (tt, h .0)
+tell-apart (x ∷ xs) f ys h = let r = tell-apart xs f ys (h .1) in ((h .0, r .0), r .1)
 
 around : (T : ℕ) (xs : List Fragment) (f : Fragment) (ys : List Fragment) (n : ℕ) (heads : List ℕ) (room : Bytes) → KeptFragments T (xs ++ (f ∷ ys)) n heads room
     → Around xs f ys n heads room
 around T xs f ys n heads room k =
     let fs : List Fragment = xs ++ (f ∷ ys) in
-    let s = small-apart xs f ys (small T fs n heads room k) in
+    let s = tell-apart xs f ys (tell T fs n heads room k) in
     let zeros : List ℕ = replicate (256 - n) 0 in
     let rest : List ℕ = map packHead ys ++ zeros in
     let lx : length (map packHead xs) ≡ length xs = length-map xs packHead in
@@ -133,9 +133,9 @@ around T xs f ys n heads room k =
       heads-split = hs;
       room-split = rs;
       head-is = hd;
-      small-is = s .1;
+      tells = s .1;
       start = st;
-      end = lens-turn heads (length xs) long ∙ ap₂ (λ (x y : ℕ). x + y) st (ap headLength hd ∙ head-length f (s .1));
+      end = lens-turn heads (length xs) long ∙ ap₂ (λ (x y : ℕ). x + y) st (ap headLength hd ∙ s .1 .length-is);
       all = sum-is T fs n heads room k ∙ held-bodies fs ∙ ap length b ∙ length-append (bodies xs) (f .body ++ bodies ys)
           ∙ ap (λ (m : ℕ). length (bodies xs) + m) (length-append (f .body) (bodies ys));
     }
@@ -148,7 +148,7 @@ pub record There (p : ℕ) (fs : List Fragment) (place : ℕ) (heads : List ℕ)
   pub fragment : Fragment
   pub found : fragmentOf p fs ≡ some fragment
   pub head-is : getD heads place 0 ≡ packHead fragment
-  pub small-is : SmallHead fragment
+  pub tells : Tells fragment
 
 pub there : (T : ℕ) (fs : List Fragment) (n : ℕ) (heads : List ℕ) (room : Bytes) (p place : ℕ) → KeptFragments T fs n heads room → place ≡ placeOf p fs → place < n
     → There p fs place heads
@@ -159,7 +159,7 @@ there T fs n heads room p place k at lt =
       fragment = s .fragment;
       found = s .found;
       head-is = ap (λ (z : ℕ). getD heads z 0) (at ∙ sym (s .place)) ∙ w .head-is;
-      small-is = w .small-is;
+      tells = w .tells;
     }
 
 -- ---- lists: a part taken out, and one put in, by writes

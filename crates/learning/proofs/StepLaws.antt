@@ -1,17 +1,16 @@
 -- Steps of learning: one after the other, and what a table adds by what `plt` and `mpt` promise. Rests on specs/Steps and specs/News.
-use Prim.Native.Nat.{ℕ, zero, suc, _+_, _*_, _≤_, _<_}
+use Prim.Native.Nat.{ℕ, _*_}
 use mathlib.Core.Path.{_≡_, refl, sym, ap, _∙_, subst}
-use mathlib.Core.Bool.{Bool, true, false, cond, not, _&&_, _||_}
-use mathlib.Core.List.{List, [], _∷_, _++_}
-use mathlib.Core.Option.{Option, none, some}
+use mathlib.Core.Bool.{Bool, true, false, cond, _&&_, _||_}
+use mathlib.Core.List.{List}
+use mathlib.Core.Option.{none, some}
 use native.Mathlib.Omega.{arith}
-use lib.ListN.{length, take, drop}
+use lib.ListN.{length}
 use lib.Dec.{ltb, eqb}
 use borrow.Author.Tests.{eqb-true, ne-eqb}
-use Rattle.meaning.specs.Bytes.{Bytes}
 use Rattle.meaning.specs.Readers.{Out}
 use Rattle.meaning.specs.Tables.{Mpt, mpt, Package, plt, Table, isPlt, isMpt}
-use Rattle.meaning.specs.Learn.{Known, Learnt, learnt, Listed, assetNumbers, over, placeFor, listed, withList, mptFrom, learnMpt, packagesIn, pltFrom, learnPlt, learnTable, andLost}
+use Rattle.meaning.specs.Learn.{Known, Learnt, learnt, Listed, assetNumbers, over, placeFor, listed, withList, mptFrom, learnMpt, pltFrom, learnPlt, learnTable, andLost}
 use Rattle.meaning.proofs.ListLaws.{clash}
 use Rattle.learning.specs.Kept.{KeptPackages, KeptMaps, Keeps}
 use Rattle.learning.specs.News.{packagesNew, listNew, mptNew, newsTable}

@@ -1,9 +1,9 @@
 -- The tables of a PA body one after the other, as `learn_pa` meets them. Rests on FoldLaws and on the walk's laws of `tables`.
-use Prim.Native.Nat.{ℕ, zero, suc, _+_, _-_, _≤_, _<_}
-use mathlib.Core.Path.{_≡_, refl, sym, ap, _∙_, subst}
+use Prim.Native.Nat.{ℕ, _+_, _-_, _≤_, _<_}
+use mathlib.Core.Path.{_≡_, refl, ap, _∙_, subst}
 use mathlib.Core.Bool.{Bool, true, false, cond, _&&_}
-use mathlib.Core.List.{List, [], _∷_, _++_}
-use mathlib.Core.Option.{Option, none, some}
+use mathlib.Core.List.{List, []}
+use mathlib.Core.Option.{none, some}
 use native.Mathlib.Nat.{add-zero}
 use native.Mathlib.Omega.{arith}
 use lib.ListN.{length, take, drop, getD, length-take, length-drop}
@@ -12,7 +12,7 @@ use lib.Dec.{ltb, eqb}
 use Rattle.meaning.specs.Bytes.{Bytes}
 use Rattle.meaning.specs.Readers.{Out, raw, walk}
 use Rattle.meaning.specs.Tables.{Mpt, mpt, Table, table, isPlt, isMpt, paHead, pa}
-use Rattle.meaning.specs.Learn.{Known, Learnt, learnt, listed, placeFor, withList, mptFrom, learnMpt, learnPlt, learnTable, learnTables, andLost, paTables}
+use Rattle.meaning.specs.Learn.{Known, learnt, listed, placeFor, withList, mptFrom, learnMpt, learnPlt, learnTable, learnTables, paTables}
 use Rattle.tables.specs.Answers.{TableIs, PaHeadIs}
 use Rattle.tables.specs.declared.fields.End.the-variants.{At}
 use Rattle.tables.specs.declared.pa.Table.the-variants.{To}

@@ -1,14 +1,13 @@
 -- How the code holds what is known: pairs and fragment heads in arrays whose unused slots are zero, bodies one after the other at the front
 -- of the fragment room. A record here says that arrays hold a state; a promise says what state they hold afterwards.
-use Prim.Native.Nat.{ℕ, _+_, _*_, _≤_, _<_}
+use Prim.Native.Nat.{ℕ, _≤_}
 use mathlib.Core.Path.{_≡_}
-use mathlib.Core.Bool.{Bool}
 use mathlib.Core.List.{List, map}
 use lib.ListN.{length, take}
 use Rattle.meaning.specs.Bytes.{Bytes}
 use Rattle.meaning.specs.Learn.{Fragment, Known, heldBytes}
 use Rattle.meaning.specs.Record.{slots, packPair, pairOf, packHead}
-use Rattle.meaning.specs.Sound.{Below, HoldsPackages, HoldsMaps, HoldsFragments, bodies}
+use Rattle.meaning.specs.Sound.{HoldsPackages, HoldsMaps, HoldsFragments, bodies}
 use Rattle.learning.specs.declared.Extent.{Extent}
 
 -- The pairs in the first n slots.
@@ -20,7 +19,7 @@ pub record Pairs (N : ℕ) (ps : List (ℕ × ℕ)) (n : ℕ) (xs : List ℕ) : 
   pub count : n ≡ length ps
   pub few : length ps ≤ N
   pub are : xs ≡ slots N (map packPair ps)
-  pub small : Below 65536 ps
+  pub back : map pairOf (map packPair ps) ≡ ps
 
 pub record KeptPackages (ps : List (ℕ × ℕ)) (n : ℕ) (xs : List ℕ) : Type 0 where
   pub pairs : Pairs 255 ps n xs

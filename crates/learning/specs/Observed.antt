@@ -2,7 +2,7 @@
 use Prim.Native.Nat.{ℕ, _+_}
 use mathlib.Core.Path.{_≡_}
 use mathlib.Core.Bool.{Bool, _||_}
-use mathlib.Core.List.{List, [], _∷_}
+use mathlib.Core.List.{List, _∷_}
 use Rattle.meaning.specs.Bytes.{Bytes}
 use Rattle.meaning.specs.Messages.{messages}
 use Rattle.meaning.specs.Learn.{Limits, Known, Learnt, learnMessages, withFragments, without, fragmentOf, last}

@@ -1,15 +1,15 @@
 -- What each step of learning promises, in the terms of the definitions: the state that the arrays hold afterwards, whatever state it was.
-use Prim.Native.Nat.{ℕ, zero, suc, max, _+_, _-_, _*_, _≤_, _<_}
+use Prim.Native.Nat.{ℕ, suc, max, _+_, _-_, _*_, _≤_}
 use mathlib.Core.Path.{_≡_}
 use mathlib.Core.Bool.{Bool, true, false, cond, not, _&&_, _||_}
-use mathlib.Core.List.{List, [], _∷_, _++_, map}
-use mathlib.Core.Option.{Option, none, some}
+use mathlib.Core.List.{List, [], _∷_, _++_}
+use mathlib.Core.Option.{none, some}
 use lib.ListN.{length, take, drop, getD, set}
 use lib.Dec.{ltb, eqb}
 use Rattle.meaning.specs.Bytes.{Bytes}
 use Rattle.meaning.specs.Sets.{Words, inSet, withId}
 use Rattle.meaning.specs.Readers.{Out}
-use Rattle.meaning.specs.Tables.{Mpt, mpt, Package, plt, Table}
+use Rattle.meaning.specs.Tables.{Mpt, Package, Table}
 use Rattle.meaning.specs.Learn.{Known, Learnt, Listed, kindNumber, assetNumbers, over, placeFor, listed, insertPackage, packagesIn}
 use Rattle.meaning.specs.declared.Part.{Part}
 use Rattle.tables.specs.declared.fields.End.{End}

@@ -4,17 +4,17 @@ use Prim.Native.Nat.{ℕ, zero, suc, _+_}
 use mathlib.Core.Path.{_≡_, refl}
 use mathlib.Core.Bool.{Bool, true, false}
 use mathlib.Core.List.{List, [], _∷_, _++_}
-use mathlib.Core.Option.{none, some}
+use mathlib.Core.Option.{some}
 use lib.ListN.{replicate}
 use Rattle.meaning.specs.Bytes.{Bytes}
 use Rattle.meaning.specs.Sets.{withId}
 use Rattle.meaning.specs.Narrow.{narrowPayload}
-use Rattle.meaning.specs.Learn.{Limits, Fragment, Known, Learnt, learnPlt, observe, lists}
+use Rattle.meaning.specs.Learn.{Limits, Fragment, Known, learnPlt, observe, lists}
 use Rattle.meaning.specs.Rules.{drops, ready}
-use Rattle.meaning.specs.Push.{noWords}
-use Rattle.meaning.specs.declared.Part.the-variants.{Caption, Carousel, Other}
+use Rattle.meaning.specs.Push.{noWords, tallyRefusal, tallied}
 use Rattle.meaning.specs.declared.Service.the-variants.{Every, Only}
 use Rattle.meaning.specs.declared.Options.{Options}
+use Rattle.meaning.specs.declared.Counts.{Counts}
 use Rattle.meaning.proofs.Examples.{hvc1, stpp, E}
 
 -- ---- two services, 1 and 2, with MPTs on 0x100 and 0x200; both list 0x300, and service 1 lists captions on 0x301
@@ -181,3 +181,43 @@ pub services-rise : learnPlt
     (holding []) .packages ≡ (0x0400, 0xF000) ∷ (0x0401, 0xF002) ∷ []
 unfolding learnPlt
 services-rise = refl
+
+-- ---- the day tally: each count by itself may reach 2^64 - 1; where one would pass it, none is added
+
+abbrev counted : ℕ → ℕ → ℕ → ℕ → ℕ → ℕ → Counts
+counted b a w r s l = record { bytes = b; accepted = a; written = w; rewritten = r; skipped = s; lost = l }
+
+-- all six one short of full
+abbrev day : Counts
+day = counted 18446744073709551614 18446744073709551614 18446744073709551614 18446744073709551614 18446744073709551614 18446744073709551614
+
+abbrev ones : Counts
+ones = counted 1 1 1 1 1 1
+
+abbrev Full : Counts → Type 0
+Full c = (tallyRefusal day c ≡ 7) × (tallied day c ≡ day)
+
+pub record Tallying : Type 0 where
+  pub added : tallied (counted 1 2 3 4 5 6) (counted 10 20 30 40 50 60) ≡ counted 11 22 33 44 55 66
+  pub full-met : tallied day ones ≡ counted 18446744073709551615 18446744073709551615 18446744073709551615 18446744073709551615 18446744073709551615 18446744073709551615
+  pub full-taken : tallyRefusal day ones ≡ 0
+  pub bytes-full : Full (counted 2 0 0 0 0 0)
+  pub accepted-full : Full (counted 0 2 0 0 0 0)
+  pub written-full : Full (counted 0 0 2 0 0 0)
+  pub rewritten-full : Full (counted 0 0 0 2 0 0)
+  pub skipped-full : Full (counted 1 1 1 1 2 1)
+  pub lost-full : Full (counted 0 0 0 0 0 2)
+
+pub tallying : Tallying
+unfolding tallied tallyRefusal
+tallying = record {
+  added = refl;
+  full-met = refl;
+  full-taken = refl;
+  bytes-full = (refl, refl);
+  accepted-full = (refl, refl);
+  written-full = (refl, refl);
+  rewritten-full = (refl, refl);
+  skipped-full = (refl, refl);
+  lost-full = (refl, refl);
+}

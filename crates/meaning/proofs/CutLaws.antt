@@ -1,18 +1,18 @@
 -- Finding packets: what each step says, induction over a run by its steps, the equations of `cut`, and what follows: no byte is lost,
 -- each packet is one by its head, and fewer bytes than the packet limit are held. Rests on specs/Packets.
 use Prim.Native.Nat.{ℕ, zero, suc, _+_, _-_, _≤_, _<_}
-use mathlib.Core.Path.{_≡_, refl, sym, ap, _∙_, subst}
-use mathlib.Core.Bool.{Bool, true, false, cond, _&&_, _||_}
+use mathlib.Core.Path.{_≡_, refl, sym, subst}
+use mathlib.Core.Bool.{Bool, true, false, cond, _&&_}
 use mathlib.Core.List.{List, [], _∷_, _++_, map}
 use native.Mathlib.Numerals.{sub-one}
 use native.Mathlib.Omega.{arith}
 use lib.ListN.{length, take, drop, getD, length-append, length-drop}
 use lib.Seq.{length-take-le}
 use lib.Dec.{leb, ltb, eqb}
-use borrow.Author.Tests.{ltb-true, ltb-false, leb-true, leb-false, lt-ltb, le-ltb, le-leb}
+use borrow.Author.Tests.{ltb-true, ltb-false, leb-true, leb-false}
 use Rattle.meaning.specs.Bytes.{Bytes}
 use Rattle.meaning.specs.Lists.{sum}
-use Rattle.meaning.specs.Packets.{sizeOf, isType, candidate, followed, stepOf, Cut, hold, skip, accept, cutOn, cutPast, cut}
+use Rattle.meaning.specs.Packets.{sizeOf, isType, candidate, followed, stepOf, hold, skip, accept, cutPast, cut}
 use Rattle.meaning.specs.declared.Step.{Step}
 use Rattle.meaning.specs.declared.Step.the-variants.{Packet, Skip, Keep}
 use Rattle.meaning.proofs.ListLaws.{clash, and-both}

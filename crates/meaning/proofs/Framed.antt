@@ -3,16 +3,15 @@
 use Prim.Native.Nat.{ℕ, zero, suc, _+_, _-_, _≤_, _<_}
 use mathlib.Core.Path.{_≡_, refl, sym, ap, ap₂, _∙_, subst}
 use mathlib.Core.Bool.{Bool, true, false, cond}
-use mathlib.Core.List.{List, [], _∷_, _++_, map, flatten, append-assoc, append-nil}
-use mathlib.Core.Option.{Option, none, some, Option·none-ne-some, Option·some-injective}
+use mathlib.Core.List.{List, [], _∷_, _++_, map, flatten, append-assoc}
+use mathlib.Core.Option.{none, some, Option·none-ne-some, Option·some-injective}
 use native.Mathlib.Omega.{arith}
 use lib.ListN.{length, take, drop, length-append}
 use lib.Seq.{drop-at}
 use Rattle.meaning.specs.Bytes.{Bytes}
 use Rattle.meaning.specs.Lists.{keep}
-use Rattle.meaning.specs.Readers.{Out, Reader, bind, _>>=_, give, many, raw, Walk, stop, next, walkOn, walkPast, walk}
-use Rattle.meaning.proofs.ListLaws.{clash}
-use Rattle.meaning.proofs.Local.{Split, Local, take-front}
+use Rattle.meaning.specs.Readers.{_>>=_, Out, Reader, bind, give, many, raw, Walk, stop, next, walkPast, walk}
+use Rattle.meaning.proofs.Local.{Local, take-front}
 
 -- ---- what came before a bind
 

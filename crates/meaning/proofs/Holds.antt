@@ -1,28 +1,27 @@
 -- What a sound state holds to, and that learning keeps it: services rise, no map or fragment identifier comes twice, counts and lengths
 -- stay within their limits. No packet breaks it. Rests on specs/Learn.
-use Prim.Native.Nat.{ℕ, zero, suc, _+_, _-_, _*_, _%_, _≤_, _<_}
-use mathlib.Core.Path.{_≡_, refl, sym, ap, ap₂, _∙_, subst}
+use Prim.Native.Nat.{ℕ, zero, suc, _+_, _-_, _%_, _≤_, _<_}
+use mathlib.Core.Path.{_≡_, refl, sym, ap, _∙_, subst}
 use mathlib.Core.Bool.{Bool, true, false, cond, not, _&&_, _||_}
-use mathlib.Core.List.{List, [], _∷_, _++_, map}
+use mathlib.Core.List.{List, [], _∷_, _++_}
 use mathlib.Core.Option.{Option, none, some, Option·none-ne-some, Option·some-injective}
 use native.Mathlib.Omega.{arith}
-use lib.ListN.{length, take, drop, length-append, length-drop}
+use lib.ListN.{length, take, drop, length-append}
 use lib.Arith.{lt-of-le-ne}
-use lib.Seq.{length-take-le}
 use lib.Dec.{leb, ltb, eqb}
-use borrow.Author.Tests.{ltb-true, ltb-false, leb-true, eqb-true, eqb-false, lt-ltb, eq-eqb, ne-eqb}
-use Rattle.meaning.specs.Bytes.{Bytes, be16}
-use Rattle.meaning.specs.Sets.{withId, inSet}
-use Rattle.meaning.specs.Lists.{keep, all, any, sum}
-use Rattle.meaning.specs.Readers.{Out, Reader, bind, _>>=_, give, byte, u8, u16, bytes, counted8, many, raw, Walk}
+use borrow.Author.Tests.{ltb-true, ltb-false, leb-true, eqb-true, eqb-false, lt-ltb, ne-eqb}
+use Rattle.meaning.specs.Bytes.{Bytes}
+use Rattle.meaning.specs.Sets.{inSet}
+use Rattle.meaning.specs.Lists.{keep, any, sum}
+use Rattle.meaning.specs.Readers.{_>>=_, Out, Reader, give, byte, u8, u16, bytes, counted8, many, raw}
 use Rattle.meaning.specs.Mmtp.{Mmtp, mmtpOf, isSignalling}
 use Rattle.meaning.specs.Messages.{Message, messages, indicator}
-use Rattle.meaning.specs.Tables.{elsewhere, locationBody, location, Entry, Mpt, mpt, Package, packageFields, packageEntry, plt, serviceOf, Table, isMpt, isPlt, PaHead, pa}
-use Rattle.meaning.specs.Learn.{Limits, Fragment, Known, Learnt, learnt, Listed, assetNumbers, over, placeFor, listAsset, listed, withList, mptFrom, learnMpt, insertPackage, addPackage, packagesIn, withPackages, pltFrom, learnPlt, learnTable, andLost, learnTables, paTables, withCarousel, learnMessage, learnMessages, withFragments, isOf, without, heldBytes, fragmentOf, grown, growIn, holdFirst, fits, middleOf, middle, joined, lastFor, last, byIndicator, observe, learnFrom, learn}
+use Rattle.meaning.specs.Tables.{elsewhere, locationBody, location, Entry, Mpt, mpt, Package, packageFields, packageEntry, plt, serviceOf, Table, isMpt, isPlt, pa}
+use Rattle.meaning.specs.Learn.{Limits, Fragment, Known, learnt, placeFor, listAsset, listed, withList, mptFrom, learnMpt, insertPackage, addPackage, packagesIn, pltFrom, learnPlt, learnTable, learnTables, paTables, withCarousel, learnMessage, learnMessages, withFragments, isOf, without, heldBytes, fragmentOf, grown, growIn, holdFirst, fits, middleOf, middle, joined, lastFor, last, byIndicator, observe, learnFrom, learn}
 use Rattle.meaning.specs.Record.{rising, distinct}
 use Rattle.meaning.specs.Sound.{services, identifiers, Below, SmallFlags, HoldsPackages, HoldsMaps, HoldsFragments, Holds}
 use Rattle.meaning.proofs.ListLaws.{and-both, and-true, or-neither, keep-length}
-use Rattle.meaning.proofs.Framed.{Before, before, Many, many-framed}
+use Rattle.meaning.proofs.Framed.{before, many-framed}
 use Rattle.meaning.proofs.TableLaws.{be16-small, u8-split, mpt-split, package-framed}
 
 -- ---- packages: a PLT names at most 255, and an insertion keeps them rising

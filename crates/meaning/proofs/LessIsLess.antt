@@ -1,25 +1,22 @@
 -- Demand 3 on the definitions: of two recorders started alike, the one with fewer wishes writes what the other writes, thinned and
 -- narrowed. Over one run of packets, one call, and any series of calls with refusals. Rests on RuleLaws and NarrowLaws.
-use Prim.Native.Nat.{ℕ, _+_}
 use mathlib.Core.Path.{_≡_, refl, sym, ap, ap₂, _∙_, subst}
-use mathlib.Core.Bool.{Bool, true, false, cond, not, _&&_}
-use mathlib.Core.List.{List, [], _∷_, _++_, map, Sublistᴰ, Sublistᴰ·slnil, Sublistᴰ·cons, Sublistᴰ·cons-cons, Sublistᴰ·append}
-use mathlib.Core.Option.{Option, none, some, Option·getD}
-use lib.ListN.{length}
+use mathlib.Core.Bool.{Bool, true, false, cond}
+use mathlib.Core.List.{List, [], _∷_, _++_, map, Sublistᴰ·slnil, Sublistᴰ·cons, Sublistᴰ·cons-cons, Sublistᴰ·append}
+use mathlib.Core.Option.{Option·getD}
 use lib.Dec.{eqb}
 use Rattle.meaning.specs.Bytes.{Bytes}
-use Rattle.meaning.specs.Packets.{Cut, cut}
+use Rattle.meaning.specs.Packets.{cut}
 use Rattle.meaning.specs.Mmtp.{mmtpOf}
-use Rattle.meaning.specs.Narrow.{narrowPacket, narrowedPacket, isSome}
-use Rattle.meaning.specs.Learn.{Limits, Known, Learnt, learn}
+use Rattle.meaning.specs.Narrow.{narrowPacket, narrowedPacket}
+use Rattle.meaning.specs.Learn.{Limits, Known, learn}
 use Rattle.meaning.specs.Rules.{copiesAll}
 use Rattle.meaning.specs.Refusals.{packetLimit}
 use Rattle.meaning.specs.Record.{State}
-use Rattle.meaning.specs.Push.{withheld, Passed, passOne, pass, Pushed, filtered, push, Lent, callRefusal, Run, runOn, run}
+use Rattle.meaning.specs.Push.{withheld, Passed, passOne, pass, filtered, push, Lent, callRefusal, Run, runOn, run}
 use Rattle.meaning.specs.Less.{Fewer, Thinned}
 use Rattle.meaning.specs.declared.Options.{Options}
 use Rattle.meaning.proofs.ListLaws.{clash}
-use Rattle.meaning.proofs.TableLaws.{Narrows}
 use Rattle.meaning.proofs.NarrowLaws.{packet-narrows}
 use Rattle.meaning.proofs.RuleLaws.{withheld-under}
 

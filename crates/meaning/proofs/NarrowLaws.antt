@@ -1,41 +1,42 @@
 -- Narrowed payloads and packets: read again as what they were with the narrowed message, never longer than before, and narrowing by
 -- more wishes and then by fewer is narrowing by the fewer. Then what is public of it. Rests on PaLaws.
-use Prim.Native.Nat.{ℕ, zero, suc, _+_, _-_, _*_, _/_, _%_, _≤_, _<_}
+use Prim.Native.Nat.{ℕ, _+_, _-_, _*_, _/_, _%_, _≤_, _<_}
 use mathlib.Core.Path.{_≡_, refl, sym, ap, ap₂, _∙_, subst}
-use mathlib.Core.Bool.{Bool, true, false, cond, not, _&&_, _||_}
-use mathlib.Core.List.{List, [], _∷_, _++_, map, append-assoc, append-nil}
+use mathlib.Core.Bool.{Bool, true, false, cond, _&&_}
+use mathlib.Core.List.{[], _∷_, _++_, append-assoc, append-nil}
 use mathlib.Core.Option.{Option, none, some, Option·map, Option·getD, Option·none-ne-some, Option·some-injective}
 use native.Mathlib.Omega.{arith}
 use lib.ListN.{length, take, drop, getD, length-append, length-drop, take-append-drop, List·getD-append}
-use lib.Seq.{take-at, drop-at, drop-append-le, length-take-le, getD-take}
+use lib.Seq.{take-at, drop-at, length-take-le, getD-take}
 use lib.Dec.{leb, eqb}
 use borrow.Author.Tests.{le-leb, leb-true, eqb-true}
 use Rattle.meaning.specs.Bytes.{Bytes, be16, be16At, put16, put32}
-use Rattle.meaning.specs.Readers.{Out, Reader, bind, _>>=_, give, byte, u16, u32, bytes, counted32}
+use Rattle.meaning.specs.Readers.{Out, give, byte, u16, u32, bytes, counted32}
 use Rattle.meaning.specs.Mmtp.{Place, byKind, compressed, udp, placeOf, Head, mmtpHead, Mmtp, mmtpFrom, mmtpAt, mmtpOf, isSignalling}
 use Rattle.meaning.specs.Messages.{Message, message, messageBody, isLong, indicator, aggregated}
-use Rattle.meaning.specs.Narrow.{narrowPa, paOf, paMessage, payloadBytes, payloadFor, narrowPayload, packetBytes, packetFor, narrowPacket, narrowedPacket, narrowTable, isSome}
+use Rattle.meaning.specs.Narrow.{narrowPa, paOf, paMessage, payloadBytes, payloadFor, narrowPayload, packetBytes, packetFor, narrowPacket, narrowTable, isSome}
 use Rattle.meaning.specs.Less.{Fewer}
 use Rattle.meaning.specs.declared.Options.{Options}
 use Rattle.meaning.proofs.ListLaws.{clash, and-both}
 use Rattle.meaning.proofs.Local.{mmtpHead-local}
-use Rattle.meaning.proofs.Framed.{Before, before}
+use Rattle.meaning.proofs.Framed.{before}
 use Rattle.meaning.proofs.TableLaws.{Narrows, narrows-again, be16-put, be16-small, table-narrows}
 use Rattle.meaning.proofs.PaLaws.{pa-narrows}
 
 -- ---- a message of 32 bits' length
 
-u32-put : (n : ℕ) (r : Bytes) → n < 4294967296 → u32 (put32 n ++ r) ≡ some (n, r)
+u32-put : (n : ℕ) (r : Bytes) → u32 (put32 n ++ r) ≡ some (n % 4294967296, r)
 unfolding u32 u16 byte put32 put16
-u32-put n r h =
-    let e : n / 65536 * 65536 + n % 65536 ≡ n = omega arith in
-    rw (be16-put (n / 65536) (omega arith), be16-put (n % 65536) (omega arith), e)
+u32-put n r =
+    let e : n / 65536 % 65536 * 65536 + n % 65536 % 65536 ≡ n % 4294967296 = omega arith in
+    rw (be16-put (n / 65536), be16-put (n % 65536), e)
 
 pub counted32-again : (b r : Bytes) → length b < 4294967296 → counted32 (put32 (length b) ++ (b ++ r)) ≡ some (b, r)
 unfolding counted32 bytes
 counted32-again b r h =
     let l : length b ≤ length (b ++ r) = omega (arith, length-append b r) in
-    rw (u32-put (length b) (b ++ r) h, le-leb _ _ l, take-at b r (length b) refl, drop-at b r (length b) refl)
+    let e : length b % 4294967296 ≡ length b = omega arith in
+    rw (u32-put (length b) (b ++ r), e, le-leb _ _ l, take-at b r (length b) refl, drop-at b r (length b) refl)
 
 u32-split : (s : Bytes) (n : ℕ) (r : Bytes) → u32 s ≡ some (n, r) → (n < 4294967296) × (length s ≡ 4 + length r)
 unfolding u32 u16 byte

@@ -1,10 +1,10 @@
 -- A narrowed PA body: its head's entries take the tables' lengths, it reads again as the narrowed tables, it is no longer than it was,
 -- and narrowing by more wishes and then by fewer is narrowing by the fewer. Rests on TableLaws.
-use Prim.Native.Nat.{ℕ, zero, suc, _+_, _-_, _*_, _%_, _≤_, _<_}
+use Prim.Native.Nat.{ℕ, suc, _-_, _*_, _%_, _≤_}
 use mathlib.Core.Path.{_≡_, refl, sym, ap, ap₂, _∙_, subst}
 use mathlib.Core.Logic.{inl, inr}
-use mathlib.Core.Bool.{Bool, true, false, cond, _&&_, _||_}
-use mathlib.Core.List.{List, [], _∷_, _++_, map, flatten, append-assoc, append-nil}
+use mathlib.Core.Bool.{Bool, true, false, cond, _&&_}
+use mathlib.Core.List.{List, [], _∷_, _++_, map, flatten, append-nil}
 use mathlib.Core.Option.{Option, none, some, Option·map, Option·getD, Option·none-ne-some, Option·some-injective}
 use native.Mathlib.Omega.{arith}
 use lib.ListN.{length, take, drop, length-append, length-map, take-append-drop}
@@ -13,15 +13,15 @@ use lib.Dec.{leb, ltb}
 use borrow.Author.Tests.{le-leb, leb-true}
 use Rattle.meaning.specs.Bytes.{Bytes, put16}
 use Rattle.meaning.specs.Lists.{any}
-use Rattle.meaning.specs.Readers.{Out, Reader, bind, _>>=_, give, byte, bytes, many, raw, Walk, walk}
+use Rattle.meaning.specs.Readers.{Out, give, byte, bytes, many, raw, walk}
 use Rattle.meaning.specs.Tables.{Table, table, PaHead, paHead, paFrom, pa}
-use Rattle.meaning.specs.Narrow.{newBody, tableBytes, newTable, tableFrom, tableAfter, tableChanges, isSome, relength, paBytes, paFor, narrowPa}
+use Rattle.meaning.specs.Narrow.{newBody, tableBytes, newTable, tableAfter, tableChanges, isSome, relength, paBytes, paFor, narrowPa}
 use Rattle.meaning.specs.Less.{Fewer}
 use Rattle.meaning.specs.declared.Options.{Options}
 use Rattle.meaning.proofs.ListLaws.{clash, and-both, and-true, or-either, or-left, or-right, or-neither}
 use Rattle.meaning.proofs.Local.{table-local, raw-local, take-front}
-use Rattle.meaning.proofs.Framed.{Before, before, Again, AllAgain, Framed, raw-framed, Many, many-framed, many-again, Walked, walked, walk-again}
-use Rattle.meaning.proofs.TableLaws.{Narrows, withBody, table-again, table-split, table-length, narrowAt, table-narrows, body-narrows}
+use Rattle.meaning.proofs.Framed.{before, Again, AllAgain, Framed, raw-framed, many-framed, many-again, Walked, walked, walk-again}
+use Rattle.meaning.proofs.TableLaws.{Narrows, withBody, table-again, table-split, narrowAt, table-narrows, body-narrows}
 
 abbrev Found : Type 0
 Found = Table × Bytes

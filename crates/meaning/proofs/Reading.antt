@@ -1,19 +1,17 @@
 -- The readers at an offset of a run, as code meets them: each law takes the offset past what is read as a number of its own, e, with
 -- its equation. Rests on specs/Readers.
-use Prim.Native.Nat.{ℕ, zero, suc, _+_, _-_, _*_, _%_, _≤_, _<_}
-use mathlib.Core.Path.{_≡_, refl, sym, ap, _∙_}
-use mathlib.Core.Bool.{Bool, true, false, cond}
+use Prim.Native.Nat.{ℕ, zero, suc, _+_, _-_, _%_, _≤_, _<_}
+use mathlib.Core.Path.{_≡_, refl}
 use mathlib.Core.List.{List, [], _∷_, _++_, append-assoc}
-use mathlib.Core.Option.{Option, none, some}
+use mathlib.Core.Option.{none, some}
 use native.Mathlib.Nat.{not-suc-le-zero}
 use native.Mathlib.Numerals.{add-one, sub-one}
 use native.Mathlib.Decide.{decLt}
 use native.Mathlib.Omega.{arith}
 use lib.ListN.{length, take, drop, getD, length-drop, drop-of-length-le}
 use lib.Seq.{drop-cons, drop-drop}
-use lib.Dec.{leb}
 use borrow.Author.Tests.{le-leb, lt-leb}
-use Rattle.meaning.specs.Bytes.{Bytes, be16, be16At, be32At}
+use Rattle.meaning.specs.Bytes.{Bytes, be16At, be32At}
 use Rattle.meaning.specs.Readers.{Out, Reader, bind, byte, u8, u16, u32, bytes, counted8, counted16, counted32, many}
 
 -- an offset out of what is left after it

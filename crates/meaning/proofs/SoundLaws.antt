@@ -1,17 +1,16 @@
 -- Soundness is kept by every call: from a start or from any sound record, through any series of calls. And the record of a state says
 -- what the state is. Rests on Holds and CutLaws.
-use Prim.Native.Nat.{ℕ, zero, suc, min, _+_, _-_, _*_, _/_, _%_, _≤_, _<_}
+use Prim.Native.Nat.{ℕ, suc, _+_, _-_, _/_, _%_, _≤_, _<_}
 use mathlib.Core.Path.{_≡_, refl, sym, ap, ap₂, _∙_, subst}
 use mathlib.Core.Bool.{Bool, true, false, cond, not, _&&_, _||_}
-use mathlib.Core.List.{List, [], _∷_, _++_, map, flatten, append-assoc}
-use mathlib.Core.Option.{Option}
+use mathlib.Core.List.{List, [], _∷_, _++_, map, append-assoc}
 use native.Mathlib.Omega.{arith}
-use lib.ListN.{length, take, drop, length-append, length-take, length-map, replicate}
+use lib.ListN.{length, take, drop, length-take, length-map, replicate}
 use lib.Seq.{take-at, drop-at}
 use lib.Dec.{leb, ltb, eqb}
 use borrow.Author.Tests.{ltb-true, leb-true, eqb-true, lt-ltb, le-leb, eq-eqb}
 use Rattle.meaning.specs.Bytes.{Bytes}
-use Rattle.meaning.specs.Lists.{all, any, sum}
+use Rattle.meaning.specs.Lists.{all, sum}
 use Rattle.meaning.specs.Packets.{cut}
 use Rattle.meaning.specs.Mmtp.{mmtpOf}
 use Rattle.meaning.specs.Narrow.{narrowPacket}
@@ -19,9 +18,9 @@ use Rattle.meaning.specs.Learn.{Limits, Fragment, Known, learn, heldByte
 use Rattle.meaning.specs.Rules.{copiesAll}
 use Rattle.meaning.specs.Refusals.{packetLimit, goodWork, goodFragments, goodMaps}
 use Rattle.meaning.specs.Record.{State, slots, Record, packPair, pairOf, packHead, headIdentifier, headFlags, headLength, recordOf, fragmentsIn, stateOf, rising, distinct, soundRooms, soundHeld, soundPackages, soundMaps, soundFragments, sound}
-use Rattle.meaning.specs.Push.{fresh, withheld, Passed, passOne, pass, Pushed, filtered, push, pushRefusal, Lent, callRefusal, run, runOn}
+use Rattle.meaning.specs.Push.{fresh, withheld, passOne, pass, filtered, push, pushRefusal, Lent, callRefusal, run, runOn}
 use Rattle.meaning.specs.declared.Options.{Options}
-use Rattle.meaning.proofs.ListLaws.{clash, and-both, and-true, or-either}
+use Rattle.meaning.proofs.ListLaws.{clash, and-both}
 use Rattle.meaning.proofs.CutLaws.{held-below}
 use Rattle.meaning.specs.Sound.{services, identifiers, Below, SmallFlags, HoldsPackages, HoldsMaps, HoldsFragments, Holds, bodies}
 use Rattle.meaning.proofs.Holds.{held-next, learn-holds}
@@ -85,24 +84,27 @@ run-holds L o st (c ∷ cs) four h =
 
 -- ---- numbers that hold two or three
 
-pair-pack : (x : ℕ × ℕ) → x .1 < 65536 → pairOf (packPair x) ≡ x
+-- What the two say: a second number over 16 bits goes on in the first.
+pub pair-pack : (x : ℕ × ℕ) → pairOf (packPair x) ≡ (x .0 + x .1 / 65536, x .1 % 65536)
 unfolding pairOf packPair
-pair-pack x h = ap₂ (λ (a b : ℕ). (a, b)) (omega arith) (omega arith)
+pair-pack x = ap₂ (λ (a b : ℕ). (a, b)) (omega arith) (omega arith)
 
-abbrev pub SmallHead : Fragment → Type 0
-SmallHead f = (f .flags < 256) × (length (f .body) < 1099511627776)
+pair-back : (x : ℕ × ℕ) → x .1 < 65536 → pairOf (packPair x) ≡ x
+pair-back x h = pair-pack x ∙ ap₂ (λ (a b : ℕ). (a, b)) (omega arith) (omega arith)
 
-pub head-identifier : (f : Fragment) → SmallHead f → headIdentifier (packHead f) ≡ f .identifier
-unfolding headIdentifier packHead
-head-identifier f h = omega (arith, h .0, h .1)
+-- A head tells of its fragment what the fragment has.
+pub record Tells (f : Fragment) : Type 0 where
+  pub identifier-is : headIdentifier (packHead f) ≡ f .identifier
+  pub flags-are : headFlags (packHead f) ≡ f .flags
+  pub length-is : headLength (packHead f) ≡ length (f .body)
 
-pub head-flags : (f : Fragment) → SmallHead f → headFlags (packHead f) ≡ f .flags
-unfolding headFlags packHead
-head-flags f h = omega (arith, h .0, h .1)
+abbrev pub TellAll : List Fragment → Type 0
+TellAll [] = Unit {0}
+TellAll (f ∷ fs) = Tells f × TellAll fs
 
-pub head-length : (f : Fragment) → SmallHead f → headLength (packHead f) ≡ length (f .body)
-unfolding headLength packHead
-head-length f h = omega (arith, h .0, h .1)
+head-tells : (f : Fragment) → f .flags < 256 → length (f .body) < 1099511627776 → Tells f
+unfolding headIdentifier headFlags headLength packHead
+head-tells f a b = record { identifier-is = omega (arith, a, b); flags-are = omega (arith, a, b); length-is = omega (arith, a, b) }
 
 -- ---- the record of a state is sound
 
@@ -116,9 +118,9 @@ used n f xs = ap (λ (k : ℕ). take k (slots n (map f xs))) (sym (length-map xs
 
 firsts-of : (ps : List (ℕ × ℕ)) → Below 65536 ps → map (λ x. pairOf x .0) (map packPair ps) ≡ services ps
 firsts-of [] b = refl
-firsts-of (x ∷ ps) b = ap₂ (λ (a : ℕ) (l : List ℕ). a ∷ l) (ap (λ z. z .0) (pair-pack x (b .0))) (firsts-of ps (b .1))
+firsts-of (x ∷ ps) b = ap₂ (λ (a : ℕ) (l : List ℕ). a ∷ l) (ap (λ z. z .0) (pair-back x (b .0))) (firsts-of ps (b .1))
 
-pub below-wider : {m n : ℕ} (ps : List (ℕ × ℕ)) → m ≤ n → Below m ps → Below n ps
+below-wider : {m n : ℕ} (ps : List (ℕ × ℕ)) → m ≤ n → Below m ps → Below n ps
 below-wider [] l b = tt
 below-wider (x ∷ ps) l b = (omega (arith, b .0), below-wider ps l (b .1))
 
@@ -126,27 +128,26 @@ counts-of : (ps : List (ℕ × ℕ)) → Below 256 ps → all (λ x. leb (pairOf
 unfolding all
 counts-of [] b = refl
 counts-of (x ∷ ps) b =
-    let e : pairOf (packPair x) .1 ≡ x .1 = ap (λ z. z .1) (pair-pack x (omega (arith, b .0))) in
+    let e : pairOf (packPair x) .1 ≡ x .1 = ap (λ z. z .1) (pair-back x (omega (arith, b .0))) in
     rw (e, le-leb (x .1) 255 (omega (arith, b .0))) (counts-of ps (b .1))
 
--- each fragment is within the sum, which is within T
-abbrev pub SmallHeads : List Fragment → Type 0
-SmallHeads [] = Unit {0}
-SmallHeads (f ∷ fs) = SmallHead f × SmallHeads fs
+-- Each fragment is within the sum, which is within T: so every head of a sound state tells.
+tell-all : (T : ℕ) (fs : List Fragment) → SmallFlags fs → heldBytes fs ≤ T → T ≤ 16777216 → TellAll fs
+tell-all T [] s h t = tt
+tell-all T (f ∷ fs) s h t =
+    (head-tells f (s .0) (omega (arith, held-next f fs)), tell-all T fs (s .1) (omega (arith, held-next f fs)) t)
 
-pub heads-small : (T : ℕ) (fs : List Fragment) → SmallFlags fs → heldBytes fs ≤ T → T ≤ 16777216 → SmallHeads fs
-heads-small T [] s h t = tt
-heads-small T (f ∷ fs) s h t =
-    ((s .0, omega (arith, held-next f fs)), heads-small T fs (s .1) (omega (arith, held-next f fs)) t)
+pub heads-tell : (T : ℕ) (fs : List Fragment) → HoldsFragments T fs → T ≤ 16777216 → TellAll fs
+heads-tell T fs h t = tell-all T fs (h .flags) (h .within) t
 
-identifiers-of : (fs : List Fragment) → SmallHeads fs → map headIdentifier (map packHead fs) ≡ identifiers fs
+identifiers-of : (fs : List Fragment) → TellAll fs → map headIdentifier (map packHead fs) ≡ identifiers fs
 identifiers-of [] h = refl
-identifiers-of (f ∷ fs) h = ap₂ (λ (a : ℕ) (l : List ℕ). a ∷ l) (head-identifier f (h .0)) (identifiers-of fs (h .1))
+identifiers-of (f ∷ fs) h = ap₂ (λ (a : ℕ) (l : List ℕ). a ∷ l) (h .0 .identifier-is) (identifiers-of fs (h .1))
 
-pub lengths-of : (fs : List Fragment) → SmallHeads fs → sum (map headLength (map packHead fs)) ≡ heldBytes fs
+lengths-of : (fs : List Fragment) → TellAll fs → sum (map headLength (map packHead fs)) ≡ heldBytes fs
 unfolding sum heldBytes
 lengths-of [] h = refl
-lengths-of (f ∷ fs) h = ap₂ (λ (a b : ℕ). a + b) (head-length f (h .0)) (lengths-of fs (h .1))
+lengths-of (f ∷ fs) h = ap₂ (λ (a b : ℕ). a + b) (h .0 .length-is) (lengths-of fs (h .1))
 
 module _ (L : Limits) (o : Options) (st : State) (work-good : goodWork (L .work) ≡ true) (fragments-good : goodFragments (L .total) (L .most) ≡ true) (h : HoldsState L o st) where
   rooms-sound : soundRooms L (L .work) (L .total) 32768 ≡ true
@@ -187,8 +188,8 @@ module _ (L : Limits) (o : Options) (st : State) (work-good : goodWork (L .work)
   fragments-sound =
       let s = h .known-holds .fragments-hold in
       let fs = st .known .fragments in
-      let small = heads-small (L .total) fs (s .flags) (s .within) total-small in
-      rw (le-leb (length fs) 256 (s .few), used 256 packHead fs, identifiers-of fs small, lengths-of fs small, s .once, le-leb (heldBytes fs) (L .total) (s .within))
+      let tell = heads-tell (L .total) fs s total-small in
+      rw (le-leb (length fs) 256 (s .few), used 256 packHead fs, identifiers-of fs tell, lengths-of fs tell, s .once, le-leb (heldBytes fs) (L .total) (s .within))
 
   pub record-sound : sound (recordOf L o st) (L .work) (L .total) 32768 ≡ true
   unfolding sound recordOf
@@ -316,22 +317,28 @@ state-holds r work room maps e =
 
 -- ---- the record of a state, with rooms that begin with its bytes, holds that state
 
-pub pairs-back : (ps : List (ℕ × ℕ)) → Below 65536 ps → map pairOf (map packPair ps) ≡ ps
+pairs-back : (ps : List (ℕ × ℕ)) → Below 65536 ps → map pairOf (map packPair ps) ≡ ps
 pairs-back [] b = refl
-pairs-back (x ∷ ps) b = ap₂ (λ (y : ℕ × ℕ) (l : List (ℕ × ℕ)). y ∷ l) (pair-pack x (b .0)) (pairs-back ps (b .1))
+pairs-back (x ∷ ps) b = ap₂ (λ (y : ℕ × ℕ) (l : List (ℕ × ℕ)). y ∷ l) (pair-back x (b .0)) (pairs-back ps (b .1))
 
-fragments-back : (fs : List Fragment) (spare : Bytes) → SmallHeads fs → fragmentsIn (map packHead fs) (bodies fs ++ spare) ≡ fs
+pub packages-back : (ps : List (ℕ × ℕ)) → HoldsPackages ps → map pairOf (map packPair ps) ≡ ps
+packages-back ps h = pairs-back ps (h .small)
+
+pub maps-back : (ms : List (ℕ × ℕ)) → HoldsMaps ms → map pairOf (map packPair ms) ≡ ms
+maps-back ms h = pairs-back ms (below-wider ms (omega arith) (h .small))
+
+fragments-back : (fs : List Fragment) (spare : Bytes) → TellAll fs → fragmentsIn (map packHead fs) (bodies fs ++ spare) ≡ fs
 unfolding fragmentsIn bodies
 fragments-back [] spare h = refl
 fragments-back (f ∷ fs) spare h =
-    let n : headLength (packHead f) ≡ length (f .body) = head-length f (h .0) in
+    let n : headLength (packHead f) ≡ length (f .body) = h .0 .length-is in
     let room : Bytes = (f .body ++ bodies fs) ++ spare in
     let body : take (headLength (packHead f)) room ≡ f .body =
     ap₂ (λ (k : ℕ) (z : Bytes). take k z) n (append-assoc (f .body) (bodies fs) spare) ∙ take-at (f .body) (bodies fs ++ spare) (length (f .body)) refl in
     let rest : drop (headLength (packHead f)) room ≡ bodies fs ++ spare =
     ap₂ (λ (k : ℕ) (z : Bytes). drop k z) n (append-assoc (f .body) (bodies fs) spare) ∙ drop-at (f .body) (bodies fs ++ spare) (length (f .body)) refl in
     ap₂ (λ (g : Fragment) (l : List Fragment). g ∷ l)
-    (λ i. record { identifier = head-identifier f (h .0) i; flags = head-flags f (h .0) i; body = body i })
+    (λ i. record { identifier = h .0 .identifier-is i; flags = h .0 .flags-are i; body = body i })
     (ap (fragmentsIn (map packHead fs)) rest ∙ fragments-back fs spare (h .1))
 
 module _ (L : Limits) (o : Options) (st : State) (total-few : L .total ≤ 16777216) (h : HoldsState L o st) where
@@ -340,11 +347,11 @@ module _ (L : Limits) (o : Options) (st : State) (total-few : L .total ≤ 16777
   state-back work room =
       let k = st .known in
       let s = h .known-holds in
-      let small = heads-small (L .total) (k .fragments) (s .fragments-hold .flags) (s .fragments-hold .within) total-few in
+      let tell = heads-tell (L .total) (k .fragments) (s .fragments-hold) total-few in
       let held = take-at (st .held) work (length (st .held)) refl in
-      let packages = ap (map pairOf) (used 255 packPair (k .packages)) ∙ pairs-back (k .packages) (s .packages-hold .small) in
-      let maps = ap (map pairOf) (used 64 packPair (k .maps)) ∙ pairs-back (k .maps) (below-wider (k .maps) (omega arith) (s .maps-hold .small)) in
-      let fragments = ap (λ (l : List ℕ). fragmentsIn l (bodies (k .fragments) ++ room)) (used 256 packHead (k .fragments)) ∙ fragments-back (k .fragments) room small in
+      let packages = ap (map pairOf) (used 255 packPair (k .packages)) ∙ packages-back (k .packages) (s .packages-hold) in
+      let maps = ap (map pairOf) (used 64 packPair (k .maps)) ∙ maps-back (k .maps) (s .maps-hold) in
+      let fragments = ap (λ (l : List ℕ). fragmentsIn l (bodies (k .fragments) ++ room)) (used 256 packHead (k .fragments)) ∙ fragments-back (k .fragments) room tell in
       λ i. record {
         held = held i;
         known = record { plt-seen = k .plt-seen; packages = packages i; maps = maps i; room = k .room; carousels = k .carousels; fragments = fragments i };

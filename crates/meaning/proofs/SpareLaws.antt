@@ -1,33 +1,31 @@
 -- Outputs, counts and what is learned depend on the map lists and not on the spare numbers of the map room: two states that differ in
 -- these alone answer alike, call after call. Rests on Holds.
 use Prim.Native.Nat.{ℕ, zero, suc, _+_, _-_, _*_, _≤_, _<_}
-use mathlib.Core.Path.{_≡_, refl, sym, ap, ap₂, _∙_, subst}
+use mathlib.Core.Path.{_≡_, refl, sym, ap, ap₂, _∙_}
 use mathlib.Core.Bool.{Bool, true, false, cond, not, _&&_, _||_}
-use mathlib.Core.List.{List, [], _∷_, _++_, map, append-assoc}
+use mathlib.Core.List.{List, [], _∷_, _++_, append-assoc}
 use mathlib.Core.Option.{Option, none, some}
-use native.Mathlib.Nat.{add-assoc, zero-add}
+use native.Mathlib.Nat.{zero-add}
 use native.Mathlib.Omega.{arith}
 use lib.ListN.{length, take, drop, length-append, length-drop, take-append-drop}
-use lib.Seq.{length-take-le, take-at, drop-at, take-add, drop-drop, drop-append-le, drop-append-add}
-use lib.Dec.{leb, ltb, eqb}
+use lib.Seq.{length-take-le, drop-at, take-add, drop-drop, drop-append-add}
+use lib.Dec.{ltb, eqb}
 use borrow.Author.Tests.{ltb-true}
 use Rattle.meaning.specs.Bytes.{Bytes}
-use Rattle.meaning.specs.Sets.{inSet, withId, howMany}
+use Rattle.meaning.specs.Sets.{inSet}
 use Rattle.meaning.specs.Readers.{Out}
 use Rattle.meaning.specs.Packets.{Cut, cut}
 use Rattle.meaning.specs.Mmtp.{Mmtp, mmtpOf, isSignalling}
 use Rattle.meaning.specs.Messages.{Message, messages, indicator}
 use Rattle.meaning.specs.Tables.{Entry, Mpt, mpt, Package, plt, Table, isMpt, isPlt, pa}
 use Rattle.meaning.specs.Narrow.{narrowPacket}
-use Rattle.meaning.specs.Learn.{Limits, Fragment, Known, Learnt, learnt, kindNumber, kindOf, Listed, assetsIn, assetNumbers, listsIn, lists, over, placeFor, listed, withList, mptFrom, learnMpt, packagesIn, withPackages, pltFrom, learnPlt, learnTable, andLost, learnTables, paTables, withCarousel, learnMessage, learnMessages, withFragments, without, fragmentOf, fits, middleOf, middle, joined, lastFor, last, holdFirst, byIndicator, observe, learnFrom, learn}
+use Rattle.meaning.specs.Learn.{Limits, Fragment, Known, Learnt, learnt, kindNumber, kindOf, Listed, assetsIn, assetNumbers, listsIn, lists, over, placeFor, listed, withList, mptFrom, learnMpt, pltFrom, learnPlt, learnTable, andLost, learnTables, paTables, withCarousel, learnMessage, learnMessages, withFragments, without, fragmentOf, fits, middleOf, middle, joined, lastFor, last, holdFirst, byIndicator, observe, learnFrom, learn}
 use Rattle.meaning.specs.Rules.{copiesAll, inDropSet, drops, dropped, ready}
 use Rattle.meaning.specs.Refusals.{packetLimit}
-use Rattle.meaning.specs.Record.{State}
 use Rattle.meaning.specs.Push.{withheld, Passed, passOne, pass, Pushed, copied, pushed, filtered, push}
 use Rattle.meaning.specs.declared.Part.{Part}
 use Rattle.meaning.specs.declared.Part.the-variants.{Caption, Carousel, Other}
 use Rattle.meaning.specs.declared.Options.{Options}
-use Rattle.meaning.specs.declared.Counts.{Counts}
 use Rattle.meaning.proofs.TableLaws.{mpt-split}
 use Rattle.meaning.proofs.SetLaws.{many-same}
 use Rattle.meaning.specs.Sound.{Below, HoldsFragments, Holds}

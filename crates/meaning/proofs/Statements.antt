@@ -1,16 +1,16 @@
 -- The laws that are quoted most, each in the form in which to quote it. Their proofs are in the files that they cite.
-use Prim.Native.Nat.{ℕ, _+_, _≤_, _<_}
-use mathlib.Core.Path.{_≡_, refl, sym, ap, _∙_}
-use mathlib.Core.Bool.{Bool, true, false, not}
-use mathlib.Core.List.{List, [], _∷_, _++_, map, Sublistᴰ}
-use mathlib.Core.Option.{Option, none, some, Option·getD}
+use Prim.Native.Nat.{ℕ, _+_, _≤_}
+use mathlib.Core.Path.{_≡_, refl}
+use mathlib.Core.Bool.{false, not}
+use mathlib.Core.List.{List, _++_, Sublistᴰ}
+use mathlib.Core.Option.{some}
 use native.Mathlib.Omega.{arith}
 use lib.ListN.{length}
 use Rattle.meaning.specs.Bytes.{Bytes}
 use Rattle.meaning.specs.Lists.{keep, count}
 use Rattle.meaning.specs.Packets.{cut}
-use Rattle.meaning.specs.Tables.{Entry, Mpt, mpt, Table, table}
-use Rattle.meaning.specs.Narrow.{wanted, wantedEntry, mptBody, mptWithout, newBody, tableBytes, narrowTable, narrowPayload, narrowPacket, narrowedPacket, isPart}
+use Rattle.meaning.specs.Tables.{Mpt, mpt, Table, table}
+use Rattle.meaning.specs.Narrow.{wanted, wantedEntry, mptBody, newBody, tableBytes, narrowTable, narrowPayload, narrowPacket, narrowedPacket, isPart}
 use Rattle.meaning.specs.Learn.{Limits}
 use Rattle.meaning.specs.Rules.{copiesAll}
 use Rattle.meaning.specs.Refusals.{packetLimit}

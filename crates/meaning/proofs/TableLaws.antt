@@ -1,21 +1,21 @@
 -- A narrowed table: its count is the number of its entries, its length fits its bytes, its entries are those that are wanted, in
 -- order; it is no longer than it was; and narrowing by more wishes and then by fewer is narrowing by the fewer.
-use Prim.Native.Nat.{ℕ, zero, suc, _+_, _-_, _*_, _/_, _%_, _≤_, _<_}
-use mathlib.Core.Path.{_≡_, refl, sym, ap, ap₂, _∙_, subst}
+use Prim.Native.Nat.{ℕ, _+_, _/_, _%_, _≤_, _<_}
+use mathlib.Core.Path.{_≡_, refl, sym, ap, _∙_, subst}
 use mathlib.Core.Logic.{_⊎_, inl, inr}
-use mathlib.Core.Bool.{Bool, true, false, cond, not, _&&_, _||_}
-use mathlib.Core.List.{List, [], _∷_, _++_, map, flatten, append-assoc, append-nil}
+use mathlib.Core.Bool.{Bool, true, false, cond, _&&_}
+use mathlib.Core.List.{List, [], _∷_, _++_, map, flatten, append-nil}
 use mathlib.Core.Option.{Option, none, some, Option·map, Option·getD, Option·none-ne-some, Option·some-injective}
 use native.Mathlib.Omega.{arith}
 use lib.ListN.{length, take, drop, length-append, length-drop}
-use lib.Seq.{take-at, drop-at, length-take-le, take-length, drop-length}
+use lib.Seq.{take-at, drop-at, length-take-le}
 use lib.Dec.{leb, eqb}
 use borrow.Author.Tests.{le-leb, leb-true}
 use Rattle.meaning.specs.Bytes.{Bytes, be16, put16}
 use Rattle.meaning.specs.Lists.{keep, all}
-use Rattle.meaning.specs.Readers.{Out, Reader, bind, _>>=_, give, byte, u8, u16, bytes, counted16, many, raw}
-use Rattle.meaning.specs.Tables.{Entry, entry, asset, partOf, mptFront, Mpt, mpt, Package, packageFields, packageEntry, plt, serviceOf, Table, table, isMpt, isPlt}
-use Rattle.meaning.specs.Narrow.{wanted, wantedEntry, mptBody, mptKeeping, mptWithout, isService, lastOf, pltKeeping, pltOnly, pltFor, newBody, tableBytes, newTable, tableFrom, narrowTable, isSome}
+use Rattle.meaning.specs.Readers.{Out, _>>=_, give, byte, u8, u16, bytes, counted16, many, raw}
+use Rattle.meaning.specs.Tables.{Entry, entry, mptFront, Mpt, mpt, Package, packageEntry, plt, serviceOf, Table, table, isMpt, isPlt}
+use Rattle.meaning.specs.Narrow.{wanted, wantedEntry, mptBody, mptKeeping, mptWithout, isService, lastOf, pltKeeping, pltOnly, pltFor, newBody, tableBytes, newTable, tableFrom, isSome}
 use Rattle.meaning.specs.Less.{Fewer}
 use Rattle.meaning.specs.declared.Part.{Part}
 use Rattle.meaning.specs.declared.Part.the-variants.{Caption, Carousel, Other}
@@ -23,8 +23,8 @@ use Rattle.meaning.specs.declared.Service.{Service}
 use Rattle.meaning.specs.declared.Service.the-variants.{Every, Only}
 use Rattle.meaning.specs.declared.Options.{Options}
 use Rattle.meaning.proofs.ListLaws.{clash, keep-keep, keep-all, all-under, keep-length}
-use Rattle.meaning.proofs.Local.{asset-local, mptFront-local, packageFields-local, table-local}
-use Rattle.meaning.proofs.Framed.{Before, before, Again, AllAgain, Framed, raw-framed, made-framed, Many, many-framed, many-again, keep-again}
+use Rattle.meaning.proofs.Local.{asset-local, mptFront-local, packageFields-local}
+use Rattle.meaning.proofs.Framed.{before, Again, AllAgain, Framed, raw-framed, made-framed, many-framed, many-again, keep-again}
 
 -- ---- a narrowing by fewer wishes, f₁, beside one by more, f₂
 
@@ -294,9 +294,9 @@ module _ {o₁ o₂ : Options} (fewer : Fewer o₁ o₂) (p number : ℕ) where
 
 -- ---- a table with its head: its length fits its bytes
 
-pub be16-put : (n : ℕ) → n < 65536 → be16 (n / 256 % 256) (n % 256) ≡ n
+pub be16-put : (n : ℕ) → be16 (n / 256 % 256) (n % 256) ≡ n % 65536
 unfolding be16
-be16-put n h = omega arith
+be16-put n = omega arith
 
 pub be16-small : (a b : ℕ) → be16 a b < 65536
 unfolding be16
@@ -310,7 +310,8 @@ pub table-again : (t : Table) (b r : Bytes) → length b < 65536 → table (tabl
 unfolding table tableBytes put16 byte counted16 u16 bytes
 table-again t b r h =
     let l : length b ≤ length (b ++ r) = omega (arith, length-append b r) in
-    rw (be16-put (length b) h, le-leb _ _ l, take-at b r (length b) refl, drop-at b r (length b) refl)
+    let e : length b % 65536 ≡ length b = omega arith in
+    rw (be16-put (length b), e, le-leb _ _ l, take-at b r (length b) refl, drop-at b r (length b) refl)
 
 pub record TableSplit (y : Bytes) (t : Table) (r : Bytes) : Type 0 where
   pub few : length (t .body) < 65536

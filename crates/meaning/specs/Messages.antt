@@ -2,10 +2,10 @@
 use Prim.Native.Nat.{ℕ, zero, suc, _/_, _%_}
 use mathlib.Core.Bool.{Bool, true, false, cond, _&&_, _||_}
 use mathlib.Core.List.{List, [], _∷_}
-use mathlib.Core.Option.{Option, none, some}
+use mathlib.Core.Option.{none, some}
 use lib.Dec.{leb, eqb}
 use Rattle.meaning.specs.Bytes.{Bytes}
-use Rattle.meaning.specs.Readers.{Reader, Out, _>>=_, bind, give, byte, u16, u32, bytes, counted16, counted32, Walk, walk}
+use Rattle.meaning.specs.Readers.{Reader, Out, _>>=_, give, byte, u16, counted16, counted32, walk}
 
 -- ---- the first byte of a payload
 

@@ -1,12 +1,11 @@
 -- From a packet to its MMTP payload: 01, "From packet to payload"; the MMTP head as ISO/IEC 23008-1 has it.
-use Prim.Native.Nat.{ℕ, zero, suc, _+_, _*_, _/_, _%_}
+use Prim.Native.Nat.{ℕ, _+_, _*_, _/_, _%_}
 use mathlib.Core.Bool.{Bool, true, false, cond}
-use mathlib.Core.List.{List, [], _∷_}
 use mathlib.Core.Option.{Option, none, some}
 use lib.ListN.{length, drop, getD}
 use lib.Dec.{leb, eqb}
 use Rattle.meaning.specs.Bytes.{Bytes, be16At}
-use Rattle.meaning.specs.Readers.{Reader, Out, _>>=_, bind, give, u8, u16, u32, bytes, counted16, announced}
+use Rattle.meaning.specs.Readers.{Reader, Out, _>>=_, give, u8, u16, u32, bytes, counted16, announced}
 
 -- ---- where the MMTP stands in the TLV payload, and whether the packet may be rewritten; none where it passes unread
 

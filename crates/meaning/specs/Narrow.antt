@@ -1,10 +1,10 @@
 -- Narrowing: tables, payloads and packets with what is not wanted left out. 01, "Narrowing".
-use Prim.Native.Nat.{ℕ, zero, suc, _+_, _-_}
-use mathlib.Core.Bool.{Bool, true, false, cond, not, _&&_, _||_}
+use Prim.Native.Nat.{ℕ, _-_}
+use mathlib.Core.Bool.{Bool, true, false, cond, not, _&&_}
 use mathlib.Core.List.{List, [], _∷_, _++_, map, flatten}
 use mathlib.Core.Option.{Option, none, some, Option·map, Option·getD}
 use lib.ListN.{length, take, drop}
-use lib.Dec.{leb, ltb, eqb}
+use lib.Dec.{ltb, eqb}
 use Rattle.meaning.specs.Bytes.{Bytes, put16, put32}
 use Rattle.meaning.specs.Lists.{keep, all, any, count}
 use Rattle.meaning.specs.Readers.{Out, Walk}

@@ -1,5 +1,5 @@
 -- What the calls do: a start, a push, a series of them, the day tally. 01, "Finding packets", "Keep, drop, ready", "Narrowing".
-use Prim.Native.Nat.{ℕ, zero, suc, _+_, _-_, _^_}
+use Prim.Native.Nat.{ℕ, _+_, _-_, _^_}
 use mathlib.Core.Bool.{Bool, true, false, cond, not, _&&_, _||_}
 use mathlib.Core.List.{List, [], _∷_, _++_, flatten}
 use mathlib.Core.Option.{Option, none, some, Option·getD}
@@ -10,7 +10,7 @@ use Rattle.meaning.specs.Sets.{Words}
 use Rattle.meaning.specs.Packets.{Cut, cut}
 use Rattle.meaning.specs.Mmtp.{Mmtp, mmtpOf, isSignalling}
 use Rattle.meaning.specs.Narrow.{narrowPacket, isSome}
-use Rattle.meaning.specs.Learn.{Limits, Known, Learnt, learn}
+use Rattle.meaning.specs.Learn.{Limits, Known, learn}
 use Rattle.meaning.specs.Rules.{copiesAll, drops, dropped, ready}
 use Rattle.meaning.specs.Refusals.{packetLimit, startRefusal}
 use Rattle.meaning.specs.Record.{State, Record, recordOf, stateOf, sound}

@@ -1,11 +1,11 @@
 -- The tables of a PA message, with their entries, as ARIB STD-B60 and ISO/IEC 23008-1 lay them out: 01, "What is learned".
-use Prim.Native.Nat.{ℕ, zero, suc, _+_, _%_}
+use Prim.Native.Nat.{ℕ, zero, suc, _%_}
 use mathlib.Core.Bool.{Bool, true, false, cond, _&&_}
 use mathlib.Core.List.{List, [], _∷_}
 use mathlib.Core.Option.{Option, none, some}
 use lib.Dec.{leb, eqb}
 use Rattle.meaning.specs.Bytes.{Bytes, be16}
-use Rattle.meaning.specs.Readers.{Reader, Out, _>>=_, bind, give, refuse, byte, u8, u16, bytes, counted8, counted16, announced, many, raw, Walk, walk}
+use Rattle.meaning.specs.Readers.{Reader, Out, _>>=_, give, refuse, byte, u8, u16, bytes, counted8, counted16, announced, many, raw, Walk, walk}
 use Rattle.meaning.specs.declared.Part.{Part}
 use Rattle.meaning.specs.declared.Part.the-variants.{Caption, Carousel, Other}
 

@@ -12,7 +12,7 @@ use lib.Dec.{ltb}
 use borrow.Author.Tests.{lt-ltb, le-ltb}
 use Rattle.meaning.specs.Bytes.{Bytes, put16}
 use Rattle.meaning.specs.Lists.{any}
-use Rattle.meaning.specs.Readers.{raw, Walk, stop, next, walk}
+use Rattle.meaning.specs.Readers.{raw, Walk, stop}
 use Rattle.meaning.specs.Tables.{Table, table}
 use Rattle.meaning.specs.Writing.{Wrote}
 use Rattle.meaning.specs.Narrow.{newBody, tableBytes, newTable, tableAfter, tableChanges, isSome, relength, paBytes}

@@ -3,14 +3,13 @@
 use Prim.Native.Nat.{ℕ}
 use mathlib.Core.Path.{_≡_, refl, sym, ap, ap₂, _∙_}
 use mathlib.Core.Bool.{Bool, true, false, not, _&&_, _||_}
-use mathlib.Core.List.{List, [], _∷_, map}
+use mathlib.Core.List.{List, [], _∷_}
 use native.Mathlib.Omega.{arith}
 use lib.Dec.{eqb}
-use lib.ListN.{length, length-append, length-replicate, length-map}
 use borrow.Author.Tests.{eqb-true, eqb-false, eq-eqb, ne-eqb}
 use Rattle.meaning.specs.Sets.{Words, inSet, howMany}
 use Rattle.meaning.specs.Lists.{all, any}
-use Rattle.meaning.specs.Record.{slots, packPair, pairOf, rising}
+use Rattle.meaning.specs.Record.{rising}
 use Rattle.meaning.specs.Sound.{services}
 use Rattle.meaning.specs.Learn.{Listed, Known, lists, listsIn}
 use Rattle.meaning.specs.Rules.{listOf, isHeld, keptBy, droppedBy, inDropSet, drops, dropped, needsMet, ready}
@@ -19,22 +18,11 @@ use Rattle.meaning.specs.declared.Service.{Service}
 use Rattle.meaning.specs.declared.Service.the-variants.{Every, Only}
 use Rattle.meaning.proofs.ListLaws.{any-same}
 use Rattle.meaning.proofs.SetLaws.{many-same}
-use Rattle.meaning.proofs.SoundLaws.{used, pairs-back}
-use Rattle.learning.specs.Kept.{pairsIn, Pairs, Keeps}
+use Rattle.learning.specs.Kept.{pairsIn, Keeps}
+use Rattle.learning.proofs.PairLaws.{pairs-in, pairs-length}
 use Rattle.learning.specs.declared.Extent.{Extent}
 use Rattle.rules.specs.Changes.{SetIs, Inserts, Removes, Packages, Heads, Rooms, listsAt, listHeld}
 use Rattle.rules.proofs.ReadyRules.{held-is}
-
--- ---- pairs in an array
-
-pairs-are : {N n : ℕ} {ps : List (ℕ × ℕ)} {xs : List ℕ} → Pairs N ps n xs → pairsIn n xs ≡ ps
-pairs-are {N} {n} {ps} {xs} p =
-    ap₂ (λ (m : ℕ) (ys : List ℕ). pairsIn m ys) (p .count) (p .are) ∙ ap (map pairOf) (used N packPair ps) ∙ pairs-back ps (p .small)
-
-pairs-all : {N n : ℕ} {ps : List (ℕ × ℕ)} {xs : List ℕ} → Pairs N ps n xs → length xs ≡ N
-unfolding slots
-pairs-all {N} {n} {ps} {xs} p =
-    ap length (p .are) ∙ simp (length-append, length-replicate, length-map) (omega (arith, p .few))
 
 -- ---- Bool
 
@@ -76,20 +64,20 @@ all-same p q h (x ∷ xs) = rw (h x, all-same p q h xs)
 
 module _ {k : Known} {e : Extent} {carousels packages maps room : List ℕ} (h : Keeps k e carousels packages maps room) where
   packages-are : pairsIn (e .packages) packages ≡ k .packages
-  packages-are = pairs-are (h .packages-kept .pairs)
+  packages-are = pairs-in (h .packages-kept .pairs)
 
   maps-are : pairsIn (e .maps) maps ≡ k .maps
-  maps-are = pairs-are (h .maps-kept .pairs)
+  maps-are = pairs-in (h .maps-kept .pairs)
 
   lists-are : listsAt (e .maps) maps room ≡ lists k
   unfolding lists
   lists-are = ap₂ (λ (ms : List (ℕ × ℕ)) (r : List ℕ). listsIn ms r) maps-are (h .room-is)
 
   pub packages-there : Packages (e .packages) packages
-  packages-there = record { few = omega (arith, h .packages-kept .pairs .count, h .packages-kept .pairs .few); slots-all = pairs-all (h .packages-kept .pairs) }
+  packages-there = record { few = omega (arith, h .packages-kept .pairs .count, h .packages-kept .pairs .few); slots-all = pairs-length (h .packages-kept .pairs) }
 
   pub heads-there : Heads (e .maps) maps
-  heads-there = record { few = omega (arith, h .maps-kept .pairs .count, h .maps-kept .pairs .few); slots-all = pairs-all (h .maps-kept .pairs) }
+  heads-there = record { few = omega (arith, h .maps-kept .pairs .count, h .maps-kept .pairs .few); slots-all = pairs-length (h .maps-kept .pairs) }
 
   pub rooms-there : Rooms (e .maps) maps room
   rooms-there = record { heads = heads-there; small = rw maps-are (h .maps-kept .hold .small); room-all = h .room-all }

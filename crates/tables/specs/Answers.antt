@@ -2,11 +2,11 @@
 -- definition reads nothing. Each determines the answer.
 use Prim.Native.Nat.{ℕ, _+_, _-_, _%_, _≤_, _<_}
 use mathlib.Core.Path.{_≡_}
-use mathlib.Core.List.{List, [], _∷_}
+use mathlib.Core.List.{List}
 use mathlib.Core.Option.{Option, none, some}
 use lib.ListN.{length, take, drop, getD}
 use Rattle.meaning.specs.Bytes.{Bytes}
-use Rattle.meaning.specs.Readers.{Out, Reader, _>>=_, bind, give, u8, counted16, announced, many}
+use Rattle.meaning.specs.Readers.{_>>=_, Out, Reader, give, u8, counted16, announced, many}
 use Rattle.meaning.specs.Messages as messages
 use Rattle.meaning.specs.Tables as meant
 use Rattle.tables.specs.declared.fields.End.{End}

@@ -1,23 +1,23 @@
 -- One law for each return of the readers: what the code's tests show is what the definition says. First finding packets, then the
 -- place of the MMTP, then its head.
 use Prim.Native.Nat.{ℕ, zero, suc, _+_, _-_, _*_, _/_, _%_, _≤_, _<_}
-use mathlib.Core.Path.{_≡_, refl, sym, ap, ap₂, _∙_, subst}
+use mathlib.Core.Path.{_≡_, refl, sym, ap, ap₂, _∙_}
 use mathlib.Core.Logic.{_⊎_, inl, inr}
 use mathlib.Core.Bool.{Bool, true, false, cond, _&&_, _||_}
-use mathlib.Core.List.{List, [], _∷_}
-use mathlib.Core.Option.{Option, none, some}
+use mathlib.Core.List.{[]}
+use mathlib.Core.Option.{none, some}
 use native.Mathlib.Decide.{decLt, decLe}
 use native.Mathlib.Omega.{arith}
 use lib.ListN.{length, take, drop, getD, length-drop}
 use lib.Seq.{getD-drop, drop-drop, take-all}
 use lib.Dec.{leb, ltb, eqb}
-use borrow.Author.Tests.{lt-ltb, le-ltb, le-leb, lt-leb, eq-eqb, ne-eqb}
-use Rattle.meaning.specs.Bytes.{Bytes, be16, be16At}
-use Rattle.meaning.specs.Readers.{Out, Reader, bind, _>>=_, give, u8, u16, u32, bytes, counted16, announced}
+use borrow.Author.Tests.{lt-ltb, le-ltb, le-leb, lt-leb, ne-eqb}
+use Rattle.meaning.specs.Bytes.{Bytes, be16At}
+use Rattle.meaning.specs.Readers.{_>>=_, Out, Reader, bind, give, u16, bytes, counted16, announced}
 use Rattle.meaning.specs.Packets.{sizeOf, isType, candidate, followed, stepOf}
 use Rattle.meaning.specs.Mmtp as meant
 use Rattle.meaning.specs.declared.Step.the-variants.{Packet, Skip, Keep}
-use Rattle.meaning.proofs.Reading.{byte-at, byte-none, u8-none, u8-some, u16-at, u16-none, u32-at, u32-none, bytes-at, bytes-none, counted16-at, counted16-none}
+use Rattle.meaning.proofs.Reading.{u8-none, u8-some, u16-at, u16-none, u32-at, u32-none, bytes-at, bytes-none, counted16-at, counted16-none}
 use Rattle.tlv.specs.Answers.{placed, headTo, extendedTo, Headed}
 use Rattle.tlv.specs.declared.Head.{Head}
 use Rattle.tlv.specs.declared.Head.the-variants.{Cut}

@@ -1,5 +1,4 @@
 use Rattle.meaning.specs.Bytes.{be32At}
-use native.Mathlib.Omega.{arith}
 use borrow.Author.Needs.{needs}
 use Rattle.octets.proofs.be32.Statement.{statement}
 use Rattle.octets.proofs.be32.Tie as tie

@@ -1,5 +1,4 @@
 use Rattle.meaning.specs.Bytes.{be16}
-use native.Mathlib.Omega.{arith}
 use native.Mathlib.Nat.{mod-eq-of-lt}
 use mathlib.Core.Path.{sym}
 use borrow.Author.Needs.{needs}

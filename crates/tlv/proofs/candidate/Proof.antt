@@ -1,5 +1,4 @@
 use borrow.Author.Tests.{not-true, not-false}
-use mathlib.Core.Path.{sym, _∙_}
 use borrow.Author.Tests.{eq-eqb, ne-eqb}
 use Rattle.tlv.proofs.Laws.{candidate-is}
 use borrow.Author.Needs.{needs}

@@ -1,9 +1,5 @@
 use mathlib.Core.Logic.{inl, inr}
-use mathlib.Core.Path.{refl}
-use native.Mathlib.Omega.{arith}
 use borrow.Author.Tests.{le-leb, lt-leb}
-use mathlib.Core.Path.{sym}
-use mathlib.Core.Logic.{⊎-elim}
 use Rattle.tlv.proofs.Laws.{no-kind}
 use Rattle.meaning.specs.Mmtp.{compressed, byKind}
 use borrow.Author.Needs.{needs}

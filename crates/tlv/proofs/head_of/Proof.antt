@@ -1,9 +1,7 @@
 use lib.ListN.{getD}
-use mathlib.Core.Path.{_≡_, _∙_, sym, subst}
-use Prim.Native.Nat.{_/_, _%_, _*_, _+_}
+use Prim.Native.Nat.{_/_}
 use native.Mathlib.Omega.{arith}
 use lib.Bits.{and-mask}
-use Rattle.tlv.specs.Answers.{Headed}
 use Rattle.tlv.proofs.Laws.{head-short, head-plain, head-extended}
 use borrow.Author.Needs.{needs}
 use Rattle.tlv.proofs.head_of.Statement.{statement}

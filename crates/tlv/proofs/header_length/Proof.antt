@@ -1,6 +1,5 @@
 use Prim.Native.Nat.{_≤_}
-use lib.ListN.{length, getD}
-use mathlib.Core.Path.{_≡_}
+use lib.ListN.{length}
 use native.Mathlib.Omega.{arith}
 use lib.ListN.{List·getD-eq-default}
 use borrow.Author.Needs.{needs}

@@ -1,4 +1,4 @@
-use borrow.Author.Tests.{eq-eqb, ne-eqb}
+use borrow.Author.Tests.{ne-eqb}
 use Rattle.meaning.specs.Packets.{isType}
 use Rattle.tlv.proofs.known_type.Statement.{statement}
 use Rattle.tlv.proofs.known_type.Tie as tie

@@ -1,11 +1,10 @@
-use Rattle.tlv.specs.Answers.{placed, Headed}
-use Prim.Native.Nat.{ℕ, _+_, _≤_}
+use Rattle.tlv.specs.Answers.{placed}
+use Prim.Native.Nat.{ℕ, _+_}
 use native.Mathlib.Omega.{arith}
-use lib.ListN.{getD, drop, length, length-drop}
-use mathlib.Core.Option.{some, none}
+use lib.ListN.{getD, drop, length-drop}
 use mathlib.Core.List.{List}
-use mathlib.Core.Path.{_≡_, _∙_, sym, ap}
-use Rattle.meaning.specs.Mmtp.{placeOf, mmtpHead}
+use mathlib.Core.Path.{_∙_, sym, ap}
+use Rattle.meaning.specs.Mmtp.{placeOf}
 use Rattle.tlv.proofs.Laws.{unread-short, unread-place, unread-past, unread-head, read-all, unplaced, placed-at, to-end}
 use borrow.Author.Needs.{needs}
 use Rattle.tlv.proofs.mmtp_of.Statement.{statement}

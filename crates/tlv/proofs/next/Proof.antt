@@ -1,6 +1,6 @@
 use borrow.Author.Tests.{not-true, not-false}
 use Rattle.meaning.specs.declared.Step.the-variants.{Packet}
-use lib.ListN.{length, drop, length-drop}
+use lib.ListN.{drop, length-drop}
 use native.Mathlib.Omega.{arith}
 use mathlib.Core.Path.{sym, ap, _∙_}
 use Rattle.tlv.proofs.Laws.{keep-short, skip-here, keep-long, packet-here}

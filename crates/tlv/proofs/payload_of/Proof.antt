@@ -2,7 +2,7 @@ use lib.ListN.{length}
 use Prim.Native.Nat.{_≤_}
 use Rattle.tlv.proofs.Laws.{to-end}
 use native.Mathlib.Omega.{arith}
-use mathlib.Core.Path.{refl, sym}
+use mathlib.Core.Path.{sym}
 use lib.ListN.{drop-of-length-le}
 use borrow.Author.Needs.{needs}
 use Rattle.tlv.proofs.payload_of.Statement.{statement}

@@ -2,7 +2,6 @@ use borrow.Author.Tests.{not-true, not-false}
 use Prim.Native.Nat.{_-_, _≤_, _<_}
 use lib.ListN.{length}
 use native.Mathlib.Omega.{arith}
-use mathlib.Core.Path.{sym, _∙_}
 use borrow.Author.Tests.{le-leb, lt-leb}
 use Rattle.tlv.proofs.Laws.{followed-is}
 use borrow.Author.Needs.{needs}

@@ -1,5 +1,4 @@
-use native.Mathlib.Omega.{arith}
-use borrow.Author.Tests.{le-leb, lt-leb, eq-eqb, ne-eqb}
+use borrow.Author.Tests.{le-leb, lt-leb, ne-eqb}
 use Rattle.meaning.specs.Mmtp.{udp}
 use borrow.Author.Needs.{needs}
 use Rattle.tlv.proofs.udp_body.Statement.{statement}

@@ -2,7 +2,7 @@ use mathlib.Core.Path.{_≡_, refl, ap, _∙_}
 use Prim.Native.Nat.{_+_, _≤_}
 use native.Mathlib.Omega.{arith}
 use lib.ListN.{length}
-use Rattle.meaning.specs.Learn.{Limits, withFragments, without, growIn}
+use Rattle.meaning.specs.Learn.{withFragments, without, growIn}
 use Rattle.learning.proofs.ObserveSteps.{keeps-fragments, part-within, lost-within, last-grew, last-gave, last-absent}
 use borrow.Author.Needs.{needs}
 use Rattle.learning.proofs.observe.last.Statement.{statement}
