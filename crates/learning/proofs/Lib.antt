@@ -12,3 +12,4 @@ pub mod FoldLaws
 pub mod TableSteps
 pub mod MessageSteps
 pub mod ObserveSteps
+pub mod NewsLaws

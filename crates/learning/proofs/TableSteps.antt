@@ -43,7 +43,7 @@ table-lost q t k = go (isPlt (t .number) && eqb q 0) (isMpt (t .number))
     go false true = mpt-lost (mpt (t .body))
     go false false = omega arith
 
-tables-fold : (q : ℕ) → Folds {A = Table × Bytes} (λ t. learnTable q (t .0)) (λ t. newsTable q (t .0)) (learnTables q) (newsTables q)
+pub tables-fold : (q : ℕ) → Folds {A = Table × Bytes} (λ t. learnTable q (t .0)) (λ t. newsTable q (t .0)) (learnTables q) (newsTables q)
 unfolding learnTables newsTables
 tables-fold q = record { nil = λ k. refl; cons = λ a as′ k. refl; no-news = λ k. refl; more-news = λ a as′ k. refl }
 
