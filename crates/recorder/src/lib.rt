@@ -1,5 +1,6 @@
 // The filter's record: what a recorder has between two calls, beside the three lent rooms.
 pub mod sound;
+pub mod tally;
 
 use meaning::Options;
 

@@ -6,6 +6,7 @@ ghost use lib.ListN.{length, drop, getD};
 ghost use Rattle.meaning.specs.Packets.{isType, sizeOf, candidate, followed, stepOf};
 ghost use Rattle.meaning.specs.Mmtp.{compressed, udp, placeOf, mmtpHead, mmtpOf};
 ghost use Rattle.tlv.specs.Answers.{placed, headTo, extendedTo, Headed, MmtpIs};
+ghost use Rattle.tlv.specs.Gaps.{GapTo};
 use meaning::Step;
 use octets::be16;
 use octets::id16;
@@ -111,6 +112,21 @@ pub fn next(run: &[u8], at: usize, most: usize) -> Step
         return Step::Keep;
     }
     Step::Packet(n)
+}
+
+// Where the bytes that start no packet end, from `at` on.
+pub fn gap_end(run: &[u8], at: usize, most: usize) -> usize
+    requires { ⌜ at ≤ length (now run) ⌝ }
+    ensures { λ r. ⌜ GapTo most (now (run .entry)) at r ⌝ }
+{
+    let mut to = at;
+    while to < run.len() {
+        let Step::Skip = next(run, to, most) else {
+            return to;
+        };
+        to += 1;
+    }
+    to
 }
 
 // The MMTP behind a compressed IP header.

@@ -1,5 +1,5 @@
 //! Puts three modules into OUT_DIR: 000 untouched, and 000 changed by the two tables in `replacements.rs`, with
-//! 01's limits and with narrowing alone. 000 is read from the absolute path in DISCJUMAR_ORIGINAL, or from the
+//! 01's limits and in parts. 000 is read from the absolute path in DISCJUMAR_ORIGINAL, or from the
 //! papers that stand beside the repository; its text is never copied into the repository.
 
 use std::path::{Path, PathBuf};
@@ -20,18 +20,20 @@ fn build() -> Result<(), String> {
     let here = PathBuf::from(variable("CARGO_MANIFEST_DIR")?);
     let out = PathBuf::from(variable("OUT_DIR")?);
     let untouched = original(&here)?;
-    let mut patched = replacements::apply(&untouched, replacements::REPLACEMENTS)?;
-    // As a child of the patched module it has 000's private names in reach: none is made visible.
-    patched += &module("inside", &here.join("src/inside.rs"));
-    let narrowing = replacements::apply(&untouched, replacements::NARROWING)?;
+    // As a child of the changed module a file has 000's private names in reach: none is made visible.
+    let patched = replacements::apply(&untouched, replacements::REPLACEMENTS)?
+        + &module("inside", &here.join("src/inside.rs"));
+    let parted = replacements::apply(&untouched, replacements::PARTS)?
+        + &module("parts", &here.join("src/parts.rs"))
+        + "pub use parts::{Learned, Parts};\n";
     let modules = module("untouched", &out.join("untouched.rs"))
         + &module("patched", &out.join("patched.rs"))
-        // Most of 000 is of no use there.
+        // Not all of 000 is of use there.
         + "#[allow(dead_code)]\n"
-        + &module("narrowing", &out.join("narrowing.rs"));
+        + &module("parted", &out.join("parted.rs"));
     write(&out.join("untouched.rs"), &untouched)?;
     write(&out.join("patched.rs"), &patched)?;
-    write(&out.join("narrowing.rs"), &narrowing)?;
+    write(&out.join("parted.rs"), &parted)?;
     write(&out.join("modules.rs"), &modules)
 }
 

@@ -72,10 +72,17 @@ pub const REPLACEMENTS: &[Replacement] = &[
     ),
 ];
 
-/// Those that leave 000's `packet` without learning and open it to the bench, which measures narrowing alone.
-pub const NARROWING: &[Replacement] = &[
-    ("open", "fn packet(", "pub(super) fn packet("),
+/// Those that part for the bench what 000 does at once: `packet` does not learn, and `observe` tells that the rules are
+/// to be worked out where 000 goes on to do so. `src/parts.rs` calls them.
+pub const PARTS: &[Replacement] = &[
+    ("field", "held: Vec<u8>,", "held: Vec<u8>, changed: bool,"),
+    (
+        "initial",
+        "held: Vec::new(),",
+        "held: Vec::new(), changed: false,",
+    ),
     ("learning", "if signalling {", "if false {"),
+    ("rules", "self.decide();", "self.changed = true;"),
 ];
 
 /// The text with all replacements made, or the name of the first that does not fit exactly once.

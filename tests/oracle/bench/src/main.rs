@@ -1,19 +1,30 @@
-//! The command `bench`: the proved code, compiled for this machine, against the original, in one run. Prints for
-//! each row the time of both and their ratio. `tests/bench` builds and runs it.
+//! The command `bench [WORD]`: the proved code, compiled for this machine, against the original, in one run. Prints for
+//! each row, or each whose name has the word, the time of both and their ratio. `tests/bench` builds and runs it.
 
+#[cfg(driver)]
+mod broadcast;
+#[cfg(driver)]
+mod known;
+#[cfg(driver)]
+mod learning;
 #[cfg(driver)]
 mod measure;
 #[cfg(driver)]
 mod narrowing;
 #[cfg(driver)]
 mod proved;
+#[cfg(driver)]
+mod rules;
 
 use std::process::ExitCode;
 
 /// The rows. One for each thing that is measured; see `measure::Row`.
 #[cfg(driver)]
 fn main() -> ExitCode {
-    measure::table(narrowing::rows());
+    let word = std::env::args().nth(1).unwrap_or_default();
+    let rows = [narrowing::rows(), learning::rows(), rules::rows()];
+    let asked = |row: &measure::Row| row.name.contains(&word);
+    measure::table(rows.into_iter().flatten().filter(asked).collect());
     ExitCode::SUCCESS
 }
 

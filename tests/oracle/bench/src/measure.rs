@@ -7,14 +7,14 @@ use std::hint::black_box;
 const RUNS: usize = 101;
 const RUN_NANOSECONDS: f64 = 2e6;
 
-/// One turn of a side: it handles all packets of its row, and answers a sum of what it did.
+/// One turn of a side: it does all the work of its row, and answers a sum of what it did.
 type Turn = Box<dyn FnMut() -> usize>;
 
-/// Two sides that do the same work: whoever makes a row has compared what they write.
+/// Two sides that do the same work: whoever makes a row has compared what they do.
 pub struct Row {
     pub name: String,
-    /// How many packets a turn handles.
-    pub packets: usize,
+    /// How often a turn does what the name says.
+    pub times: usize,
     pub original: Turn,
     pub proved: Turn,
 }
@@ -22,27 +22,27 @@ pub struct Row {
 /// Measures the rows and prints them.
 pub fn table(rows: Vec<Row>) {
     println!(
-        "ns per packet, median of {RUNS} runs (quickest to slowest); ratio: how many times faster the proved code is"
+        "ns for each, median of {RUNS} runs (quickest to slowest); ratio: how many times faster the proved code is"
     );
-    println!("{:38}{:>26}{:>26}{:>8}", "", "original", "proved", "ratio");
+    println!("{:44}{:>26}{:>26}{:>8}", "", "original", "proved", "ratio");
     for mut row in rows {
-        let [original, proved] = row.times();
+        let [original, proved] = row.measured();
         let (name, ratio) = (row.name, original.median / proved.median);
         let (original, proved) = (original.told(), proved.told());
-        println!("{name:38}{original:>26}{proved:>26}{ratio:>8.2}");
+        println!("{name:44}{original:>26}{proved:>26}{ratio:>8.2}");
     }
 }
 
 impl Row {
-    /// The times of both sides, for one packet.
-    fn times(&mut self) -> [Times; 2] {
+    /// What both sides take for doing it once.
+    fn measured(&mut self) -> [Times; 2] {
         let mut sides = [&mut self.original, &mut self.proved];
         let turns = sides.each_mut().map(|side| turns(side));
         let mut runs = [Vec::new(), Vec::new()];
         for _ in 0..RUNS {
             for (nth, side) in sides.iter_mut().enumerate() {
                 let time = run(side, turns[nth]) / turns[nth] as f64;
-                runs[nth].push(time / self.packets as f64);
+                runs[nth].push(time / self.times as f64);
             }
         }
         runs.map(Times::of)
@@ -66,7 +66,10 @@ impl Times {
     }
 
     fn told(&self) -> String {
-        format!("{:.1} ({:.1}-{:.1})", self.median, self.least, self.most)
+        let decimals = usize::from(self.median < 1e4);
+        let [median, least, most] =
+            [self.median, self.least, self.most].map(|time| format!("{time:.decimals$}"));
+        format!("{median} ({least}-{most})")
     }
 }
 

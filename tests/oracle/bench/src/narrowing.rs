@@ -1,18 +1,22 @@
 //! Rows on narrowing: packets with a table of 8 entries, or with none. The original's side is its `packet` without
 //! what it learns, the proved one `rewrite`, and `copy` where nothing changed. Both write to an output that is
-//! there already.
+//! there already. The rows on `rewrite` alone leave away what stands around it on either side.
 
 use face::Options;
 use oracle::builders::{
     NO_CAPTIONS, asset, here, long_message, mpt, only, plt, service_at, signalling, tables, whole,
 };
-use original::Narrowing;
+use original::Parts;
 
 use crate::measure::Row;
 use crate::proved;
 
 const PACKETS: usize = 64;
 const ENTRIES: usize = 8;
+
+/// Where in the packets the identifier and the payload stand.
+const IDENTIFIER: usize = 9;
+const BODY: usize = 19;
 
 pub fn rows() -> Vec<Row> {
     let neither = Options {
@@ -30,6 +34,13 @@ pub fn rows() -> Vec<Row> {
         sent("PLT of 8 entries, one stays", only(0x0404), plts()),
         sent("no PA message, 1,400 bytes", neither, others()),
         counted("MPT of 8 entries, 2 go, with counts", neither, mpts(2)),
+        alone("rewrite alone, MPT of 8, 2 go", neither, mpts(2)),
+        alone("rewrite alone, MPT of 8, none goes", neither, mpts(0)),
+        alone(
+            "rewrite alone, no PA message, 1,400 bytes",
+            neither,
+            others(),
+        ),
     ]
 }
 
@@ -75,7 +86,7 @@ fn row(
 ) -> Row {
     let longest = packets.iter().map(Vec::len).max().unwrap_or(0);
     let (mut out, mut grown) = (vec![0; longest], Vec::with_capacity(longest));
-    let mut filter = Narrowing::new(options);
+    let mut filter = Parts::new(options);
     for packet in &packets {
         grown.clear();
         filter.packet(packet, &mut grown);
@@ -85,7 +96,7 @@ fn row(
     let given = packets.clone();
     Row {
         name: name.to_owned(),
-        packets: packets.len(),
+        times: packets.len(),
         original: Box::new(move || {
             let write = |packet: &Vec<u8>| {
                 grown.clear();
@@ -99,4 +110,36 @@ fn row(
             given.iter().map(write).sum()
         }),
     }
+}
+
+/// A row whose packets both sides rewrite alike. The original makes a payload, the proved code a packet.
+fn alone(name: &str, options: Options, packets: Vec<Vec<u8>>) -> Row {
+    let longest = packets.iter().map(Vec::len).max().unwrap_or(0);
+    let mut out = vec![0; longest];
+    let filter = Parts::new(options);
+    let original = move |packet: &Vec<u8>| filter.rewrite(identifier_of(packet), &packet[BODY..]);
+    for packet in &packets {
+        let written = proved::rewrite(packet, BODY, identifier_of(packet), options, &mut out);
+        let payload = (written > 0).then(|| out[BODY..written].to_vec());
+        assert_eq!(payload, original(packet), "{name}");
+    }
+    let given = packets.clone();
+    Row {
+        name: name.to_owned(),
+        times: packets.len(),
+        original: Box::new(move || {
+            let write = |packet| original(packet).map_or(0, |payload| payload.len());
+            packets.iter().map(write).sum()
+        }),
+        proved: Box::new(move || {
+            let write = |packet: &Vec<u8>| {
+                proved::rewrite(packet, BODY, identifier_of(packet), options, &mut out)
+            };
+            given.iter().map(write).sum()
+        }),
+    }
+}
+
+fn identifier_of(packet: &[u8]) -> u16 {
+    u16::from_be_bytes([packet[IDENTIFIER], packet[IDENTIFIER + 1]])
 }

@@ -1,5 +1,5 @@
 //! 000 itself, three times: `Original`, with 01's limits, counts and refusals, `Untouched`, as it is, and
-//! `Narrowing`, its narrowing alone. The build puts 000 in (see `build.rs`); the readers that it calls are the
+//! `Parts`, each of its parts alone. The build puts 000 in (see `build.rs`); the readers that it calls are the
 //! stand-ins beside this crate.
 
 use face::{Call, Engine, Kind, Limits, Narrowed};
@@ -7,6 +7,8 @@ use face::{Call, Engine, Kind, Limits, Narrowed};
 use face::{Options, Part};
 
 include!(concat!(env!("OUT_DIR"), "/modules.rs"));
+
+pub use parted::{Learned, Parts};
 
 /// Limits at which `Original` and `Untouched` answer alike, as long as no more than 64 identifiers bring
 /// MPTs: every packet fits, and T and M are 000's own.
@@ -86,19 +88,5 @@ impl Untouched {
         let mut out = Vec::new();
         self.0.push(chunk, &mut out);
         out
-    }
-}
-
-/// What 000 does with one packet, except for learning: for the bench. Nothing learned, nothing is dropped.
-pub struct Narrowing(narrowing::Filter);
-
-impl Narrowing {
-    pub fn new(options: Options) -> Self {
-        Self(narrowing::Filter::new(options))
-    }
-
-    /// Appends a signalling packet, narrowed or as it is.
-    pub fn packet(&mut self, packet: &[u8], out: &mut Vec<u8>) {
-        self.0.packet(packet, out);
     }
 }

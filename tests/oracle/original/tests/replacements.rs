@@ -3,7 +3,7 @@
 #[path = "../replacements.rs"]
 mod replacements;
 
-use replacements::{NARROWING, REPLACEMENTS, apply};
+use replacements::{PARTS, REPLACEMENTS, apply};
 
 #[test]
 fn each_is_made_in_the_text_that_those_before_it_left() {
@@ -31,7 +31,7 @@ fn one_that_is_found_twice_is_named() {
 
 #[test]
 fn each_has_its_own_name() {
-    for table in [REPLACEMENTS, NARROWING] {
+    for table in [REPLACEMENTS, PARTS] {
         let mut names: Vec<_> = table.iter().map(|(name, ..)| name).collect();
         names.sort();
         names.dedup();

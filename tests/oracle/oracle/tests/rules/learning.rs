@@ -1,8 +1,12 @@
 //! The readings that concern what is learned, and what is dropped or ready by it. Learning is seen by the
 //! number of dropped identifiers and by whether media is written.
 
-use crate::subject::{Run, each};
+use std::collections::BTreeSet;
+
+use crate::subject::{Run, Subject, each};
+use face::Options;
 use oracle::builders::*;
+use original::Parts;
 
 /// Makes the packages known; their MPTs are still missing.
 fn know(run: &mut Run, packages: &[Vec<u8>]) {
@@ -260,4 +264,40 @@ fn r25_a_type_0_location_has_the_upper_byte_first() {
         assert!(!run.passes(&media(0x5678)));
         assert!(run.passes(&media(0x7856)));
     });
+}
+
+/// The bench measures the original's parts, each by itself: together they are the original.
+#[test]
+fn the_originals_parts_learn_and_decide_alike() {
+    let map = pa(&[mpt(&[caption(1), carousel(2), video(3)])]);
+    let (first, rest) = map.split_at(9);
+    let (middle, last) = rest.split_at(9);
+    let packages = [service_at(0x0401, 0xf000), service_at(0x0402, 0xf001)];
+    let payloads = [
+        (0, whole(&pa(&[plt(&packages)]))),
+        (0xf000, whole(&map)),
+        (0xf000, whole(&map)),
+        (0xf002, whole(&data())),
+        (0xf001, fragment(1, first)),
+        (0xf001, fragment(2, middle)),
+        (0xf001, fragment(3, last)),
+    ];
+    let options = Options {
+        carousel: false,
+        service: Some(0x0401),
+        ..NO_CAPTIONS
+    };
+    let mut run = Subject::original().started(options);
+    let mut parts = Parts::new(options);
+    let mut changes = Vec::new();
+    for (identifier, payload) in payloads {
+        run.send(&signalling(identifier, &payload));
+        changes.push(parts.observe(identifier, &payload));
+        if changes.ends_with(&[true]) {
+            parts.decide();
+        }
+        assert_eq!(parts.dropped().len(), run.dropped() as usize);
+    }
+    assert_eq!(changes, [true, true, false, true, false, false, true]);
+    assert_eq!(parts.dropped(), &BTreeSet::from([1, 2, 0xf001, 0xf002]));
 }

@@ -55,7 +55,7 @@ fn the_originals_packet_without_learning_narrows_alike() {
                 ..input.options
             };
             let mut written = Vec::new();
-            original::Narrowing::new(options).packet(&input.bytes, &mut written);
+            original::Parts::new(options).packet(&input.bytes, &mut written);
             assert_eq!(written, out, "{name}");
             changed += 1;
         }

@@ -1,0 +1,126 @@
+-- A run taken in step by step: a row, a gap, a packet withheld, a signalling packet. What the loop of `packets` carries along, and what it
+-- has in the end. Rests on PassLaws and PlainLaws.
+use Prim.Native.Nat.{ℕ, _+_, _-_, _≤_}
+use mathlib.Core.Path.{_≡_, refl, sym, ap, _∙_, subst}
+use mathlib.Core.List.{List, [], _++_, append-assoc, append-nil}
+use native.Mathlib.Omega.{arith}
+use lib.ListN.{length, drop}
+use Rattle.meaning.specs.Bytes.{Bytes}
+use Rattle.meaning.specs.Sets.{Words}
+use Rattle.meaning.specs.Packets.{stepOf, Cut, cut, hold}
+use Rattle.meaning.specs.Learn.{Limits, Known}
+use Rattle.meaning.specs.declared.Options.{Options}
+use Rattle.meaning.specs.declared.Step.the-variants.{Keep}
+use Rattle.meaning.proofs.CutLaws.{cut-keep}
+use Rattle.passing.specs.declared.Terms.{Terms}
+use Rattle.passing.specs.declared.Progress.{Progress}
+use Rattle.passing.specs.Verdicts.{ahead}
+use Rattle.passing.specs.Passing.{Fits, Sofar, SofarSome, SofarAfter, ScannedAs}
+
+-- ---- all that a run changes
+
+pub record Machine : Type 0 where
+  pub progress : Progress
+  pub carousels : List ℕ
+  pub packages : List ℕ
+  pub maps : List ℕ
+  pub room : List ℕ
+  pub heads : List ℕ
+  pub bodies : Bytes
+  pub set : Words
+  pub out : Bytes
+
+abbrev pub Stands : Limits → Options → Known → Bytes → List Bytes → ℕ → Machine → Type 0
+Stands L o k d ps n x = Sofar L o k d ps n (x .progress) (x .carousels) (x .packages) (x .maps) (x .room) (x .heads) (x .bodies) (x .set) (x .out)
+
+abbrev pub StandsSome : Terms → Machine → Type 0
+StandsSome t x = SofarSome t (x .progress) (x .carousels) (x .packages) (x .maps) (x .room) (x .heads) (x .bodies) (x .set) (x .out)
+
+abbrev pub Moves : List Bytes → ℕ → Terms → Machine → Machine → Type 0
+Moves qs m t x y =
+    SofarAfter qs m t (x .progress) (x .carousels) (x .packages) (x .maps) (x .room) (x .heads) (x .bodies) (x .set) (x .out)
+    (y .progress) (y .carousels) (y .packages) (y .maps) (y .room) (y .heads) (y .bodies) (y .set) (y .out)
+
+-- Lent slices keep their length.
+pub record SameRooms (x y : Machine) : Type 0 where
+  pub room-same : length (y .room) ≡ length (x .room)
+  pub bodies-same : length (y .bodies) ≡ length (x .bodies)
+  pub out-same : length (y .out) ≡ length (x .out)
+
+-- ---- the loop
+
+pub record Going (run : Bytes) (from : ℕ) (t : Terms) (first now′ : Machine) (at : ℕ) : Type 0 where
+  pub packets : List Bytes
+  pub skipped : ℕ
+  pub inside : at ≤ length run
+  pub cut-is : cut (t .limit) (drop from run) ≡ ahead packets skipped (cut (t .limit) (drop at run))
+  pub moved : Moves packets skipped t first now′
+  pub fits : Fits (now′ .progress) (length run - at) (length (now′ .out))
+  pub begun : StandsSome t first
+  pub same : SameRooms first now′
+
+ahead-none : (c : Cut) → c ≡ ahead [] 0 c
+ahead-none c = let z : c .skipped ≡ 0 + c .skipped = omega arith in λ i. record { packets = c .packets; skipped = z i; held = c .held }
+
+ahead-ahead : (ps qs : List Bytes) (n m : ℕ) (c : Cut) → ahead ps n (ahead qs m c) ≡ ahead (ps ++ qs) (n + m) c
+ahead-ahead ps qs n m c =
+    let p : ps ++ (qs ++ c .packets) ≡ (ps ++ qs) ++ c .packets = sym (append-assoc ps qs (c .packets)) in
+    let z : n + (m + c .skipped) ≡ n + m + c .skipped = omega arith in
+    λ i. record { packets = p i; skipped = z i; held = c .held }
+
+module _ (run : Bytes) (from : ℕ) (t : Terms) (x : Machine) where
+  pub going-begin : from ≤ length run → Fits (x .progress) (length run - from) (length (x .out)) → StandsSome t x → Going run from t x x from
+  going-begin h f b = record {
+    packets = [];
+    skipped = 0;
+    inside = h;
+    cut-is = ahead-none (cut (t .limit) (drop from run));
+    moved = λ L k d ps n e s.
+        let z : n ≡ n + 0 = omega arith in
+        subst (λ (l : List Bytes). Stands L (t .options) k d l (n + 0) x) (sym (append-nil ps)) (subst (λ (m : ℕ). Stands L (t .options) k d ps m x) z s);
+    fits = f;
+    begun = b;
+    same = record { room-same = refl; bodies-same = refl; out-same = refl };
+  }
+
+  module _ (y z : Machine) (at to : ℕ) (qs : List Bytes) (m : ℕ) where
+    pub going-on : Going run from t x y at → to ≤ length run → cut (t .limit) (drop at run) ≡ ahead qs m (cut (t .limit) (drop to run)) → Moves qs m t y z
+        → Fits (z .progress) (length run - to) (length (z .out)) → SameRooms y z → Going run from t x z to
+    going-on g h c v f s = record {
+      packets = g .packets ++ qs;
+      skipped = g .skipped + m;
+      inside = h;
+      cut-is = g .cut-is ∙ ap (ahead (g .packets) (g .skipped)) c ∙ ahead-ahead (g .packets) qs (g .skipped) m (cut (t .limit) (drop to run));
+      moved = λ L k d ps n e u.
+          let a : n + g .skipped + m ≡ n + (g .skipped + m) = omega arith in
+          subst (λ (l : List Bytes). Stands L (t .options) k d l (n + (g .skipped + m)) z) (append-assoc ps (g .packets) qs)
+          (subst (λ (i : ℕ). Stands L (t .options) k d ((ps ++ g .packets) ++ qs) i z) a (v L k d (ps ++ g .packets) (n + g .skipped) e (g .moved L k d ps n e u)));
+      fits = f;
+      begun = g .begun;
+      same = record {
+        room-same = s .room-same ∙ g .same .room-same;
+        bodies-same = s .bodies-same ∙ g .same .bodies-same;
+        out-same = s .out-same ∙ g .same .out-same;
+      };
+    }
+
+  -- what the arrays hold in between
+  pub going-some : (y : Machine) (at : ℕ) → Going run from t x y at → StandsSome t y
+  going-some y at g =
+      let b = g .begun in
+      (b .0, b .1, b .2, b .3 ++ g .packets, b .4 + g .skipped, b .5, g .moved (b .0) (b .1) (b .2) (b .3) (b .4) (b .5) (b .6))
+
+  -- the end: the rest is kept
+  pub going-done : (y : Machine) (at : ℕ) → Going run from t x y at → stepOf (t .limit) (drop at run) ≡ Keep
+      → ScannedAs run from t (x .progress) (x .carousels) (x .packages) (x .maps) (x .room) (x .heads) (x .bodies) (x .set) (x .out)
+      (record { progress = y .progress; at = at }) (y .carousels) (y .packages) (y .maps) (y .room) (y .heads) (y .bodies) (y .set) (y .out)
+  going-done y at g e =
+      let c : cut (t .limit) (drop from run) ≡ ahead (g .packets) (g .skipped) (hold (drop at run)) = g .cut-is ∙ ap (ahead (g .packets) (g .skipped)) (cut-keep (t .limit) (drop at run) e) in
+      let p : g .packets ≡ cut (t .limit) (drop from run) .packets = sym (append-nil (g .packets)) ∙ sym (ap (λ (z : Cut). z .packets) c) in
+      let s : g .skipped ≡ cut (t .limit) (drop from run) .skipped = (let w : g .skipped ≡ g .skipped + 0 = omega arith in w) ∙ sym (ap (λ (z : Cut). z .skipped) c) in (
+        λ L k d ps n q u.
+            subst (λ (l : List Bytes). Stands L (t .options) k d (ps ++ l) (n + cut (t .limit) (drop from run) .skipped) y) p
+            (subst (λ (i : ℕ). Stands L (t .options) k d (ps ++ g .packets) (n + i) y) s (g .moved L k d ps n q u)),
+        sym (ap (λ (z : Cut). z .held) c),
+        g .inside,
+      )

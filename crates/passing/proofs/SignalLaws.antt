@@ -1,0 +1,247 @@
+-- Laws on a signalling packet: what becomes of it, what is known, dropped and ready after it, and that what comes next has room still.
+-- Rests on PassLaws, on meaning's Statements and on learning's NewsLaws.
+use Prim.Native.Nat.{ℕ, _+_, _-_, _*_, _≤_}
+use mathlib.Core.Path.{_≡_, refl, sym, ap, _∙_}
+use mathlib.Core.Bool.{Bool, true, false, cond}
+use mathlib.Core.List.{List, [], _∷_, _++_, flatten, append-nil}
+use mathlib.Core.Option.{Option, none, some, Option·map, Option·getD}
+use native.Mathlib.Omega.{arith}
+use lib.ListN.{length, drop, length-drop}
+use Rattle.meaning.specs.Bytes.{Bytes}
+use Rattle.meaning.specs.Sets.{Words, inSet}
+use Rattle.meaning.specs.Writing.{Wrote}
+use Rattle.meaning.specs.Mmtp.{Mmtp, mmtpOf}
+use Rattle.meaning.specs.Narrow.{isSome, narrowPayload, packetBytes, packetFor, narrowPacket}
+use Rattle.meaning.specs.Learn.{Limits, Known, Learnt, learnFrom, learn, observe}
+use Rattle.meaning.specs.Rules.{drops, ready}
+use Rattle.meaning.specs.Push.{Passed, none-passed, passOne, pass, withheld}
+use Rattle.meaning.specs.declared.Options.{Options}
+use Rattle.meaning.specs.declared.Counts.{Counts}
+use Rattle.meaning.proofs.Writes.{wrote-none}
+use Rattle.meaning.proofs.Statements.{packet-shorter}
+use Rattle.narrowing.specs.Answers.{packetWith}
+use Rattle.learning.specs.Kept.{Keeps}
+use Rattle.learning.specs.News.{news}
+use Rattle.learning.specs.Observed.{Holding, Observed}
+use Rattle.learning.specs.declared.Extent.{Extent}
+use Rattle.learning.proofs.StepLaws.{or-false}
+use Rattle.learning.proofs.NewsLaws.{still, drops-still, ready-still}
+use Rattle.rules.specs.Changes.{SetIs}
+use Rattle.passing.specs.declared.Progress.{Progress}
+use Rattle.passing.specs.Verdicts.{Signals}
+use Rattle.passing.specs.Passing.{Emitted, Refreshed, Fits, Sofar}
+use Rattle.passing.proofs.PassLaws.{countsAfter, further}
+
+-- ---- a packet that is written
+
+abbrev pub sentAs : Counts → ℕ → ℕ → Counts
+sentAs c bytes rewritten = record {
+  bytes = bytes;
+  accepted = c .accepted + 1;
+  written = c .written + 1;
+  rewritten = c .rewritten + rewritten;
+  skipped = c .skipped;
+  lost = c .lost;
+}
+
+module _ (y : Option Bytes) (p : Bytes) (c : Counts) (d d′ : Bytes) (r : Counts) (bytes : ℕ) where
+  -- as it is
+  pub sent-plain : y ≡ none → Wrote p d (c .bytes) d′ bytes → r ≡ sentAs c bytes 0 → Emitted false y p c d r d′
+  sent-plain e w q = rw (e, q) (refl, w)
+
+  -- narrowed
+  pub sent-narrowed : (z : Bytes) → y ≡ some z → Wrote z d (c .bytes) d′ bytes → r ≡ sentAs c bytes 1 → Emitted false y p c d r d′
+  sent-narrowed z e w q = rw (e, q) (refl, w)
+
+-- ---- narrowing a packet of signalling
+
+module _ (o : Options) {p : Bytes} {body id : ℕ} {w : Bool} (h : Signals p body id w) where
+  abbrev there : Mmtp
+  there = record { identifier = id; kind = 2; rewritable = w; payload = drop body p }
+
+  same-packet : (y : Bytes) → packetBytes p there y ≡ packetWith p body y
+  unfolding packetBytes packetWith
+  same-packet y = let z : length p - length (drop body p) ≡ body = omega (arith, length-drop body p, h .inside) in rw z
+
+  narrows-as : narrowPacket o p ≡ cond w (Option·map (packetWith p body) (narrowPayload o id (drop body p))) none
+  unfolding narrowPacket
+  narrows-as = ap (packetFor o p) (h .read) ∙ ap (λ (x : Option Bytes). cond w x none) (go (narrowPayload o id (drop body p)))
+    where
+      go : (x : Option Bytes) → Option·map (packetBytes p there) x ≡ Option·map (packetWith p body) x
+      go none = refl
+      go (some y) = ap some (same-packet y)
+
+  pub narrows-on : w ≡ true → narrowPacket o p ≡ Option·map (packetWith p body) (narrowPayload o id (drop body p))
+  narrows-on e = narrows-as ∙ rw e
+
+  pub narrows-off : w ≡ false → narrowPacket o p ≡ none
+  narrows-off e = narrows-as ∙ rw e
+
+-- ---- what is known after it
+
+-- the observer counts changes from none
+abbrev pub noChange : Extent → Extent
+noChange e = record { seen = e .seen; packages = e .packages; maps = e .maps; fragments = e .fragments; lost = e .lost; changed = false }
+
+pub holding-anew : {T : ℕ} {k : Known} {e : Extent} {carousels packages maps room heads : List ℕ} {bodies : Bytes}
+    → Holding T k e carousels packages maps room heads bodies → Holding T k (noChange e) carousels packages maps room heads bodies
+holding-anew h =
+    let t = h .tables-kept in
+    record {
+      tables-kept = record { seen = t .seen; packages-kept = t .packages-kept; maps-kept = t .maps-kept; carousels-are = t .carousels-are; carousels-all = t .carousels-all; room-is = t .room-is; room-all = t .room-all };
+      fragments-kept = h .fragments-kept;
+    }
+
+-- ---- what is dropped, and readiness, after it
+
+pub refreshed-anew : (b : Bool) (o : Options) (e : Extent) (was : Bool) (carousels packages maps room : List ℕ) (set : Words) (r : Bool) (set′ : Words) → b ≡ true
+    → ((k : Known) → Keeps k e carousels packages maps room → SetIs (drops o k) set′ × (r ≡ ready (o .service) k))
+    → Refreshed b o e was carousels packages maps room set r set′
+refreshed-anew b o e was carousels packages maps room set r set′ q h = rw q h
+
+module _ (L : Limits) (o : Options) (id : ℕ) (s : Bytes) (k : Known) where
+  abbrev after : Known
+  after = observe L id s k .known
+
+  refreshed-is : (b : Bool) {e : Extent} {was : Bool} {carousels packages maps room : List ℕ} {set : Words} {r : Bool} {set′ : Words}
+      → b ≡ news L id s k → Refreshed b o e was carousels packages maps room set r set′ → Keeps after e carousels packages maps room
+      → SetIs (drops o k) set → was ≡ ready (o .service) k
+      → SetIs (drops o after) set′ × (r ≡ ready (o .service) after)
+  refreshed-is true b h keeps t y = h after keeps
+  refreshed-is false b h keeps t y =
+      let x = still L id s k (sym b) in (
+        rw (h .1) (record { all-words = t .all-words; member = λ q small. t .member q small ∙ sym (drops-still x o q) }),
+        h .0 ∙ y ∙ sym (ready-still x (o .service)),
+      )
+
+-- ---- what passes
+
+module _ (L : Limits) (o : Options) (k : Known) {p : Bytes} {body id : ℕ} {w : Bool} (h : Signals p body id w) where
+  abbrev told : Learnt
+  told = observe L id (drop body p) k
+
+  abbrev passedOne : Passed
+  passedOne = passOne (drops o (told .known) id) (narrowPacket o p) p (told .lost) (none-passed (told .known))
+
+  learns-as : learn L k p ≡ told
+  unfolding learn
+  learns-as = ap (λ (m : Option Mmtp). learnFrom L m k) (h .read)
+
+  withheld-as : (j : Known) → withheld o j (mmtpOf p) ≡ drops o j id
+  withheld-as j = ap (withheld o j) (h .read) ∙ sym (or-false (drops o j id))
+
+  passes-as : pass L o k (p ∷ []) ≡ passedOne
+  unfolding pass
+  passes-as =
+      ap (λ (l : Learnt). passOne (withheld o (l .known) (mmtpOf p)) (narrowPacket o p) p (l .lost) (none-passed (l .known))) learns-as
+      ∙ ap (λ (b : Bool). passOne b (narrowPacket o p) p (told .lost) (none-passed (told .known))) (withheld-as (told .known))
+
+-- what was emitted is what passes
+module _ (y : Option Bytes) (p : Bytes) (lost : ℕ) (k : Known) (c : Counts) (d : Bytes) (r : Counts) (d′ : Bytes) where
+  emitted-counts : (b : Bool) → Emitted b y p c d r d′ → r ≡ countsAfter c (r .bytes) (passOne b y p lost (none-passed k)) 1 0
+  emitted-counts true h =
+      let b : c .bytes ≡ r .bytes = sym (ap (λ (z : Counts). z .bytes) (h .0)) in
+      let v : c .written ≡ c .written + 0 = omega arith in
+      let q : c .rewritten ≡ c .rewritten + 0 = omega arith in
+      let s : c .skipped ≡ c .skipped + 0 = omega arith in
+      h .0 ∙ (λ i. record { bytes = b i; accepted = c .accepted + 1; written = v i; rewritten = q i; skipped = s i; lost = c .lost })
+  emitted-counts false h =
+      let x = passOne false y p lost (none-passed k) in
+      let q : c .rewritten + cond (isSome y) 1 0 ≡ c .rewritten + x .rewritten = omega arith in
+      let s : c .skipped ≡ c .skipped + 0 = omega arith in
+      h .0 ∙ (λ i. record { bytes = r .bytes; accepted = c .accepted + 1; written = c .written + 1; rewritten = q i; skipped = s i; lost = c .lost })
+
+  emitted-bytes : (b : Bool) → Emitted b y p c d r d′ → Wrote (flatten (passOne b y p lost (none-passed k) .out)) d (c .bytes) d′ (r .bytes)
+  unfolding flatten
+  emitted-bytes true h = rw (h .0, h .1) (wrote-none d (c .bytes))
+  emitted-bytes false h = rw (append-nil (Option·getD y p)) (h .1)
+
+known-after : (b : Bool) (y : Option Bytes) (p : Bytes) (lost : ℕ) (k : Known) → passOne b y p lost (none-passed k) .known ≡ k
+known-after true y p lost k = refl
+known-after false y p lost k = refl
+
+lost-after : (b : Bool) (y : Option Bytes) (p : Bytes) (lost : ℕ) (k : Known) → passOne b y p lost (none-passed k) .lost ≡ lost
+lost-after true y p lost k = omega arith
+lost-after false y p lost k = omega arith
+
+module _ (L : Limits) (o : Options) (k : Known) (d : Bytes) (ps : List Bytes) (n : ℕ) (s r : Progress)
+    {p : Bytes} {body id : ℕ} {w : Bool} (h : Signals p body id w) where
+  abbrev here : Known
+  here = pass L o k ps .known
+
+  abbrev step : Learnt
+  step = observe L id (drop body p) here
+
+  -- A run has come one packet further.
+  pub signalled : {carousels packages maps room heads : List ℕ} {bodies : Bytes} {set : Words} {out : Bytes}
+      {carousels′ packages′ maps′ room′ heads′ : List ℕ} {bodies′ : Bytes} {set′ : Words} {out′ : Bytes}
+      → Sofar L o k d ps n s carousels packages maps room heads bodies set out
+      → Observed (L .total) step (news L id (drop body p) here) (noChange (s .extent)) (r .extent) carousels′ packages′ maps′ room′ heads′ bodies′
+      → Refreshed (r .extent .changed) o (r .extent) (s .ready) carousels′ packages′ maps′ room′ set (r .ready) set′
+      → Emitted (inSet set′ id) (narrowPacket o p) p (s .counts) out (r .counts) out′
+      → Sofar L o k d (ps ++ p ∷ []) (n + 0) r carousels′ packages′ maps′ room′ heads′ bodies′ set′ out′
+  signalled {carousels} {packages} {maps} {room} {heads} {bodies} {set} {out} {carousels′} {packages′} {maps′} {room′} {heads′} {bodies′} {set′} {out′} f seen fresh sent =
+      let g = refreshed-is L o id (drop body p) here (r .extent .changed) (seen .changed-is) fresh (seen .holding .tables-kept) (f .set-is) (f .ready-is) in
+      let b : inSet set′ id ≡ drops o (step .known) id = g .0 .member id (h .identifier-fits) in
+      let x = rw b at sent in
+      let y = narrowPacket o p in
+      let passes = passes-as L o here h in
+      let knows : pass L o here (p ∷ []) .known ≡ step .known = ap (λ (z : Passed). z .known) passes ∙ known-after (drops o (step .known) id) y p (step .lost) (step .known) in
+      let loses : pass L o here (p ∷ []) .lost ≡ step .lost = ap (λ (z : Passed). z .lost) passes ∙ lost-after (drops o (step .known) id) y p (step .lost) (step .known) in
+      further L o k d ps (p ∷ []) n 0 s r carousels packages maps room heads bodies set out carousels′ packages′ maps′ room′ heads′ bodies′ set′ out′ f
+      (rw knows (seen .holding))
+      (rw knows (g .0))
+      (rw knows (g .1))
+      (rw loses (seen .lost-is))
+      (rw passes (emitted-counts y p (step .lost) (step .known) (s .counts) out (r .counts) out′ (drops o (step .known) id) x))
+      (rw passes (emitted-bytes y p (step .lost) (step .known) (s .counts) out (r .counts) out′ (drops o (step .known) id) x))
+
+-- ---- room for what comes next
+
+-- the observer may lose as many maps as the payload and the fragment room have bytes
+pub observer-fits : {p : Bytes} {body id : ℕ} {w : Bool} (lost room : ℕ) → Signals p body id w → lost + length p * 16777217 ≤ 18446744073709551615 → room ≤ 16777216
+    → lost + length (drop body p) + room ≤ 18446744073709551615
+observer-fits {p} {body} lost room h f few = omega (arith, f, few, length-drop body p, h .behind-head, h .inside)
+
+pub emitter-fits : {p : Bytes} {body id : ℕ} {w : Bool} (s : Progress) (room : ℕ) → Signals p body id w → Fits s (length p) room
+    → (s .counts .bytes + length p ≤ room) × (s .counts .accepted + 1 ≤ 18446744073709551615) × (s .counts .written + 1 ≤ 18446744073709551615) × (s .counts .rewritten + 1 ≤ 18446744073709551615)
+emitter-fits {p} s room h f =
+    let some-bytes : 1 ≤ length p = omega (arith, h .behind-head, h .inside) in
+    (f .bytes-fit, omega (arith, f .accepted-fit), omega (arith, f .written-fit), omega (arith, f .rewritten-fit))
+
+-- the output grows by no more than the packet
+emitted-within : (b : Bool) (y : Option Bytes) (p : Bytes) (c : Counts) (d : Bytes) (r : Counts) (d′ : Bytes) → length (Option·getD y p) ≤ length p
+    → Emitted b y p c d r d′ → (r .bytes ≤ c .bytes + length p) × (r .accepted ≤ c .accepted + 1) × (r .written ≤ c .written + 1) × (r .rewritten ≤ c .rewritten + 1) × (r .skipped ≡ c .skipped)
+emitted-within true y p c d r d′ z h = rw (h .0) (omega arith, omega arith, omega arith, omega arith, refl)
+emitted-within false y p c d r d′ z h =
+    let one : cond (isSome y) 1 0 ≤ 1 = go y in (
+      omega (arith, h .1 .end),
+      omega (arith, ap (λ (x : Counts). x .accepted) (h .0)),
+      omega (arith, ap (λ (x : Counts). x .written) (h .0)),
+      omega (arith, ap (λ (x : Counts). x .rewritten) (h .0)),
+      ap (λ (x : Counts). x .skipped) (h .0),
+    )
+  where
+    go : (y : Option Bytes) → cond (isSome y) 1 0 ≤ 1
+    go none = omega arith
+    go (some z) = omega arith
+
+never-longer : (o : Options) (p : Bytes) (y : Option Bytes) → narrowPacket o p ≡ y → length (Option·getD y p) ≤ length p
+never-longer o p none e = omega arith
+never-longer o p (some y) e = packet-shorter o p y e
+
+pub fits-after : (o : Options) {p : Bytes} {body id : ℕ} {w : Bool} → Signals p body id w → (s r : Progress) (set : Words) (d d′ : Bytes) (room : ℕ)
+    → Emitted (inSet set id) (narrowPacket o p) p (s .counts) d (r .counts) d′ → r .extent .lost ≤ s .extent .lost + length (drop body p) + room → room ≤ 16777216
+    → length d′ ≡ length d → (m : ℕ) → Fits s (length p + m) (length d) → Fits r m (length d′)
+fits-after o {p} {body} {id} h s r set d d′ room x l few same m f =
+    let z = emitted-within (inSet set id) (narrowPacket o p) p (s .counts) d (r .counts) d′ (never-longer o p (narrowPacket o p) refl) x in
+    let long : 16 ≤ length p = omega (arith, h .behind-head, h .inside) in
+    let part = length-drop body p in
+    record {
+      bytes-fit = omega (arith, z .0, f .bytes-fit);
+      accepted-fit = omega (arith, z .1, f .accepted-fit);
+      written-fit = omega (arith, z .2, f .written-fit);
+      rewritten-fit = omega (arith, z .3, f .rewritten-fit);
+      skipped-fit = omega (arith, z .4, f .skipped-fit);
+      lost-fit = omega (arith, f .lost-fit, part, l, few, long);
+    }

@@ -1,0 +1,201 @@
+-- Each step of a run: a row written at once, a gap, a packet withheld, a signalling packet. Rests on RunLaws.
+use Prim.Native.Nat.{ℕ, _+_, _-_, _≤_, _<_}
+use mathlib.Core.Path.{_≡_, refl, sym, ap, _∙_, subst}
+use mathlib.Core.Bool.{Bool, true, false}
+use mathlib.Core.List.{List, [], _∷_, flatten}
+use native.Mathlib.Omega.{arith}
+use lib.ListN.{length, drop, length-drop}
+use lib.Seq.{drop-drop, length-take-le}
+use lib.Dec.{leb}
+use borrow.Author.Tests.{leb-true, leb-false}
+use Rattle.meaning.specs.Bytes.{Bytes}
+use Rattle.meaning.specs.Writing.{Wrote}
+use Rattle.meaning.specs.Packets.{stepOf, Cut, cut, accept}
+use Rattle.meaning.specs.Push.{pass}
+use Rattle.meaning.specs.declared.Step.the-variants.{Skip}
+use Rattle.meaning.proofs.Writes.{wrote-none}
+use Rattle.meaning.proofs.CutLaws.{cut-packet}
+use Rattle.tlv.specs.Gaps.{GapTo}
+use Rattle.passing.specs.declared.Terms.{Terms}
+use Rattle.passing.specs.declared.Progress.{Progress}
+use Rattle.passing.specs.declared.Row.{Row}
+use Rattle.passing.specs.Verdicts.{Plain, AllPass, ahead, PacketTo, packetAt, RowIs}
+use Rattle.passing.specs.Passing.{Fits, withSkipped, withWithheld, withRow}
+use Rattle.passing.proofs.PassLaws.{further}
+use Rattle.passing.proofs.PlainLaws.{pass-withheld, pass-row}
+use Rattle.passing.proofs.RunLaws.{Machine, Moves, SameRooms, Going, going-on}
+
+-- Another progress, another output.
+abbrev pub withOut : Machine → Progress → Bytes → Machine
+withOut y r out = record {
+  progress = r;
+  carousels = y .carousels;
+  packages = y .packages;
+  maps = y .maps;
+  room = y .room;
+  heads = y .heads;
+  bodies = y .bodies;
+  set = y .set;
+  out = out;
+}
+
+-- ---- what each step moves
+
+module _ (t : Terms) (y : Machine) where
+  abbrev s : Progress
+  s = y .progress
+
+  row-moves : (qs : List Bytes) (bytes out′ : Bytes) (b : ℕ) → AllPass (y .set) (s .ready) qs → flatten qs ≡ bytes → Wrote bytes (y .out) (s .counts .bytes) out′ b
+      → Moves qs 0 t y (withOut y (withRow s (length qs) b) out′)
+  row-moves qs bytes out′ b a e w L k d ps n m f =
+      let o = t .options in
+      let q : pass L o (pass L o k ps .known) qs ≡ record { out = qs; rewritten = 0; lost = 0; known = pass L o k ps .known } =
+      pass-row L o (pass L o k ps .known) (y .set) (s .ready) (f .set-is) (f .ready-is) qs a in
+      let l : s .extent .lost ≡ s .extent .lost + 0 = omega arith in
+      let u : s .counts .rewritten ≡ s .counts .rewritten + 0 = omega arith in
+      let v : s .counts .skipped ≡ s .counts .skipped + 0 = omega arith in
+      further L o k d ps qs n 0 s (withRow s (length qs) b) (y .carousels) (y .packages) (y .maps) (y .room) (y .heads) (y .bodies) (y .set) (y .out)
+      (y .carousels) (y .packages) (y .maps) (y .room) (y .heads) (y .bodies) (y .set) out′ f (rw q (f .holding)) (rw q (f .set-is)) (rw q (f .ready-is)) (rw q l)
+      (rw q (λ i. record { bytes = b; accepted = s .counts .accepted + length qs; written = s .counts .written + length qs; rewritten = u i; skipped = v i; lost = s .counts .lost }))
+      (rw (q, e) w)
+
+  gap-moves : (m : ℕ) → Moves [] m t y (withOut y (withSkipped s m) (y .out))
+  unfolding pass flatten
+  gap-moves m L k d ps n q f =
+      let l : s .extent .lost ≡ s .extent .lost + 0 = omega arith in
+      let a : s .counts .accepted ≡ s .counts .accepted + 0 = omega arith in
+      let w : s .counts .written ≡ s .counts .written + 0 = omega arith in
+      let u : s .counts .rewritten ≡ s .counts .rewritten + 0 = omega arith in
+      further L (t .options) k d ps [] n m s (withSkipped s m) (y .carousels) (y .packages) (y .maps) (y .room) (y .heads) (y .bodies) (y .set) (y .out)
+      (y .carousels) (y .packages) (y .maps) (y .room) (y .heads) (y .bodies) (y .set) (y .out) f (f .holding) (f .set-is) (f .ready-is) l
+      (λ i. record { bytes = s .counts .bytes; accepted = a i; written = w i; rewritten = u i; skipped = s .counts .skipped + m; lost = s .counts .lost })
+      (wrote-none (y .out) (s .counts .bytes))
+
+  withheld-moves : (p : Bytes) → Plain p (y .set) (s .ready) true → Moves (p ∷ []) 0 t y (withOut y (withWithheld s) (y .out))
+  unfolding flatten
+  withheld-moves p h L k d ps n m f =
+      let o = t .options in
+      let q : pass L o (pass L o k ps .known) (p ∷ []) ≡ record { out = []; rewritten = 0; lost = 0; known = pass L o k ps .known } =
+      pass-withheld L o (pass L o k ps .known) p (y .set) (s .ready) (f .set-is) (f .ready-is) h in
+      let l : s .extent .lost ≡ s .extent .lost + 0 = omega arith in
+      let w : s .counts .written ≡ s .counts .written + 0 = omega arith in
+      let u : s .counts .rewritten ≡ s .counts .rewritten + 0 = omega arith in
+      let v : s .counts .skipped ≡ s .counts .skipped + 0 = omega arith in
+      further L o k d ps (p ∷ []) n 0 s (withWithheld s) (y .carousels) (y .packages) (y .maps) (y .room) (y .heads) (y .bodies) (y .set) (y .out)
+      (y .carousels) (y .packages) (y .maps) (y .room) (y .heads) (y .bodies) (y .set) (y .out) f (rw q (f .holding)) (rw q (f .set-is)) (rw q (f .ready-is)) (rw q l)
+      (rw q (λ i. record { bytes = s .counts .bytes; accepted = s .counts .accepted + 1; written = w i; rewritten = u i; skipped = v i; lost = s .counts .lost }))
+      (rw q (wrote-none (y .out) (s .counts .bytes)))
+
+-- ---- the loop goes on
+
+pub packet-length : (run : Bytes) (at end : ℕ) → at ≤ end → end ≤ length run → length (packetAt run at end) ≡ end - at
+packet-length run at end a b = length-take-le (end - at) (drop at run) (omega (arith, length-drop at run))
+
+packet-cut : (limit : ℕ) (run : Bytes) (at end : ℕ) → PacketTo limit run at end → cut limit (drop at run) ≡ ahead (packetAt run at end ∷ []) 0 (cut limit (drop end run))
+packet-cut limit run at end p =
+    let n : at + (end - at) ≡ end = omega (arith, p .forth) in
+    let c : Cut = cut limit (drop end run) in
+    let z : c .skipped ≡ 0 + c .skipped = omega arith in
+    cut-packet limit (drop at run) (end - at) (p .step)
+    ∙ ap (λ (l : Bytes). accept (packetAt run at end) (cut limit l)) (drop-drop (end - at) at run ∙ ap (λ (m : ℕ). drop m run) n)
+    ∙ (λ i. record { packets = packetAt run at end ∷ c .packets; skipped = z i; held = c .held })
+
+-- a gap begins where bytes are skipped, so it is not empty
+pub gap-forth : (P : ℕ) (run : Bytes) (at to : ℕ) → GapTo P run at to → stepOf P (drop at run) ≡ Skip → at < to
+gap-forth P run at to g e = go (leb to at) refl
+  where
+    go : (b : Bool) → leb to at ≡ b → at < to
+    go true q = absurd (g .ends (ap (λ (n : ℕ). stepOf P (drop n run)) (let z : to ≡ at = omega (arith, leb-true to at q, g .forth) in z) ∙ e))
+    go false q = leb-false to at q
+
+module _ (run : Bytes) (from : ℕ) (t : Terms) (x y : Machine) (at : ℕ) (g : Going run from t x y at) where
+  still : {r : Progress} → SameRooms y (withOut y r (y .out))
+  still = record { room-same = refl; bodies-same = refl; out-same = refl }
+
+  row-done : (row : Row) (b : ℕ) (out′ : Bytes) → RowIs (t .limit) (y .set) (y .progress .ready) run at row
+      → Wrote (packetAt run at (row .end)) (y .out) (y .progress .counts .bytes) out′ b → length out′ ≡ length (y .out)
+      → Going run from t x (withOut y (withRow (y .progress) (row .count) b) out′) (row .end)
+  row-done row b out′ h w l =
+      let f = g .fits in
+      let len = packet-length run at (row .end) (h .forth) (h .inside) in
+      going-on run from t x y (withOut y (withRow (y .progress) (row .count) b) out′) at (row .end) (h .packets) 0 g (h .inside) (h .cut-is)
+      (subst (λ (n : ℕ). Moves (h .packets) 0 t y (withOut y (withRow (y .progress) n b) out′)) (sym (h .many))
+      (row-moves t y (h .packets) (packetAt run at (row .end)) out′ b (h .all-pass) (h .bytes-are) w))
+      (record {
+        bytes-fit = omega (arith, f .bytes-fit, w .end, len, h .forth, h .inside, l);
+        accepted-fit = omega (arith, f .accepted-fit, h .few, h .inside);
+        written-fit = omega (arith, f .written-fit, h .few, h .inside);
+        rewritten-fit = omega (arith, f .rewritten-fit, h .forth);
+        skipped-fit = omega (arith, f .skipped-fit, h .forth);
+        lost-fit = omega (arith, f .lost-fit, h .forth);
+      })
+      (record { room-same = refl; bodies-same = refl; out-same = l })
+
+  pub going-row : (row : Row) (b to : ℕ) (out′ : Bytes) (r : Progress) → RowIs (t .limit) (y .set) (y .progress .ready) run at row → to ≡ y .progress .counts .bytes
+      → Wrote (packetAt run at (row .end)) (y .out) to out′ b → length out′ ≡ length (y .out) → r ≡ withRow (y .progress) (row .count) b
+      → Going run from t x (withOut y r out′) (row .end)
+  going-row row b to out′ r h e w l q =
+      subst (λ (z : Progress). Going run from t x (withOut y z out′) (row .end)) (sym q)
+      (row-done row b out′ h (subst (λ (i : ℕ). Wrote (packetAt run at (row .end)) (y .out) i out′ b) e w) l)
+
+  gap-done : (to : ℕ) → GapTo (t .limit) run at to → Going run from t x (withOut y (withSkipped (y .progress) (to - at)) (y .out)) to
+  gap-done to h =
+      let f = g .fits in
+      going-on run from t x y (withOut y (withSkipped (y .progress) (to - at)) (y .out)) at to [] (to - at) g (h .inside) (h .skips) (gap-moves t y (to - at))
+      (record {
+        bytes-fit = omega (arith, f .bytes-fit, h .forth);
+        accepted-fit = omega (arith, f .accepted-fit, h .forth);
+        written-fit = omega (arith, f .written-fit, h .forth);
+        rewritten-fit = omega (arith, f .rewritten-fit, h .forth);
+        skipped-fit = omega (arith, f .skipped-fit, h .forth, h .inside);
+        lost-fit = omega (arith, f .lost-fit, h .forth);
+      })
+      still
+
+  pub going-gap : (to : ℕ) (r : Progress) → GapTo (t .limit) run at to → r ≡ withSkipped (y .progress) (to - at) → Going run from t x (withOut y r (y .out)) to
+  going-gap to r h q = subst (λ (z : Progress). Going run from t x (withOut y z (y .out)) to) (sym q) (gap-done to h)
+
+  withheld-done : (end : ℕ) → PacketTo (t .limit) run at end → Plain (packetAt run at end) (y .set) (y .progress .ready) true
+      → Going run from t x (withOut y (withWithheld (y .progress)) (y .out)) end
+  withheld-done end p h =
+      let f = g .fits in
+      going-on run from t x y (withOut y (withWithheld (y .progress)) (y .out)) at end (packetAt run at end ∷ []) 0 g (p .inside) (packet-cut (t .limit) run at end p)
+      (withheld-moves t y (packetAt run at end) h)
+      (record {
+        bytes-fit = omega (arith, f .bytes-fit, p .forth);
+        accepted-fit = omega (arith, f .accepted-fit, p .forth, p .inside);
+        written-fit = omega (arith, f .written-fit, p .forth);
+        rewritten-fit = omega (arith, f .rewritten-fit, p .forth);
+        skipped-fit = omega (arith, f .skipped-fit, p .forth);
+        lost-fit = omega (arith, f .lost-fit, p .forth);
+      })
+      still
+
+  pub going-withheld : (end : ℕ) (is : Bool) (r : Progress) → y .progress .ready ≡ is → PacketTo (t .limit) run at end × Plain (packetAt run at end) (y .set) is true
+      → r ≡ withWithheld (y .progress) → Going run from t x (withOut y r (y .out)) end
+  going-withheld end is r e h q =
+      subst (λ (z : Progress). Going run from t x (withOut y z (y .out)) end) (sym q)
+      (withheld-done end (h .0) (subst (λ (b : Bool). Plain (packetAt run at end) (y .set) b true) (sym e) (h .1)))
+
+  signal-fits : (end : ℕ) → PacketTo (t .limit) run at end → Fits (y .progress) (length (packetAt run at end) + (length run - end)) (length (y .out))
+  signal-fits end p =
+      let len = packet-length run at end (omega (arith, p .forth)) (p .inside) in
+      subst (λ (n : ℕ). Fits (y .progress) n (length (y .out))) (let z : length run - at ≡ length (packetAt run at end) + (length run - end) = omega (arith, p .forth, p .inside) in z) (g .fits)
+
+  pub signal-room : (end : ℕ) → PacketTo (t .limit) run at end → Fits (y .progress) (length (packetAt run at end)) (length (y .out))
+  signal-room end p =
+      let f = signal-fits end p in
+      record {
+        bytes-fit = omega (arith, f .bytes-fit);
+        accepted-fit = omega (arith, f .accepted-fit);
+        written-fit = omega (arith, f .written-fit);
+        rewritten-fit = omega (arith, f .rewritten-fit);
+        skipped-fit = omega (arith, f .skipped-fit);
+        lost-fit = omega (arith, f .lost-fit);
+      }
+
+  pub going-signal : (z : Machine) (end : ℕ) → PacketTo (t .limit) run at end → Moves (packetAt run at end ∷ []) 0 t y z
+      → ((m : ℕ) → Fits (y .progress) (length (packetAt run at end) + m) (length (y .out)) → Fits (z .progress) m (length (z .out))) → SameRooms y z
+      → Going run from t x z end
+  going-signal z end p v f s =
+      going-on run from t x y z at end (packetAt run at end ∷ []) 0 g (p .inside) (packet-cut (t .limit) run at end p) v (f (length run - end) (signal-fits end p)) s

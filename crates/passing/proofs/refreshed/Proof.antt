@@ -1,0 +1,24 @@
+use mathlib.Core.Path.{refl}
+use borrow.Author.Tests.{not-true, not-false}
+use Rattle.passing.proofs.SignalLaws.{refreshed-anew}
+use borrow.Author.Needs.{needs}
+use Rattle.passing.proofs.refreshed.Statement.{statement}
+use Rattle.passing.proofs.refreshed.Tie as tie
+
+returns : tie.Need-returns
+returns c = rw (not-true (c .before .before .before .args .e .changed) (c .if1 .taken)) (refl, refl)
+
+decide-requires : tie.Need-decide-requires
+decide-requires c κs = search needs
+
+ready-requires : tie.Need-ready-requires
+ready-requires c κs = search needs
+
+returns-2 : tie.Need-returns-2
+returns-2 c =
+    let a = c .before .before .before .before .before .before .args in
+    refreshed-anew (a .e .changed) (a .o) (a .e) (a .was) (a .carousels .now) (a .packages .now) (a .maps .now) (a .room .now) _ _ _ (not-false (a .e .changed) (c .before .before .before .if1 .left))
+    (λ k h. (c .before .decide .ensures k h, c .ready .ensures k (a .carousels .now) (a .room .now) h))
+
+pub refreshed-spec : {M : Type 1} → statement M
+refreshed-spec = tie.close (tie.spec returns decide-requires ready-requires returns-2)

@@ -1,0 +1,113 @@
+-- How far a run has come: arrays, rooms, set, counts and output are those of the definition's `pass` over the packets so far.
+use Prim.Native.Nat.{ℕ, _+_, _*_, _≤_}
+use mathlib.Core.Path.{_≡_}
+use mathlib.Core.Bool.{Bool, true, false, cond}
+use mathlib.Core.List.{List, _++_, flatten}
+use mathlib.Core.Option.{Option, Option·getD}
+use lib.ListN.{length, drop}
+use Rattle.meaning.specs.Bytes.{Bytes}
+use Rattle.meaning.specs.Sets.{Words}
+use Rattle.meaning.specs.Writing.{Wrote}
+use Rattle.meaning.specs.Packets.{cut}
+use Rattle.meaning.specs.Narrow.{isSome}
+use Rattle.meaning.specs.Learn.{Limits, Known}
+use Rattle.meaning.specs.Rules.{drops, ready}
+use Rattle.meaning.specs.Push.{Passed, pass}
+use Rattle.meaning.specs.declared.Options.{Options}
+use Rattle.meaning.specs.declared.Counts.{Counts}
+use Rattle.learning.specs.Kept.{Keeps}
+use Rattle.learning.specs.Observed.{Holding}
+use Rattle.learning.specs.declared.Extent.{Extent}
+use Rattle.rules.specs.Changes.{SetIs}
+use Rattle.passing.specs.declared.Terms.{Terms}
+use Rattle.passing.specs.declared.Progress.{Progress}
+use Rattle.passing.specs.declared.Scanned.{Scanned}
+
+-- ---- one signalling packet
+
+-- Withheld, it is taken in; else it is written, narrowed where narrowing changes it.
+abbrev pub Emitted : Bool → Option Bytes → Bytes → Counts → Bytes → Counts → Bytes → Type 0
+Emitted true y p c d r d′ =
+    (r ≡ record { bytes = c .bytes; accepted = c .accepted + 1; written = c .written; rewritten = c .rewritten; skipped = c .skipped; lost = c .lost }) × (d′ ≡ d)
+Emitted false y p c d r d′ =
+    (r ≡ record { bytes = r .bytes; accepted = c .accepted + 1; written = c .written + 1; rewritten = c .rewritten + cond (isSome y) 1 0; skipped = c .skipped; lost = c .lost })
+    × Wrote (Option·getD y p) d (c .bytes) d′ (r .bytes)
+
+-- The set and readiness are worked out anew, or stay.
+abbrev pub Refreshed : Bool → Options → Extent → Bool → List ℕ → List ℕ → List ℕ → List ℕ → Words → Bool → Words → Type 0
+Refreshed true o e was carousels packages maps room set r set′ =
+    (k : Known) → Keeps k e carousels packages maps room → SetIs (drops o k) set′ × (r ≡ ready (o .service) k)
+Refreshed false o e was carousels packages maps room set r set′ = (r ≡ was) × (set′ ≡ set)
+
+-- ---- how far a run has come
+
+-- There is room for what n more bytes may bring: each packet has a byte at least, and loses no more maps than it and the fragment room
+-- have bytes.
+pub record Fits (s : Progress) (n room : ℕ) : Type 0 where
+  pub bytes-fit : s .counts .bytes + n ≤ room
+  pub accepted-fit : s .counts .accepted + n ≤ 18446744073709551615
+  pub written-fit : s .counts .written + n ≤ 18446744073709551615
+  pub rewritten-fit : s .counts .rewritten + n ≤ 18446744073709551615
+  pub skipped-fit : s .counts .skipped + n ≤ 18446744073709551615
+  pub lost-fit : s .extent .lost + n * 16777217 ≤ 18446744073709551615
+
+-- The counts of packets that were passed; lost maps stand in the extent until the end of the call.
+abbrev pub countsFor : Passed → ℕ → ℕ → Counts
+countsFor x accepted skipped =
+    record { bytes = length (flatten (x .out)); accepted = accepted; written = length (x .out); rewritten = x .rewritten; skipped = skipped; lost = 0 }
+
+-- From k, over the packets ps and so many skipped bytes, with d as the output before.
+pub record Sofar (L : Limits) (o : Options) (k : Known) (d : Bytes) (ps : List Bytes) (skipped : ℕ) (s : Progress) (carousels packages maps room heads : List ℕ) (bodies : Bytes) (set : Words) (out : Bytes) : Type 0 where
+  pub holding : Holding (L .total) (pass L o k ps .known) (s .extent) carousels packages maps room heads bodies
+  pub set-is : SetIs (drops o (pass L o k ps .known)) set
+  pub ready-is : s .ready ≡ ready (o .service) (pass L o k ps .known)
+  pub lost-is : s .extent .lost ≡ pass L o k ps .lost
+  pub counts-are : s .counts ≡ countsFor (pass L o k ps) (length ps) skipped
+  pub written : Wrote (flatten (pass L o k ps .out)) d 0 out (s .counts .bytes)
+
+abbrev pub SofarSome : Terms → Progress → List ℕ → List ℕ → List ℕ → List ℕ → List ℕ → Bytes → Words → Bytes → Type 0
+SofarSome t s carousels packages maps room heads bodies set out =
+    (L : Limits) × (k : Known) × (d : Bytes) × (ps : List Bytes) × (n : ℕ) × (L .most ≡ t .most)
+    × Sofar L (t .options) k d ps n s carousels packages maps room heads bodies set out
+
+-- Whatever run it was, it has come further by these packets and skipped bytes.
+abbrev pub SofarAfter : List Bytes → ℕ → Terms → Progress → List ℕ → List ℕ → List ℕ → List ℕ → List ℕ → Bytes → Words → Bytes
+    → Progress → List ℕ → List ℕ → List ℕ → List ℕ → List ℕ → Bytes → Words → Bytes → Type 0
+SofarAfter qs m t s carousels packages maps room heads bodies set out r carousels′ packages′ maps′ room′ heads′ bodies′ set′ out′ =
+    (L : Limits) (k : Known) (d : Bytes) (ps : List Bytes) (n : ℕ) → L .most ≡ t .most
+    → Sofar L (t .options) k d ps n s carousels packages maps room heads bodies set out
+    → Sofar L (t .options) k d (ps ++ qs) (n + m) r carousels′ packages′ maps′ room′ heads′ bodies′ set′ out′
+
+-- ---- the steps by number
+
+abbrev pub withSkipped : Progress → ℕ → Progress
+withSkipped s n = record {
+  extent = s .extent;
+  counts = record { bytes = s .counts .bytes; accepted = s .counts .accepted; written = s .counts .written; rewritten = s .counts .rewritten; skipped = s .counts .skipped + n; lost = s .counts .lost };
+  ready = s .ready;
+}
+
+abbrev pub withWithheld : Progress → Progress
+withWithheld s = record {
+  extent = s .extent;
+  counts = record { bytes = s .counts .bytes; accepted = s .counts .accepted + 1; written = s .counts .written; rewritten = s .counts .rewritten; skipped = s .counts .skipped; lost = s .counts .lost };
+  ready = s .ready;
+}
+
+-- A row of so many packets, written up to `bytes`.
+abbrev pub withRow : Progress → ℕ → ℕ → Progress
+withRow s count bytes = record {
+  extent = s .extent;
+  counts = record { bytes = bytes; accepted = s .counts .accepted + count; written = s .counts .written + count; rewritten = s .counts .rewritten; skipped = s .counts .skipped; lost = s .counts .lost };
+  ready = s .ready;
+}
+
+-- ---- a run
+
+-- All packets of the run from a place on, and where the bytes to keep begin.
+abbrev pub ScannedAs : Bytes → ℕ → Terms → Progress → List ℕ → List ℕ → List ℕ → List ℕ → List ℕ → Bytes → Words → Bytes
+    → Scanned → List ℕ → List ℕ → List ℕ → List ℕ → List ℕ → Bytes → Words → Bytes → Type 0
+ScannedAs run from t s carousels packages maps room heads bodies set out r carousels′ packages′ maps′ room′ heads′ bodies′ set′ out′ =
+    SofarAfter (cut (t .limit) (drop from run) .packets) (cut (t .limit) (drop from run) .skipped) t s carousels packages maps room heads bodies set out
+    (r .progress) carousels′ packages′ maps′ room′ heads′ bodies′ set′ out′
+    × (drop (r .at) run ≡ cut (t .limit) (drop from run) .held) × (r .at ≤ length run)

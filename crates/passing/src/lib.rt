@@ -1,0 +1,428 @@
+// The packets of a run, one after the other: what is learned from each, whether it goes to the output, and how. Packets that go out as
+// they are go in rows, one copy for a row.
+ghost use mathlib.Core.Path.{_≡_};
+ghost use Prim.Native.Nat.{ℕ, _+_, _-_, _*_, _≤_, _<_};
+ghost use mathlib.Core.Bool.{true, false};
+ghost use mathlib.Core.List.{List, [], _∷_, _++_};
+ghost use mathlib.Core.Option.{Option·map};
+ghost use lib.ListN.{length, drop};
+ghost use Rattle.meaning.specs.Sets.{inSet};
+ghost use Rattle.meaning.specs.Narrow.{narrowPayload, narrowPacket};
+ghost use Rattle.meaning.specs.Learn.{Known};
+ghost use Rattle.narrowing.specs.Answers.{packetWith};
+ghost use Rattle.learning.specs.Kept.{Keeps};
+ghost use Rattle.passing.specs.Verdicts.{VerdictIs, Signals, RowIs};
+ghost use Rattle.passing.specs.Passing.{Emitted, Refreshed, Fits, SofarSome, SofarAfter, ScannedAs, withSkipped, withWithheld, withRow};
+use learning::Extent;
+use learning::observe::observe;
+use meaning::Counts;
+use meaning::Options;
+use meaning::Step;
+use narrowing::narrow::rewrite;
+use octets::copy;
+use octets::has;
+use rules::decide;
+use rules::ready;
+use tables::fields::End;
+use tlv::Mmtp;
+use tlv::gap_end;
+use tlv::mmtp_of;
+use tlv::next;
+use tlv::payload_of;
+
+// What stays the same over a call: the wishes, the packet limit, and the most bytes of one message.
+pub struct Terms {
+    pub options: Options,
+    pub limit: usize,
+    pub most: usize,
+}
+
+// Between two packets of a call: how much is known, the counts so far, and whether the filter is ready.
+pub struct Progress {
+    pub extent: Extent,
+    pub counts: Counts,
+    pub ready: bool,
+}
+
+// A signalling packet: where its payload starts, its identifier, and whether narrowing may change it.
+pub struct Signal {
+    pub body: usize,
+    pub id: u16,
+    pub rewritable: bool,
+}
+
+// What becomes of a packet; one of signalling is learned from first.
+pub enum Verdict {
+    Pass,
+    Withhold,
+    Signalling(Signal),
+}
+
+fn verdict_of(p: &[u8], set: &[u64; 1024], is_ready: bool) -> Verdict
+    ensures { λ r. ⌜ VerdictIs (now (p .entry)) (now (set .entry)) «is_ready» r ⌝ }
+{
+    let Mmtp::Read {
+        body,
+        identifier,
+        kind,
+        rewritable,
+    } = mmtp_of(p)
+    else {
+        return Verdict::Pass;
+    };
+    if kind == 2 {
+        return Verdict::Signalling(Signal {
+            body,
+            id: identifier,
+            rewritable,
+        });
+    }
+    if !is_ready {
+        return Verdict::Withhold;
+    }
+    if has(set, identifier) {
+        return Verdict::Withhold;
+    }
+    Verdict::Pass
+}
+
+// ---- a signalling packet
+
+// One more taken in, and written up to `bytes` of the output.
+fn sent(c: Counts, bytes: usize, rewritten: usize) -> Counts
+    requires { ⌜ (c .accepted + 1 ≤ 18446744073709551615) × (c .written + 1 ≤ 18446744073709551615) × (c .rewritten + rewritten ≤ 18446744073709551615) ⌝ }
+    ensures { λ r. ⌜ r ≡ record { bytes = bytes; accepted = c .accepted + 1; written = c .written + 1; rewritten = c .rewritten + rewritten; skipped = c .skipped; lost = c .lost } ⌝ }
+{
+    Counts {
+        bytes,
+        accepted: c.accepted + 1,
+        written: c.written + 1,
+        rewritten: c.rewritten + rewritten,
+        skipped: c.skipped,
+        lost: c.lost,
+    }
+}
+
+// Narrowed, or as it is where narrowing leaves it.
+fn narrowed(p: &[u8], body: usize, id: u16, o: Options, c: Counts, out: &mut [u8]) -> Counts
+    requires { ⌜ (4 ≤ body) × (body ≤ length (now p)) × (c .bytes + length (now p) ≤ length (now out)) × (c .accepted + 1 ≤ 18446744073709551615) × (c .written + 1 ≤ 18446744073709551615) × (c .rewritten + 1 ≤ 18446744073709551615) ⌝ }
+    ensures { λ r. ⌜ Emitted false (Option·map (packetWith (now (p .entry)) body) (narrowPayload o id (drop body (now (p .entry))))) (now (p .entry)) c (now (out .entry)) r (now (out .exit)) ⌝ }
+{
+    let End::At(last) = rewrite(p, body, id, o, out, c.bytes) else {
+        return sent(c, copy(p, out, c.bytes), 0);
+    };
+    sent(c, last, 1)
+}
+
+// A signalling packet, after it was learned from: withheld where the set has it, else written.
+fn emit(p: &[u8], s: Signal, o: Options, c: Counts, set: &[u64; 1024], out: &mut [u8]) -> Counts
+    requires { ⌜ Signals (now p) (s .body) (s .id) (s .rewritable) × (c .bytes + length (now p) ≤ length (now out)) × (c .accepted + 1 ≤ 18446744073709551615) × (c .written + 1 ≤ 18446744073709551615) × (c .rewritten + 1 ≤ 18446744073709551615) ⌝ }
+    ensures { λ r. ⌜ Emitted (inSet (now (set .entry)) (s .id)) (narrowPacket o (now (p .entry))) (now (p .entry)) c (now (out .entry)) r (now (out .exit)) ⌝ }
+{
+    if has(set, s.id) {
+        return Counts {
+            bytes: c.bytes,
+            accepted: c.accepted + 1,
+            written: c.written,
+            rewritten: c.rewritten,
+            skipped: c.skipped,
+            lost: c.lost,
+        };
+    }
+    if s.rewritable {
+        return narrowed(p, s.body, s.id, o, c, out);
+    }
+    sent(c, copy(p, out, c.bytes), 0)
+}
+
+// Readiness after a packet; the drop set is worked out again only where something changed.
+fn refreshed(
+    e: Extent,
+    was: bool,
+    o: Options,
+    carousels: &[u64; 1024],
+    packages: &[u32; 255],
+    maps: &[u32; 64],
+    room: &[u16],
+    set: &mut [u64; 1024],
+) -> bool
+    requires { ⌜ ((k : Known) × Keeps k e (now carousels) (now packages) (now maps) (now room)) ⌝ }
+    ensures { λ r. ⌜ Refreshed (e .changed) o e was (now (carousels .entry)) (now (packages .entry)) (now (maps .entry)) (now (room .entry)) (now (set .entry)) r (now (set .exit)) ⌝ }
+{
+    if !e.changed {
+        return was;
+    }
+    decide(o, e, carousels, packages, maps, room, set);
+    let service = o.service;
+    ready(service, e, packages, maps)
+}
+
+fn unchanged(e: Extent) -> Extent
+    ensures { λ r. ⌜ r ≡ record { seen = e .seen; packages = e .packages; maps = e .maps; fragments = e .fragments; lost = e .lost; changed = false } ⌝ }
+{
+    Extent {
+        seen: e.seen,
+        packages: e.packages,
+        maps: e.maps,
+        fragments: e.fragments,
+        lost: e.lost,
+        changed: false,
+    }
+}
+
+// A signalling packet: learned from, then withheld or written.
+fn signalling(
+    p: &[u8],
+    signal: Signal,
+    s: Progress,
+    t: Terms,
+    carousels: &mut [u64; 1024],
+    packages: &mut [u32; 255],
+    maps: &mut [u32; 64],
+    room: &mut [u16],
+    heads: &mut [u64; 256],
+    bodies: &mut [u8],
+    set: &mut [u64; 1024],
+    out: &mut [u8],
+) -> Progress
+    requires { ⌜ Signals (now p) (signal .body) (signal .id) (signal .rewritable) × Fits s (length (now p)) (length (now out)) × SofarSome t s (now carousels) (now packages) (now maps) (now room) (now heads) (now bodies) (now set) (now out) ⌝ }
+    ensures { λ r. ⌜ SofarAfter (now (p .entry) ∷ []) 0 t s (now (carousels .entry)) (now (packages .entry)) (now (maps .entry)) (now (room .entry)) (now (heads .entry)) (now (bodies .entry)) (now (set .entry)) (now (out .entry)) r (now (carousels .exit)) (now (packages .exit)) (now (maps .exit)) (now (room .exit)) (now (heads .exit)) (now (bodies .exit)) (now (set .exit)) (now (out .exit)) × ((m : ℕ) → Fits s (length (now (p .entry)) + m) (length (now (out .entry))) → Fits r m (length (now (out .exit)))) ⌝ }
+{
+    let o = t.options;
+    let c = s.counts;
+    let before = unchanged(s.extent);
+    let payload = payload_of(p, signal.body);
+    let e = observe(
+        payload,
+        signal.id,
+        t.most,
+        before,
+        carousels,
+        packages,
+        maps,
+        room,
+        heads,
+        bodies,
+    );
+    let is_ready = refreshed(e, s.ready, o, carousels, packages, maps, room, set);
+    let d = emit(p, signal, o, c, set, out);
+    Progress {
+        extent: e,
+        counts: d,
+        ready: is_ready,
+    }
+}
+
+// ---- rows
+
+// What ends a row of packets that go to the output as they are.
+pub enum Stop {
+    Keep,
+    More,
+    Skip,
+    Withhold(usize),
+    Signalling(usize, Signal),
+}
+
+// `count` packets that go to the output as they are, up to `end`, and what stands there.
+pub struct Row {
+    pub end: usize,
+    pub count: usize,
+    pub stop: Stop,
+}
+
+// A row is cut where it has 2,048 bytes: a longer one is read too far ahead of its copying.
+fn row_at(run: &[u8], from: usize, limit: usize, set: &[u64; 1024], is_ready: bool) -> Row
+    requires { ⌜ from ≤ length (now run) ⌝ }
+    ensures { λ r. ⌜ RowIs limit (now (set .entry)) «is_ready» (now (run .entry)) from r ⌝ }
+{
+    let mut at = from;
+    let mut count: usize = 0;
+    while at - from < 2048 {
+        let here = at;
+        match next(run, here, limit) {
+            Step::Packet(n) => {
+                at = here + n;
+                match verdict_of(&run[here..at], set, is_ready) {
+                    Verdict::Pass => {
+                        count += 1;
+                    }
+                    Verdict::Withhold => {
+                        return Row {
+                            end: here,
+                            count,
+                            stop: Stop::Withhold(at),
+                        };
+                    }
+                    Verdict::Signalling(s) => {
+                        return Row {
+                            end: here,
+                            count,
+                            stop: Stop::Signalling(at, s),
+                        };
+                    }
+                }
+            }
+            Step::Skip => {
+                return Row {
+                    end: here,
+                    count,
+                    stop: Stop::Skip,
+                };
+            }
+            Step::Keep => {
+                return Row {
+                    end: here,
+                    count,
+                    stop: Stop::Keep,
+                };
+            }
+        }
+    }
+    Row {
+        end: at,
+        count,
+        stop: Stop::More,
+    }
+}
+
+// ---- a run
+
+fn with_skipped(s: Progress, n: usize) -> Progress
+    requires { ⌜ s .counts .skipped + n ≤ 18446744073709551615 ⌝ }
+    ensures { λ r. ⌜ r ≡ withSkipped s n ⌝ }
+{
+    let c = s.counts;
+    let e = s.extent;
+    Progress {
+        extent: e,
+        counts: Counts {
+            bytes: c.bytes,
+            accepted: c.accepted,
+            written: c.written,
+            rewritten: c.rewritten,
+            skipped: c.skipped + n,
+            lost: c.lost,
+        },
+        ready: s.ready,
+    }
+}
+
+fn with_withheld(s: Progress) -> Progress
+    requires { ⌜ s .counts .accepted + 1 ≤ 18446744073709551615 ⌝ }
+    ensures { λ r. ⌜ r ≡ withWithheld s ⌝ }
+{
+    let c = s.counts;
+    let e = s.extent;
+    Progress {
+        extent: e,
+        counts: Counts {
+            bytes: c.bytes,
+            accepted: c.accepted + 1,
+            written: c.written,
+            rewritten: c.rewritten,
+            skipped: c.skipped,
+            lost: c.lost,
+        },
+        ready: s.ready,
+    }
+}
+
+// A row of `count` packets, written up to `bytes` of the output.
+fn with_row(s: Progress, count: usize, bytes: usize) -> Progress
+    requires { ⌜ (s .counts .accepted + count ≤ 18446744073709551615) × (s .counts .written + count ≤ 18446744073709551615) ⌝ }
+    ensures { λ r. ⌜ r ≡ withRow s count bytes ⌝ }
+{
+    let c = s.counts;
+    let e = s.extent;
+    Progress {
+        extent: e,
+        counts: Counts {
+            bytes,
+            accepted: c.accepted + count,
+            written: c.written + count,
+            rewritten: c.rewritten,
+            skipped: c.skipped,
+            lost: c.lost,
+        },
+        ready: s.ready,
+    }
+}
+
+fn bytes_so_far(s: Progress) -> usize
+    ensures { λ r. ⌜ r ≡ s .counts .bytes ⌝ }
+{
+    let c = s.counts;
+    c.bytes
+}
+
+// How far a run was taken in, and where the bytes to keep begin.
+pub struct Scanned {
+    pub progress: Progress,
+    pub at: usize,
+}
+
+// The packets of a run from `from` on.
+pub fn packets(
+    run: &[u8],
+    from: usize,
+    first: Progress,
+    t: Terms,
+    carousels: &mut [u64; 1024],
+    packages: &mut [u32; 255],
+    maps: &mut [u32; 64],
+    room: &mut [u16],
+    heads: &mut [u64; 256],
+    bodies: &mut [u8],
+    set: &mut [u64; 1024],
+    out: &mut [u8],
+) -> Scanned
+    requires { ⌜ (from ≤ length (now run)) × Fits first (length (now run) - from) (length (now out)) × SofarSome t first (now carousels) (now packages) (now maps) (now room) (now heads) (now bodies) (now set) (now out) ⌝ }
+    ensures { λ r. ⌜ ScannedAs (now (run .entry)) from t first (now (carousels .entry)) (now (packages .entry)) (now (maps .entry)) (now (room .entry)) (now (heads .entry)) (now (bodies .entry)) (now (set .entry)) (now (out .entry)) r (now (carousels .exit)) (now (packages .exit)) (now (maps .exit)) (now (room .exit)) (now (heads .exit)) (now (bodies .exit)) (now (set .exit)) (now (out .exit)) ⌝ }
+{
+    let mut s = first;
+    let mut at = from;
+    loop {
+        let x = row_at(run, at, t.limit, set, s.ready);
+        let here = x.end;
+        let bytes = copy(&run[at..here], out, bytes_so_far(s));
+        s = with_row(s, x.count, bytes);
+        let stop = x.stop;
+        match stop {
+            Stop::Keep => {
+                return Scanned {
+                    progress: s,
+                    at: here,
+                };
+            }
+            Stop::More => {
+                at = here;
+            }
+            Stop::Skip => {
+                at = gap_end(run, here, t.limit);
+                s = with_skipped(s, at - here);
+            }
+            Stop::Withhold(end) => {
+                at = end;
+                s = with_withheld(s);
+            }
+            Stop::Signalling(end, signal) => {
+                at = end;
+                s = signalling(
+                    &run[here..end],
+                    signal,
+                    s,
+                    t,
+                    carousels,
+                    packages,
+                    maps,
+                    room,
+                    heads,
+                    bodies,
+                    set,
+                    out,
+                );
+            }
+        }
+    }
+}
