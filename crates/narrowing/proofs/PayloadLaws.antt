@@ -1,35 +1,45 @@
 -- From the tables of a PA body to a payload and a packet: what the tests on a payload show, and that lengths are put right inside what
 -- was written. Rests on WalkLaws and on NarrowLaws of `meaning`.
-use Prim.Native.Nat.{ℕ, _+_, _-_, _≤_, _<_}
+use Prim.Native.Nat.{ℕ, _+_, _-_, _/_, _%_, _≤_, _<_}
 use mathlib.Core.Path.{_≡_, refl, sym, ap, ap₂, _∙_, subst}
-use mathlib.Core.Bool.{Bool, true, false, _&&_}
+use mathlib.Core.Bool.{Bool, true, false, cond, _&&_}
 use mathlib.Core.List.{[], _∷_, _++_, append-assoc}
-use mathlib.Core.Option.{Option, none, some, Option·none-ne-some}
+use mathlib.Core.Option.{Option, none, some, Option·none-ne-some, Option·some-injective}
 use native.Mathlib.Omega.{arith}
 use lib.ListN.{length, take, drop, getD, length-drop}
-use lib.Seq.{drop-drop, length-take-le, take-add}
-use lib.Dec.{eqb}
-use borrow.Author.Tests.{eq-eqb, ne-eqb}
-use Rattle.meaning.specs.Bytes.{Bytes, put16, put32}
+use lib.Seq.{drop-drop, length-take-le, take-add, getD-drop}
+use lib.Dec.{leb, eqb}
+use borrow.Author.Tests.{le-leb, lt-leb, leb-true, leb-false, eq-eqb, ne-eqb, eqb-true, eqb-false}
+use Rattle.meaning.specs.Bytes.{Bytes, be16, be16At, put16, put32}
 use Rattle.meaning.specs.Writing.{Wrote}
-use Rattle.meaning.specs.Messages.{message, indicator, aggregated}
+use Rattle.meaning.specs.Readers.{Out, give, byte, u16}
+use Rattle.meaning.specs.Messages.{Message, message, messageBody, isLong, indicator, aggregated}
 use Rattle.meaning.specs.Tables.{pa}
 use Rattle.meaning.specs.Narrow.{narrowPa, paOf, paMessage, payloadBytes, payloadFor, narrowPayload}
 use Rattle.meaning.specs.declared.Options.{Options}
+use Rattle.meaning.proofs.ListLaws.{and-both, clash}
+use Rattle.meaning.proofs.Framed.{before}
 use Rattle.meaning.proofs.Writes.{wrote-patch}
 use Rattle.narrowing.specs.Tables.{tablesChange}
-use Rattle.narrowing.specs.Answers.{PaPlace, NoPa, bodyAfter, packetWith}
+use Rattle.narrowing.specs.Answers.{startsPa, PaPlace, NoPa, bodyAfter, packetWith}
 
 -- ---- a payload that holds no PA message
 
 pub none-no-pa : (payload : Bytes) → paMessage payload ≡ none → NoPa payload
 none-no-pa payload e b q = absurd (Option·none-ne-some _ (sym e ∙ q))
 
-pub short-payload : (payload : Bytes) → length payload < 2 → paMessage payload ≡ none
-unfolding paMessage
+no-choice : (b : Bool) → _≡_ {A = Option Bytes} (cond b none none) none
+no-choice true = refl
+no-choice false = refl
+
+-- flags, counter and a message's number are four bytes
+pub short-payload : (payload : Bytes) → length payload < 4 → paMessage payload ≡ none
+unfolding paMessage message u16
 short-payload [] h = refl
 short-payload (f ∷ []) h = refl
-short-payload (f ∷ k ∷ s) h = absurd (omega arith)
+short-payload (f ∷ k ∷ []) h = no-choice (eqb (indicator f) 0 && eqb (aggregated f) 0)
+short-payload (f ∷ k ∷ i ∷ []) h = no-choice (eqb (indicator f) 0 && eqb (aggregated f) 0)
+short-payload (f ∷ k ∷ i ∷ j ∷ s) h = absurd (omega arith)
 
 flags-off : (f k : ℕ) (s : Bytes) → (eqb (indicator f) 0 && eqb (aggregated f) 0) ≡ false → paMessage (f ∷ k ∷ s) ≡ none
 unfolding paMessage
@@ -67,8 +77,106 @@ module _ (payload : Bytes) (two : 2 ≤ length payload) where
 
 -- ---- the message: number 0, and its body behind nine bytes of the payload
 
-pub other-message : (n : ℕ) (b r : Bytes) → (n ≡ 0 → ⊥) → paOf (some (record { number = n; body = b }, r)) ≡ none
-other-message n b r h = rw (ne-eqb n 0 h)
+pub message-number : (s : Bytes) (m : Message) (rest : Bytes) → message s ≡ some (m, rest) → m .number ≡ be16At s 0
+unfolding message u16 byte be16At
+message-number [] m rest e = absurd (Option·none-ne-some _ e)
+message-number (i ∷ []) m rest e = absurd (Option·none-ne-some _ e)
+message-number (i ∷ j ∷ []) m rest e = absurd (Option·none-ne-some _ e)
+message-number (i ∷ j ∷ v ∷ t) m rest e =
+    let x = before (messageBody (isLong (be16 i j)) t) (λ body. give (record { number = be16 i j; body = body })) m rest e in
+    sym (ap (λ y. y .0 .number) (Option·some-injective _ _ (x .then-was)))
+
+pub other-message : (s : Bytes) → (be16At s 0 ≡ 0 → ⊥) → paOf (message s) ≡ none
+other-message s n = go (message s) refl
+  where
+    go : (o : Out Message) → message s ≡ o → paOf o ≡ none
+    go none e = refl
+    go (some (m, rest)) e = rw (ne-eqb (m .number) 0 (λ z. n (sym (message-number s m rest e) ∙ z)))
+
+-- ---- the test that comes first
+
+-- What it shows where it holds.
+pub record Starts (payload : Bytes) : Type 0 where
+  pub four : 4 ≤ length payload
+  pub whole : indicator (getD payload 0 0) ≡ 0
+  pub single : aggregated (getD payload 0 0) ≡ 0
+  pub number : be16At payload 2 ≡ 0
+
+-- by shift and mask
+module _ (f : ℕ) where
+  pub first-part : f < 256 → (f / 64 ≡ 0 → ⊥) → indicator f ≡ 0 → ⊥
+  unfolding indicator
+  first-part b n e = n (omega (arith, e, b))
+
+  pub first-whole : f / 64 ≡ 0 → indicator f ≡ 0
+  unfolding indicator
+  first-whole i = omega (arith, i)
+
+  pub first-several : (f % 2 ≡ 0 → ⊥) → aggregated f ≡ 0 → ⊥
+  unfolding aggregated
+  first-several n = n
+
+  pub first-single : f % 2 ≡ 0 → aggregated f ≡ 0
+  unfolding aggregated
+  first-single g = g
+
+module _ (payload : Bytes) where
+  pub start-short : length payload < 4 → startsPa payload ≡ false
+  unfolding startsPa
+  start-short h = rw (lt-leb 4 (length payload) h)
+
+  module _ (four : 4 ≤ length payload) where
+    pub start-part : (indicator (getD payload 0 0) ≡ 0 → ⊥) → startsPa payload ≡ false
+    unfolding startsPa
+    start-part n = rw (le-leb 4 (length payload) four) (rw (ne-eqb (indicator (getD payload 0 0)) 0 n))
+
+    module _ (i : indicator (getD payload 0 0) ≡ 0) where
+      pub start-several : (aggregated (getD payload 0 0) ≡ 0 → ⊥) → startsPa payload ≡ false
+      unfolding startsPa
+      start-several n = rw (le-leb 4 (length payload) four) (rw (eq-eqb (indicator (getD payload 0 0)) 0 i) (rw (ne-eqb (aggregated (getD payload 0 0)) 0 n)))
+
+      -- by its number alone
+      module _ (g : aggregated (getD payload 0 0) ≡ 0) where
+        start-number : startsPa payload ≡ eqb (be16At payload 2) 0
+        unfolding startsPa
+        start-number = rw (le-leb 4 (length payload) four) (rw (eq-eqb (indicator (getD payload 0 0)) 0 i) (rw (eq-eqb (aggregated (getD payload 0 0)) 0 g)))
+
+        pub start-other : (be16At payload 2 ≡ 0 → ⊥) → startsPa payload ≡ false
+        start-other n = start-number ∙ ne-eqb (be16At payload 2) 0 n
+
+        pub start-all : be16At payload 2 ≡ 0 → startsPa payload ≡ true
+        start-all z = start-number ∙ eq-eqb (be16At payload 2) 0 z
+
+  pub started : startsPa payload ≡ true → Starts payload
+  unfolding startsPa
+  started e =
+      let a = and-both (leb 4 (length payload)) _ e in
+      let b = and-both (eqb (indicator (getD payload 0 0)) 0) _ (a .1) in
+      let c = and-both (eqb (aggregated (getD payload 0 0)) 0) _ (b .1) in
+      record { four = leb-true _ _ (a .0); whole = eqb-true _ _ (b .0); single = eqb-true _ _ (c .0); number = eqb-true _ _ (c .1) }
+
+  -- the number behind flags and counter
+  pub number-at : be16At (drop 2 payload) 0 ≡ be16At payload 2
+  unfolding be16At
+  number-at = ap₂ be16 (getD-drop 2 payload 0 0) (getD-drop 2 payload 1 0)
+
+  two : leb 4 (length payload) ≡ true → 2 ≤ length payload
+  two e = omega (arith, leb-true 4 (length payload) e)
+
+  pub no-start : startsPa payload ≡ false → NoPa payload
+  unfolding startsPa
+  no-start e =
+      none-no-pa payload
+      (go (leb 4 (length payload)) refl (eqb (indicator (getD payload 0 0)) 0) refl (eqb (aggregated (getD payload 0 0)) 0) refl (eqb (be16At payload 2) 0) refl e)
+    where
+      go : (a : Bool) → leb 4 (length payload) ≡ a → (b : Bool) → eqb (indicator (getD payload 0 0)) 0 ≡ b → (c : Bool) → eqb (aggregated (getD payload 0 0)) 0 ≡ c
+          → (d : Bool) → eqb (be16At payload 2) 0 ≡ d → (a && (b && (c && d))) ≡ false → paMessage payload ≡ none
+      go false ea b eb c ec d ed q = short-payload payload (leb-false 4 (length payload) ea)
+      go true ea false eb c ec d ed q = not-whole payload (two ea) (eqb-false _ 0 eb)
+      go true ea true eb false ec d ed q = several payload (two ea) (eqb-true _ 0 eb) (eqb-false _ 0 ec)
+      go true ea true eb true ec false ed q =
+          one-message payload (two ea) (eqb-true _ 0 eb) (eqb-true _ 0 ec) ∙ other-message (drop 2 payload) (λ z. eqb-false _ 0 ed (sym number-at ∙ z))
+      go true ea true eb true ec true ed q = clash (cc)
 
 -- what a payload's message is, so is where its body starts
 pub pa-body : (payload : Bytes) (a e : ℕ) → a ≤ e → e ≤ length (drop 2 payload)

@@ -1,15 +1,15 @@
 -- Where the PA message of a payload stands, and what the functions on a payload and a packet write of it. Rests on PayloadLaws.
-use Prim.Native.Nat.{ℕ, _+_, _-_, _/_, _%_, _≤_, _<_}
+use Prim.Native.Nat.{ℕ, _+_, _-_, _≤_}
 use mathlib.Core.Path.{_≡_, refl, sym, ap, _∙_}
 use mathlib.Core.List.{_++_}
 use mathlib.Core.Option.{Option, none, some, Option·map, Option·some-injective}
 use native.Mathlib.Nat.{sub-zero}
 use native.Mathlib.Omega.{arith}
-use lib.ListN.{length, take, drop, getD, length-append, length-drop}
+use lib.ListN.{length, take, drop, length-append, length-drop}
 use lib.Seq.{length-take-le, take-length}
 use borrow.Author.Tests.{eq-eqb}
-use Rattle.meaning.specs.Bytes.{Bytes, put16, put32}
-use Rattle.meaning.specs.Messages.{message, indicator, aggregated}
+use Rattle.meaning.specs.Bytes.{Bytes, be16At, put16, put32}
+use Rattle.meaning.specs.Messages.{message}
 use Rattle.meaning.specs.Tables.{paHead, pa}
 use Rattle.meaning.specs.Narrow.{paOf, paMessage, payloadBytes, narrowPayload, partsOfMessage, tablesParts}
 use Rattle.meaning.specs.Writing.{Wrote}
@@ -22,7 +22,7 @@ use Rattle.tables.specs.declared.fields.End.{End}
 use Rattle.narrowing.specs.Tables.{tablesIn}
 use Rattle.narrowing.specs.Answers.{PaPlace, NoPa, ChangedPaIs, RewroteAs, bodyAfter, packetWith, countedIn, noRows}
 use Rattle.narrowing.specs.declared.narrow.Pa.{Pa}
-use Rattle.narrowing.proofs.PayloadLaws.{none-no-pa, not-whole, several, one-message, other-message, pa-body, length-right, packet-right, pa-narrowed}
+use Rattle.narrowing.proofs.PayloadLaws.{Starts, none-no-pa, one-message, message-number, number-at, pa-body, length-right, packet-right, pa-narrowed}
 
 -- all from n on
 pub behind-all : (s : Bytes) (n : ℕ) → take (length s - n) (drop n s) ≡ drop n s
@@ -34,60 +34,43 @@ pub record PaEnds (payload : Bytes) (end : ℕ) : Type 0 where
   pub within : end ≤ length payload
   pub body-is : paMessage payload ≡ some (take (end - 9) (drop 9 payload))
 
--- ---- the tests on a payload's first byte
+-- ---- the message of a payload that starts as one with a PA message
 
-module _ (payload : Bytes) (two : 2 ≤ length payload) where
-  pub part-only : getD payload 0 0 < 256 → (getD payload 0 0 / 64 ≡ 0 → ⊥) → NoPa payload
-  unfolding indicator
-  part-only b n = none-no-pa payload (not-whole payload two (λ e. n (omega (arith, e, b))))
+module _ (payload : Bytes) (st : Starts payload) where
+  abbrev behind : Bytes
+  behind = take (length payload - 2) (drop 2 payload)
 
-  module _ (i : getD payload 0 0 / 64 ≡ 0) where
-    whole : indicator (getD payload 0 0) ≡ 0
-    unfolding indicator
-    whole = omega (arith, i)
+  message-is : paMessage payload ≡ paOf (message behind)
+  message-is = one-message payload (omega (arith, st .four)) (st .whole) (st .single) ∙ ap (λ (z : Bytes). paOf (message z)) (sym (behind-all payload 2))
 
-    pub several-only : (getD payload 0 0 % 2 ≡ 0 → ⊥) → NoPa payload
-    unfolding aggregated
-    several-only n = none-no-pa payload (several payload two whole n)
+  pub no-message : message behind ≡ none → NoPa payload
+  no-message e = none-no-pa payload (message-is ∙ ap paOf e)
 
-    -- one whole message
-    module _ (g : getD payload 0 0 % 2 ≡ 0) where
-      abbrev behind : Bytes
-      behind = take (length payload - 2) (drop 2 payload)
+  module _ (n a e : ℕ) (m : MessageIs (message behind) behind (Found.Message n a e)) where
+    zero-is : n ≡ 0
+    zero-is =
+        message-number behind (record { number = n; body = take (e - a) (drop a behind) }) (drop e behind) (m .3) ∙ ap (λ (z : Bytes). be16At z 0) (behind-all payload 2)
+        ∙ number-at payload ∙ st .number
 
-      single : aggregated (getD payload 0 0) ≡ 0
-      unfolding aggregated
-      single = g
+    behind-long : length behind ≡ length payload - 2
+    behind-long = ap length (behind-all payload 2) ∙ length-drop 2 payload
 
-      message-is : paMessage payload ≡ paOf (message behind)
-      message-is = one-message payload two whole single ∙ ap (λ (z : Bytes). paOf (message z)) (sym (behind-all payload 2))
+    -- the head of a PA message has seven bytes
+    head-long : 7 + (e - a) ≡ e
+    head-long =
+        let k = message-size behind (record { number = n; body = take (e - a) (drop a behind) }) (drop e behind) (m .3) zero-is in
+        let fits : e - a ≤ length (drop a behind) = omega (arith, m .1, m .2, length-drop a behind) in
+        omega (arith, k, m .1, m .2, length-drop e behind, length-take-le (e - a) (drop a behind) fits)
 
-      pub no-message : message behind ≡ none → NoPa payload
-      no-message e = none-no-pa payload (message-is ∙ ap paOf e)
-
-      module _ (n a e : ℕ) (m : MessageIs (message behind) behind (Found.Message n a e)) where
-        pub other-number : (n ≡ 0 → ⊥) → NoPa payload
-        other-number h = none-no-pa payload (message-is ∙ ap paOf (m .3) ∙ other-message n (take (e - a) (drop a behind)) (drop e behind) h)
-
-        behind-long : length behind ≡ length payload - 2
-        behind-long = ap length (behind-all payload 2) ∙ length-drop 2 payload
-
-        -- the head of a PA message has seven bytes
-        head-long : n ≡ 0 → 7 + (e - a) ≡ e
-        head-long z =
-            let k = message-size behind (record { number = n; body = take (e - a) (drop a behind) }) (drop e behind) (m .3) z in
-            let fits : e - a ≤ length (drop a behind) = omega (arith, m .1, m .2, length-drop a behind) in
-            omega (arith, k, m .1, m .2, length-drop e behind, length-take-le (e - a) (drop a behind) fits)
-
-        pub pa-ends : n ≡ 0 → PaEnds payload (e + 2)
-        pa-ends z =
-            let b : paMessage payload ≡ some (take (e - a) (drop a behind)) = message-is ∙ ap paOf (m .3) ∙ rw (eq-eqb n 0 z) in
-            let k : 9 + (e - a) ≡ e + 2 = omega (arith, head-long z) in
-            record {
-              nine = omega arith;
-              within = omega (arith, m .2, behind-long);
-              body-is = pa-body payload a e (m .1) (omega (arith, m .2, behind-long, length-drop 2 payload)) (rw (behind-all payload 2) at b) k;
-            }
+    pub pa-ends : PaEnds payload (e + 2)
+    pa-ends =
+        let b : paMessage payload ≡ some (take (e - a) (drop a behind)) = message-is ∙ ap paOf (m .3) ∙ rw (eq-eqb n 0 zero-is) in
+        let k : 9 + (e - a) ≡ e + 2 = omega (arith, head-long) in
+        record {
+          nine = omega arith;
+          within = omega (arith, m .2, behind-long);
+          body-is = pa-body payload a e (m .1) (omega (arith, m .2, behind-long, length-drop 2 payload)) (rw (behind-all payload 2) at b) k;
+        }
 
 -- ---- its head
 

@@ -2,13 +2,15 @@
 -- counts of the entries that stayed and went. Each fixes the whole output.
 use Prim.Native.Nat.{ℕ, _+_, _-_, _≤_}
 use mathlib.Core.Path.{_≡_}
-use mathlib.Core.Bool.{Bool, true, false, cond}
+use mathlib.Core.Bool.{Bool, true, false, cond, _&&_}
 use mathlib.Core.List.{List, [], _∷_, _++_, map}
 use mathlib.Core.Option.{Option, none, some}
 use lib.ListN.{length, take, drop, getD, set}
-use Rattle.meaning.specs.Bytes.{Bytes, put16}
+use lib.Dec.{leb, eqb}
+use Rattle.meaning.specs.Bytes.{Bytes, be16At, put16}
 use Rattle.meaning.specs.Writing.{Wrote}
 use Rattle.meaning.specs.Readers.{Out}
+use Rattle.meaning.specs.Messages.{indicator, aggregated}
 use Rattle.meaning.specs.Tables.{Entry, paHead}
 use Rattle.meaning.specs.Narrow.{Change, wanted, narrowPayload, paMessage, paBytes}
 use Rattle.meaning.specs.Refusals.{numberOf}
@@ -48,6 +50,11 @@ pub record PaPlace (payload : Bytes) (end tables : ℕ) : Type 0 where
   pub body-is : paMessage payload ≡ some (take (end - 9) (drop 9 payload))
   pub entries : List Bytes
   pub heads : Heads (take (end - 9) (drop 9 payload)) tables entries
+
+-- Whether a payload is whole and unaggregated, and its message's number that of a PA message.
+unfoldable pub startsPa : Bytes → Bool
+unfolding indicator aggregated be16At
+startsPa s = leb 4 (length s) && (eqb (indicator (getD s 0 0)) 0 && (eqb (aggregated (getD s 0 0)) 0 && eqb (be16At s 2) 0))
 
 -- The body as narrowing leaves it.
 abbrev pub bodyAfter : Options → ℕ → Bytes → ℕ → List Bytes → Bytes

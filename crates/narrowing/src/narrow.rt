@@ -8,7 +8,7 @@ ghost use Rattle.meaning.specs.Bytes.{Bytes};
 ghost use mathlib.Core.Option.{Option·map};
 ghost use Rattle.meaning.specs.Narrow.{narrowPayload, payloadBytes, paMessage, partsOfMessage, changeTable, changePayload, changePacket};
 ghost use Rattle.meaning.specs.Refusals.{narrowRefusal};
-ghost use Rattle.narrowing.specs.Answers.{zeros, NarrowedAs, RefusedAs, isRefused, PaPlace, PaIs, ChangedPaIs, RewroteAs, bodyAfter, packetWith, noRows, countedIn};
+ghost use Rattle.narrowing.specs.Answers.{zeros, startsPa, NarrowedAs, RefusedAs, isRefused, PaPlace, PaIs, ChangedPaIs, RewroteAs, bodyAfter, packetWith, noRows, countedIn};
 use crate::counting::count_table;
 use crate::counting::count_tables;
 use crate::pa::pa_changes;
@@ -20,6 +20,7 @@ use meaning::Narrowing;
 use meaning::Options;
 use meaning::Refusal;
 use octets::copy;
+use octets::id16;
 use octets::put16;
 use octets::put32;
 use tables::fields::End;
@@ -104,30 +105,40 @@ pub fn narrow_table(t: &[u8], o: Options, out: &mut [u8]) -> Narrowed
     answer_of(Narrowing::Changed(n), count_table(u, o, [[0u64; 3]; 2]))
 }
 
-// The PA message of a whole, unaggregated payload.
+// Whether a payload is whole and unaggregated, and its message's number that of a PA message.
+fn starts_pa(payload: &[u8]) -> bool
+    ensures { λ r. ⌜ r ≡ startsPa (now (payload .entry)) ⌝ }
+{
+    if payload.len() < 4 {
+        return false;
+    }
+    if payload[0] >> 6 != 0 {
+        return false;
+    }
+    if payload[0] & 1 != 0 {
+        return false;
+    }
+    if id16(payload, 2) != 0 {
+        return false;
+    }
+    true
+}
+
+// The PA message of a payload.
 fn pa_of(payload: &[u8]) -> Pa
     ensures { λ r. ⌜ PaIs (now (payload .entry)) r ⌝ }
 {
-    if payload.len() < 2 {
-        return Pa::Nothing;
-    }
-    if payload[0] >> 6 != 0 {
-        return Pa::Nothing;
-    }
-    if payload[0] & 1 != 0 {
+    if !starts_pa(payload) {
         return Pa::Nothing;
     }
     let Found::Message {
-        number,
+        number: _,
         start: _,
         end,
     } = message(&payload[2..])
     else {
         return Pa::Nothing;
     };
-    if number != 0 {
-        return Pa::Nothing;
-    }
     let last = end + 2;
     let End::At(tables) = pa_tables(&payload[9..last]) else {
         return Pa::Nothing;
@@ -186,7 +197,7 @@ pub fn narrow_payload(payload: &[u8], pid: u16, o: Options, out: &mut [u8]) -> N
 }
 
 // The packet `p`, whose payload starts at `body`, narrowed, at `to` of the output.
-pub fn rewrite(p: &[u8], body: usize, pid: u16, o: Options, out: &mut [u8], to: usize) -> End
+fn narrowed_to(p: &[u8], body: usize, pid: u16, o: Options, out: &mut [u8], to: usize) -> End
     requires { ⌜ (4 ≤ body) × (body ≤ length (now p)) × (to + length (now p) ≤ length (now out)) ⌝ }
     ensures { λ r. ⌜ RewroteAs (Option·map (packetWith (now (p .entry)) body) (narrowPayload o pid (drop body (now (p .entry))))) (now (out .entry)) to (now (out .exit)) r ⌝ }
 {
@@ -198,6 +209,17 @@ pub fn rewrite(p: &[u8], body: usize, pid: u16, o: Options, out: &mut [u8], to: 
     let last = payload_to(payload, end, tables, pid, o, out, c);
     put16(out, to + 2, last - to - 4);
     End::At(last)
+}
+
+// The same. Most signalling packets hold no PA message, and cost no more than the test.
+pub fn rewrite(p: &[u8], body: usize, pid: u16, o: Options, out: &mut [u8], to: usize) -> End
+    requires { ⌜ (4 ≤ body) × (body ≤ length (now p)) × (to + length (now p) ≤ length (now out)) ⌝ }
+    ensures { λ r. ⌜ RewroteAs (Option·map (packetWith (now (p .entry)) body) (narrowPayload o pid (drop body (now (p .entry))))) (now (out .entry)) to (now (out .exit)) r ⌝ }
+{
+    if !starts_pa(&p[body..]) {
+        return End::Nothing;
+    }
+    narrowed_to(p, body, pid, o, out, to)
 }
 
 // The counts of a payload that narrowing changes.
@@ -234,7 +256,7 @@ pub fn narrow_packet(p: &[u8], o: Options, out: &mut [u8]) -> Narrowed
     if !rewritable {
         return without_counts(Narrowing::Unchanged);
     }
-    let End::At(n) = rewrite(p, body, identifier, o, out, 0) else {
+    let End::At(n) = narrowed_to(p, body, identifier, o, out, 0) else {
         return without_counts(Narrowing::Unchanged);
     };
     answer_of(Narrowing::Changed(n), count_payload(&p[body..], o))

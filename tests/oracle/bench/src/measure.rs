@@ -8,7 +8,7 @@ const RUNS: usize = 101;
 const RUN_NANOSECONDS: f64 = 2e6;
 
 /// One turn of a side: it does all the work of its row, and answers a sum of what it did.
-type Turn = Box<dyn FnMut() -> usize>;
+pub type Turn = Box<dyn FnMut() -> usize>;
 
 /// Two sides that do the same work: whoever makes a row has compared what they do.
 pub struct Row {

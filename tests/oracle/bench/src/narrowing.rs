@@ -1,6 +1,7 @@
 //! Rows on narrowing: packets with a table of 8 entries, or with none. The original's side is its `packet` without
 //! what it learns, the proved one `rewrite`, and `copy` where nothing changed. Both write to an output that is
-//! there already. The rows on `rewrite` alone leave away what stands around it on either side.
+//! there already. The rows on `rewrite` alone leave away what stands around it on either side. Each side goes through
+//! the packets in its own language, so that no row holds a call from one to the other for each packet.
 
 use face::Options;
 use oracle::builders::{
@@ -8,24 +9,21 @@ use oracle::builders::{
 };
 use original::Parts;
 
-use crate::measure::Row;
-use crate::proved;
+use crate::measure::{Row, Turn};
+use crate::proved::{BODY, IDENTIFIER, Work, each};
 
 const PACKETS: usize = 64;
 const ENTRIES: usize = 8;
-
-/// Where in the packets the identifier and the payload stand.
-const IDENTIFIER: usize = 9;
-const BODY: usize = 19;
 
 pub fn rows() -> Vec<Row> {
     let neither = Options {
         carousel: false,
         ..NO_CAPTIONS
     };
-    let sent = |name, options, packets| row(name, options, packets, proved::packet);
+    let sent = |name, options, packets| row(name, options, packets, Work::Written);
     // The original counts no entries: its side is the same with counts and without.
-    let counted = |name, options, packets| row(name, options, packets, proved::narrow);
+    let counted = |name, options, packets| row(name, options, packets, Work::Counted);
+    let alone = |name, packets| row(name, neither, packets, Work::Rewritten);
     vec![
         sent("MPT of 8 entries, 1 goes", neither, mpts(1)),
         sent("MPT of 8 entries, 2 go", neither, mpts(2)),
@@ -34,13 +32,9 @@ pub fn rows() -> Vec<Row> {
         sent("PLT of 8 entries, one stays", only(0x0404), plts()),
         sent("no PA message, 1,400 bytes", neither, others()),
         counted("MPT of 8 entries, 2 go, with counts", neither, mpts(2)),
-        alone("rewrite alone, MPT of 8, 2 go", neither, mpts(2)),
-        alone("rewrite alone, MPT of 8, none goes", neither, mpts(0)),
-        alone(
-            "rewrite alone, no PA message, 1,400 bytes",
-            neither,
-            others(),
-        ),
+        alone("rewrite alone, MPT of 8, 2 go", mpts(2)),
+        alone("rewrite alone, MPT of 8, none goes", mpts(0)),
+        alone("rewrite alone, no PA message, 1,400 bytes", others()),
     ]
 }
 
@@ -77,69 +71,55 @@ fn others() -> Vec<Vec<u8>> {
     (0..PACKETS as u16).map(packet).collect()
 }
 
-/// A row whose packets both sides narrow alike.
-fn row(
-    name: &str,
-    options: Options,
-    packets: Vec<Vec<u8>>,
-    proved: fn(&[u8], Options, &mut [u8]) -> usize,
-) -> Row {
-    let longest = packets.iter().map(Vec::len).max().unwrap_or(0);
-    let (mut out, mut grown) = (vec![0; longest], Vec::with_capacity(longest));
+/// A row whose packets, all of one size, both sides narrow alike.
+fn row(name: &str, options: Options, packets: Vec<Vec<u8>>, work: Work) -> Row {
+    let (times, size) = (packets.len(), packets[0].len());
     let mut filter = Parts::new(options);
+    let (mut out, mut grown) = (vec![0; size], Vec::with_capacity(size));
     for packet in &packets {
-        grown.clear();
-        filter.packet(packet, &mut grown);
-        let written = proved(packet, options, &mut out);
-        assert_eq!(out[..written], grown, "{name}");
+        assert_eq!(packet.len(), size, "{name}");
+        let written = each(work, packet, size, options, &mut out);
+        let proved = &out[front(work).min(written)..written];
+        assert_eq!(proved, by_original(&mut filter, work, packet), "{name}");
     }
+    let packets = packets.concat();
     let given = packets.clone();
+    let original: Turn = match work {
+        Work::Rewritten => Box::new(move || filter.rewrites(&packets, size, IDENTIFIER, BODY)),
+        Work::Written | Work::Counted => {
+            Box::new(move || filter.packets(&packets, size, &mut grown))
+        }
+    };
     Row {
         name: name.to_owned(),
-        times: packets.len(),
-        original: Box::new(move || {
-            let write = |packet: &Vec<u8>| {
-                grown.clear();
-                filter.packet(packet, &mut grown);
-                grown.len()
-            };
-            packets.iter().map(write).sum()
-        }),
-        proved: Box::new(move || {
-            let write = |packet: &Vec<u8>| proved(packet, options, &mut out);
-            given.iter().map(write).sum()
-        }),
+        times,
+        original,
+        proved: Box::new(move || each(work, &given, size, options, &mut out)),
     }
 }
 
-/// A row whose packets both sides rewrite alike. The original makes a payload, the proved code a packet.
-fn alone(name: &str, options: Options, packets: Vec<Vec<u8>>) -> Row {
-    let longest = packets.iter().map(Vec::len).max().unwrap_or(0);
-    let mut out = vec![0; longest];
-    let filter = Parts::new(options);
-    let original = move |packet: &Vec<u8>| filter.rewrite(identifier_of(packet), &packet[BODY..]);
-    for packet in &packets {
-        let written = proved::rewrite(packet, BODY, identifier_of(packet), options, &mut out);
-        let payload = (written > 0).then(|| out[BODY..written].to_vec());
-        assert_eq!(payload, original(packet), "{name}");
-    }
-    let given = packets.clone();
-    Row {
-        name: name.to_owned(),
-        times: packets.len(),
-        original: Box::new(move || {
-            let write = |packet| original(packet).map_or(0, |payload| payload.len());
-            packets.iter().map(write).sum()
-        }),
-        proved: Box::new(move || {
-            let write = |packet: &Vec<u8>| {
-                proved::rewrite(packet, BODY, identifier_of(packet), options, &mut out)
-            };
-            given.iter().map(write).sum()
-        }),
+/// Where in a packet that the proved code wrote the bytes start that the original makes: of its own `rewrite` it is the
+/// payload alone.
+fn front(work: Work) -> usize {
+    match work {
+        Work::Rewritten => BODY,
+        Work::Written | Work::Counted => 0,
     }
 }
 
-fn identifier_of(packet: &[u8]) -> u16 {
-    u16::from_be_bytes([packet[IDENTIFIER], packet[IDENTIFIER + 1]])
+/// What the original makes of a packet; nothing where its `rewrite` leaves it.
+fn by_original(filter: &mut Parts, work: Work, packet: &[u8]) -> Vec<u8> {
+    let mut out = Vec::new();
+    match work {
+        Work::Rewritten => {
+            let identifier = u16::from_be_bytes([packet[IDENTIFIER], packet[IDENTIFIER + 1]]);
+            out = filter
+                .rewrite(identifier, &packet[BODY..])
+                .unwrap_or_default();
+        }
+        Work::Written | Work::Counted => {
+            filter.packets(packet, packet.len(), &mut out);
+        }
+    }
+    out
 }

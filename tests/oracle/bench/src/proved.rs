@@ -1,18 +1,14 @@
-//! The proved narrowing behind the driver (`driver.rt.in`). A slice goes over as its place and its length.
+//! The proved narrowing behind the driver (`driver/lib.rt.in`). A slice goes over as its place and its length.
 
 use face::Options;
 
-/// A function of the driver: packet, flags, service and output; answers how many bytes it wrote.
-type Driver = unsafe extern "C" fn(*const u8, usize, u8, u16, *mut u8, usize) -> usize;
-
 unsafe extern "C" {
-    fn driver_packet(_: *const u8, _: usize, _: u8, _: u16, _: *mut u8, _: usize) -> usize;
-    fn driver_narrow(_: *const u8, _: usize, _: u8, _: u16, _: *mut u8, _: usize) -> usize;
-    fn driver_rewrite(
-        packet: *const u8,
+    fn driver_each(
+        work: u8,
+        packets: *const u8,
         length: usize,
-        body: usize,
-        identifier: u16,
+        size: usize,
+        count: usize,
         flags: u8,
         service: u16,
         out: *mut u8,
@@ -20,34 +16,30 @@ unsafe extern "C" {
     ) -> usize;
 }
 
-/// A signalling packet as a recorder writes it, narrowed or as it is.
-pub fn packet(packet: &[u8], options: Options, out: &mut [u8]) -> usize {
-    call(driver_packet, packet, options, out)
+/// Where the driver takes identifier and payload from in a packet that it rewrites alone.
+pub const IDENTIFIER: usize = 9;
+pub const BODY: usize = 19;
+
+/// What the driver does with a packet, by its number there.
+#[derive(Clone, Copy)]
+pub enum Work {
+    /// Writes it as a recorder does, narrowed or as it is.
+    Written,
+    /// Narrows it by itself, its entries counted; nothing is written where it stays.
+    Counted,
+    /// Narrows it by `rewrite` alone.
+    Rewritten,
 }
 
-/// A packet narrowed by itself, its entries counted; nothing is written where it stays.
-pub fn narrow(packet: &[u8], options: Options, out: &mut [u8]) -> usize {
-    call(driver_narrow, packet, options, out)
-}
-
-fn call(driver: Driver, packet: &[u8], options: Options, out: &mut [u8]) -> usize {
+/// Does so with each packet of `size` bytes; answers how many bytes were written.
+pub fn each(work: Work, packets: &[u8], size: usize, options: Options, out: &mut [u8]) -> usize {
     let (flags, service) = (options.flags(), options.service.unwrap_or(0));
-    let (from, to) = (packet.as_ptr(), out.as_mut_ptr());
+    let (length, count) = (packets.len(), packets.len() / size);
+    let (from, to, room) = (packets.as_ptr(), out.as_mut_ptr(), out.len());
     // SAFETY: both are whole slices that do not overlap, and the driver keeps neither.
-    unsafe { driver(from, packet.len(), flags, service, to, out.len()) }
-}
-
-/// A packet whose payload starts at `body`, narrowed; nothing is written where it stays.
-pub fn rewrite(
-    packet: &[u8],
-    body: usize,
-    identifier: u16,
-    options: Options,
-    out: &mut [u8],
-) -> usize {
-    let (flags, service) = (options.flags(), options.service.unwrap_or(0));
-    let (from, to) = (packet.as_ptr(), out.as_mut_ptr());
-    let (length, room) = (packet.len(), out.len());
-    // SAFETY: both are whole slices that do not overlap, and the driver keeps neither.
-    unsafe { driver_rewrite(from, length, body, identifier, flags, service, to, room) }
+    unsafe {
+        driver_each(
+            work as u8, from, length, size, count, flags, service, to, room,
+        )
+    }
 }

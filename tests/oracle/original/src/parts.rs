@@ -24,9 +24,26 @@ impl Parts {
         Self(Filter::new(options))
     }
 
-    /// Appends a signalling packet, narrowed or as it is. Nothing learned, nothing is dropped.
-    pub fn packet(&mut self, packet: &[u8], out: &mut Vec<u8>) {
-        self.0.packet(packet, out);
+    /// Writes each signalling packet of `size` bytes to an output that is empty, narrowed or as it is, and answers how
+    /// many bytes that were. Nothing learned, nothing is dropped.
+    pub fn packets(&mut self, packets: &[u8], size: usize, out: &mut Vec<u8>) -> usize {
+        let write = |packet| {
+            out.clear();
+            self.0.packet(packet, out);
+            out.len()
+        };
+        packets.chunks_exact(size).map(write).sum()
+    }
+
+    /// Narrows the payload of each packet of `size` bytes and answers how many bytes that made. The payload stands at
+    /// `body`, its identifier at `identifier`.
+    pub fn rewrites(&self, packets: &[u8], size: usize, identifier: usize, body: usize) -> usize {
+        let narrow = |packet: &[u8]| {
+            let number = u16::from_be_bytes([packet[identifier], packet[identifier + 1]]);
+            self.rewrite(number, &packet[body..])
+        };
+        let length = |narrowed: Option<Vec<u8>>| narrowed.map_or(0, |payload| payload.len());
+        packets.chunks_exact(size).map(narrow).map(length).sum()
     }
 
     /// A payload narrowed, or nothing where it stays.

@@ -72,8 +72,8 @@ returns-4 c =
     unchanged-answer (narrowRefusal (length (a .p .now)) (length (a .out .now))) (changePacket (a .o) (a .p .now)) (a .out .now) _ _ _ _ refl (f .0)
     (not-rewritable (a .o) (a .p .now) _ _ _ _ h (not-true _ (c .before .if3 .taken))) (c .without-counts4 .ensures)
 
-rewrite-requires : tie.Need-rewrite-requires
-rewrite-requires c κs =
+narrowed-to-requires : tie.Need-narrowed-to-requires
+narrowed-to-requires c κs =
     let a = c .before .before .before .before .before .before .before .before .before .before .before .before .args in
     let r = c .before .before .before .before .before .before .before .before .before .refusal in
     let f = not-refused (length (a .p .now)) (length (a .out .now)) (r .result) (r .ensures) (rw (c .before .before .before .before .before .before .before .before .is-refused .ensures) at (c .before .before .before .before .before .before .before .if1 .left)) in
@@ -98,7 +98,7 @@ returns-5 c =
     let r = c .before .before .before .before .before .before .before .before .before .before .before .before .before .before .before .refusal in
     let f = not-refused (length (a .p .now)) (length (a .out .now)) (r .result) (r .ensures) (rw (c .before .before .before .before .before .before .before .before .before .before .before .before .before .before .is-refused .ensures) at (c .before .before .before .before .before .before .before .before .before .before .before .before .before .if1 .left)) in
     let h = rw (c .before .before .before .before .before .before .before .before .before .before .body .given .1) at (c .before .before .before .before .before .before .before .before .before .before .before .before .mmtp-of .ensures) in
-    let k = rw (c .before .enum-told2 .given .1) at (c .before .before .before .before .before .rewrite .ensures) in
+    let k = rw (c .before .enum-told2 .given .1) at (c .before .before .before .before .before .narrowed-to .ensures) in
     unchanged-answer (narrowRefusal (length (a .p .now)) (length (a .out .now))) (changePacket (a .o) (a .p .now)) (a .out .now) _ _ _ _ (k .1) (f .0)
     (packet-stays (a .o) (a .p .now) _ _ _ _ h (c .before .before .before .before .before .before .before .before .if2 .left) (not-false _ (c .before .before .before .before .before .before .before .if3 .left)) (k .0)) (c .without-counts5 .ensures)
 
@@ -131,7 +131,7 @@ returns-6 c =
     let r = c .before .before .before .before .before .before .before .before .before .before .before .before .before .before .before .before .before .before .refusal in
     let f = not-refused (length (a .p .now)) (length (a .out .now)) (r .result) (r .ensures) (rw (c .before .before .before .before .before .before .before .before .before .before .before .before .before .before .before .before .before .is-refused .ensures) at (c .before .before .before .before .before .before .before .before .before .before .before .before .before .before .before .before .if1 .left)) in
     let h = rw (c .before .before .before .before .before .before .before .before .before .before .before .before .before .body .given .1) at (c .before .before .before .before .before .before .before .before .before .before .before .before .before .before .before .mmtp-of .ensures) in
-    let k = rw (c .before .before .before .before .n .given .1) at (c .before .before .before .before .before .before .before .before .rewrite .ensures) in
+    let k = rw (c .before .before .before .before .n .given .1) at (c .before .before .before .before .before .before .before .before .narrowed-to .ensures) in
     changed-answer (narrowRefusal (length (a .p .now)) (length (a .out .now))) (changePacket (a .o) (a .p .now)) (a .out .now) _ _ _ _ _ _ (a .o) _ (k .0) (f .0)
     (packet-changes (a .o) (a .p .now) _ _ _ _ h (c .before .before .before .before .before .before .before .before .before .before .before .if2 .left) (not-false _ (c .before .before .before .before .before .before .before .before .before .before .if3 .left)) (k .0) (k .1)) (k .2)
     (c .before .count-payload .ensures ∙ ap (λ (z : Bytes). countedIn (a .o) noRows (partsOfMessage (paMessage z))) (rest-whole (a .p .now) (c .before .before .before .before .before .before .before .before .before .before .before .before .before .body .given .0 .0)))
@@ -154,7 +154,7 @@ narrow-packet-spec =
     returns-3
     without-counts-requires-4
     returns-4
-    rewrite-requires
+    narrowed-to-requires
     enum-known-n
     enum-told-2
     without-counts-requires-5

@@ -1,49 +1,45 @@
-use Prim.Native.Nat.{_+_}
-use lib.Bits.{and-mask}
-use lib.ListN.{getD}
+use Prim.Native.Nat.{_+_, _≤_}
+use mathlib.Core.Path.{_≡_, sym, _∙_}
+use mathlib.Core.Bool.{Bool, false, not}
+use lib.ListN.{length}
 use native.Mathlib.Omega.{arith}
 use borrow.Author.Needs.{needs}
-use Rattle.narrowing.proofs.PayloadLaws.{none-no-pa, short-payload}
-use Rattle.narrowing.proofs.PlaceLaws.{PaEnds, part-only, several-only, no-message, other-number, pa-ends, headless-pa, pa-place}
+use borrow.Author.Tests.{not-true, not-false}
+use Rattle.meaning.specs.Bytes.{Bytes}
+use Rattle.narrowing.specs.Answers.{startsPa}
+use Rattle.narrowing.proofs.PayloadLaws.{started, no-start}
+use Rattle.narrowing.proofs.PlaceLaws.{PaEnds, no-message, pa-ends, headless-pa, pa-place}
 use Rattle.narrowing.proofs.narrow.pa_of.Statement.{statement}
 use Rattle.narrowing.proofs.narrow.pa_of.Tie as tie
 use Rattle.narrowing.proofs.narrow.pa_of.Reads as reads
 use Rattle.narrowing.proofs.narrow.pa_of.Lts as lts
+use Rattle.narrowing.proofs.narrow.starts_pa.Reads as starts-pa-reads
 use Rattle.tables.proofs.messages.message.Reads as message-reads
 use Rattle.tables.proofs.pa.pa_tables.Reads as pa-tables-reads
 
 -- the message is a PA message
-ends : (c : lts.Else4 (message-reads.Asked, message-reads.Learnt, pa-tables-reads.Asked, pa-tables-reads.Learnt) reads.Pre reads.Post)
-    → PaEnds (c .before .before .before .before .before .before .before .before .before .before .before .before .args .payload .now) (c .before .before .number .given .0 .1 .1 .0 + 2)
+ends : (c : lts.After-known-told (starts-pa-reads.Asked, starts-pa-reads.Learnt, message-reads.Asked, message-reads.Learnt, pa-tables-reads.Asked, pa-tables-reads.Learnt) reads.Pre reads.Post)
+    → PaEnds (c .before .before .before .before .before .before .before .before .args .payload .now) (c .before .end .given .0 .1 .1 .0 + 2)
 ends c =
-    let f = c .before .before .before .before .before .before in
-    let s = f .before .before .before .before .before .before .args .payload .now in
-    pa-ends s (f .before .before .before .before .if1 .left) (f .before .before .if2 .left) (omega (arith, f .if3 .left, and-mask (getD s 0 0) 1)) _ _ _
-    (rw (c .before .before .number .given .1) at (c .before .before .before .before .message .ensures)) (c .if4 .left)
+    let f = c .before .before .before .before .before in
+    let s = f .before .before .before .args .payload .now in
+    pa-ends s (started s (sym (f .before .starts-pa .ensures) ∙ not-false _ (f .if1 .left))) _ _ _ (rw (c .before .end .given .1) at (c .before .before .before .message .ensures))
+
+-- flags and counter are there
+two-long : (s : Bytes) {r : Bool} → r ≡ startsPa s → not r ≡ false → 2 ≤ length s
+two-long s {r} e f = omega (arith, started s (sym e ∙ not-false r f) .four)
+
+starts-pa-requires : tie.Need-starts-pa-requires
+starts-pa-requires c κs = search needs
 
 returns : tie.Need-returns
-returns c = let s = c .before .before .args .payload .now in none-no-pa s (short-payload s (c .if1 .taken))
-
-shared-slice-read-if2 : tie.Need-shared-slice-read-if2
-shared-slice-read-if2 c = search needs
-
-returns-2 : tie.Need-returns-2
-returns-2 c =
-    part-only (c .before .before .before .before .args .payload .now) (c .before .before .if1 .left) (omega (arith, c .before .shared-slice-known2 .given 0)) (c .if2 .taken)
-
-shared-slice-read-if3 : tie.Need-shared-slice-read-if3
-shared-slice-read-if3 c = search needs
-
-returns-3 : tie.Need-returns-3
-returns-3 c =
-    let s = c .before .before .before .before .before .before .args .payload .now in
-    several-only s (c .before .before .before .before .if1 .left) (c .before .before .if2 .left) (λ e. c .if3 .taken (omega (arith, e, and-mask (getD s 0 0) 1)))
+returns c = no-start (c .before .before .before .args .payload .now) (sym (c .before .starts-pa .ensures) ∙ not-true _ (c .if1 .taken))
 
 sub-message : tie.Need-sub-message
-sub-message c = search needs
+sub-message c = two-long _ (c .before .starts-pa .ensures) (c .if1 .left)
 
 part-message-start : tie.Need-part-message-start
-part-message-start c = search needs
+part-message-start c = two-long _ (c .before .starts-pa .ensures) (c .if1 .left)
 
 part-message-end : tie.Need-part-message-end
 part-message-end c = search needs
@@ -51,29 +47,21 @@ part-message-end c = search needs
 message-requires : tie.Need-message-requires
 message-requires c κs = search needs
 
-enum-known-number : tie.Need-enum-known-number
-enum-known-number c = search needs
+enum-known-end : tie.Need-enum-known-end
+enum-known-end c = search needs
 
 enum-told : tie.Need-enum-told
 enum-told c = search needs
 
-returns-4 : tie.Need-returns-4
-returns-4 c =
+returns-2 : tie.Need-returns-2
+returns-2 c =
     let f = c .before .before .before .before in
-    let s = f .before .before .before .before .before .before .args .payload .now in
-    no-message s (f .before .before .before .before .if1 .left) (f .before .before .if2 .left) (omega (arith, f .if3 .left, and-mask (getD s 0 0) 1))
-    (rw (c .enum-told .given .1) at (c .before .before .message .ensures))
-
-returns-5 : tie.Need-returns-5
-returns-5 c =
-    let f = c .before .before .before .before .before .before in
-    let s = f .before .before .before .before .before .before .args .payload .now in
-    other-number s (f .before .before .before .before .if1 .left) (f .before .before .if2 .left) (omega (arith, f .if3 .left, and-mask (getD s 0 0) 1)) _ _ _
-    (rw (c .before .before .number .given .1) at (c .before .before .before .before .message .ensures)) (c .if4 .taken)
+    let s = f .before .before .before .args .payload .now in
+    no-message s (started s (sym (f .before .starts-pa .ensures) ∙ not-false _ (f .if1 .left))) (rw (c .enum-told .given .1) at (c .before .before .message .ensures))
 
 add-last : tie.Need-add-last
 add-last c =
-    let k = rw (c .before .before .number .given .1) at (c .before .before .before .before .message .ensures) in
+    let k = rw (c .before .end .given .1) at (c .before .before .before .message .ensures) in
     omega (arith, k .2)
 
 sub-pa-tables : tie.Need-sub-pa-tables
@@ -94,29 +82,25 @@ enum-known-tables c = search needs
 enum-told-2 : tie.Need-enum-told-2
 enum-told-2 c = search needs
 
-returns-6 : tie.Need-returns-6
-returns-6 c = headless-pa _ _ (ends (c .before .before .before .before)) (rw (c .enum-told2 .given .1) at (c .before .before .pa-tables .ensures))
+returns-3 : tie.Need-returns-3
+returns-3 c = headless-pa _ _ (ends (c .before .before .before .before)) (rw (c .enum-told2 .given .1) at (c .before .before .pa-tables .ensures))
 
-returns-7 : tie.Need-returns-7
-returns-7 c = pa-place _ _ (ends (c .before .before .before .before .before)) _ (rw (c .before .tables .given .1) at (c .before .before .before .pa-tables .ensures))
+returns-4 : tie.Need-returns-4
+returns-4 c = pa-place _ _ (ends (c .before .before .before .before .before)) _ (rw (c .before .tables .given .1) at (c .before .before .before .pa-tables .ensures))
 
 pub pa-of-spec : {M : Type 1} → statement M
 pa-of-spec =
     tie.close
     (tie.spec
+    starts-pa-requires
     returns
-    shared-slice-read-if2
-    returns-2
-    shared-slice-read-if3
-    returns-3
     sub-message
     part-message-start
     part-message-end
     message-requires
-    enum-known-number
+    enum-known-end
     enum-told
-    returns-4
-    returns-5
+    returns-2
     add-last
     sub-pa-tables
     part-pa-tables-start
@@ -124,5 +108,5 @@ pa-of-spec =
     pa-tables-requires
     enum-known-tables
     enum-told-2
-    returns-6
-    returns-7)
+    returns-3
+    returns-4)

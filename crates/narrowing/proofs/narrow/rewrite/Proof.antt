@@ -1,103 +1,50 @@
-use mathlib.Core.Path.{refl}
-use native.Mathlib.Omega.{arith}
-use Rattle.narrowing.proofs.PlaceLaws.{front-long, payload-room, packet-stays, packet-rewritten}
+use Prim.Native.Nat.{_-_}
+use mathlib.Core.Path.{refl, sym, _∙_}
+use lib.ListN.{length, take, drop}
 use borrow.Author.Needs.{needs}
+use borrow.Author.Tests.{not-true}
+use Rattle.narrowing.proofs.PayloadLaws.{no-start, no-pa-stays}
+use Rattle.narrowing.proofs.PlaceLaws.{packet-stays}
 use Rattle.narrowing.proofs.narrow.rewrite.Statement.{statement}
 use Rattle.narrowing.proofs.narrow.rewrite.Tie as tie
 
-sub-payload : tie.Need-sub-payload
-sub-payload c = search needs
+sub-starts-pa : tie.Need-sub-starts-pa
+sub-starts-pa c = search needs
 
-part-payload-start : tie.Need-part-payload-start
-part-payload-start c = search needs
+part-starts-pa-start : tie.Need-part-starts-pa-start
+part-starts-pa-start c = search needs
 
-part-payload-end : tie.Need-part-payload-end
-part-payload-end c = search needs
+part-starts-pa-end : tie.Need-part-starts-pa-end
+part-starts-pa-end c = search needs
 
-changed-pa-requires : tie.Need-changed-pa-requires
-changed-pa-requires c κs = search needs
-
-enum-known-end : tie.Need-enum-known-end
-enum-known-end c = search needs
-
-enum-told : tie.Need-enum-told
-enum-told c = search needs
+starts-pa-requires : tie.Need-starts-pa-requires
+starts-pa-requires c κs = search needs
 
 returns : tie.Need-returns
 returns c =
-    let a = c .before .before .before .before .before .before .args in
-    (packet-stays (a .o) (a .pid) (a .p .now) (a .body) (rw (c .enum-told .given .1) at (c .before .before .changed-pa .ensures)), refl)
+    let a = c .before .before .before .before .before .args in
+    let payload = take (length (a .p .now) - a .body) (drop (a .body) (a .p .now)) in
+    let none-there = no-start payload (sym (c .before .starts-pa .ensures) ∙ not-true _ (c .if1 .taken)) in
+    (packet-stays (a .o) (a .pid) (a .p .now) (a .body) (no-pa-stays (a .o) (a .pid) payload none-there), refl)
 
-sub-copy : tie.Need-sub-copy
-sub-copy c = search needs
-
-part-copy-start : tie.Need-part-copy-start
-part-copy-start c = search needs
-
-part-copy-end : tie.Need-part-copy-end
-part-copy-end c = search needs
-
-copy-requires : tie.Need-copy-requires
-copy-requires c κs = search needs
-
-payload-to-requires : tie.Need-payload-to-requires
-payload-to-requires c κs =
-    let z = c .before .before .before .before .before .before .before .before .before .before .before .before .before in
-    let a = z .args in
-    let k = rw (c .before .before .before .before .before .before .before .end .given .1) at (c .before .before .before .before .before .before .before .before .before .changed-pa .ensures) in
-    let u = c .before .before .before .copy in
-    (k .0, payload-room (a .p .now) (a .body) (z .pre .1) (u .ensures) _ _ (k .0) (z .pre .2) (u .kept .1 .0))
-
-add-put16 : tie.Need-add-put16
-add-put16 c = search needs
-
-sub-put16 : tie.Need-sub-put16
-sub-put16 c =
-    let z = c .before .before .before .before .before .before .before .before .before .before .before .before .before .before .before .before .before in
-    let a = z .args in
-    let k = rw (c .before .before .before .before .before .before .before .before .before .before .before .end .given .1) at (c .before .before .before .before .before .before .before .before .before .before .before .before .before .changed-pa .ensures) in
-    omega (arith, c .before .before .before .before .before .before .before .copy .ensures .end, c .before .before .before .payload-to .ensures (k .0) .end, front-long (a .p .now) (a .body) (z .pre .1))
-
-sub-put16-2 : tie.Need-sub-put16-2
-sub-put16-2 c =
-    let z = c .before .before .before .before .before .before .before .before .before .before .before .before .before .before .before .before .before in
-    let a = z .args in
-    let k = rw (c .before .before .before .before .before .before .before .before .before .before .before .end .given .1) at (c .before .before .before .before .before .before .before .before .before .before .before .before .before .changed-pa .ensures) in
-    omega (arith, z .pre .0, c .before .before .before .before .before .before .before .copy .ensures .end, c .before .before .before .payload-to .ensures (k .0) .end, front-long (a .p .now) (a .body) (z .pre .1))
-
-put16-requires : tie.Need-put16-requires
-put16-requires c κs = search needs
+narrowed-to-requires : tie.Need-narrowed-to-requires
+narrowed-to-requires c κs = c .before .before .before .before .before .before .pre
 
 same-length : tie.Need-same-length
 same-length c = search needs
 
 returns-2 : tie.Need-returns-2
-returns-2 c =
-    let z = c .before .before .before .before .before .before .before .before .before .before .before .before .before .before .before .before .before .before .before .before in
-    let a = z .args in
-    let k = rw (c .before .before .before .before .before .before .before .before .before .before .before .before .before .before .end .given .1) at (c .before .before .before .before .before .before .before .before .before .before .before .before .before .before .before .before .changed-pa .ensures) in
-    packet-rewritten (a .o) (a .pid) (a .p .now) (a .body) (z .pre .0) (z .pre .1) _ _ k (omega (arith, z .pre .2)) (c .before .before .before .before .before .before .before .before .before .before .copy .ensures)
-    (c .before .before .before .before .before .before .payload-to .ensures (k .0)) (c .before .before .put16 .ensures)
+returns-2 c = c .before .before .narrowed-to .ensures
 
 pub rewrite-spec : {M : Type 1} → statement M
 rewrite-spec =
     tie.close
     (tie.spec
-    sub-payload
-    part-payload-start
-    part-payload-end
-    changed-pa-requires
-    enum-known-end
-    enum-told
+    sub-starts-pa
+    part-starts-pa-start
+    part-starts-pa-end
+    starts-pa-requires
     returns
-    sub-copy
-    part-copy-start
-    part-copy-end
-    copy-requires
-    payload-to-requires
-    add-put16
-    sub-put16
-    sub-put16-2
-    put16-requires
+    narrowed-to-requires
     same-length
     returns-2)
