@@ -1,4 +1,6 @@
--- Laws that the proofs of the record, of the tally and of answers cite.
+-- Laws that the proofs of the record and of its calls cite.
 pub mod AnswerLaws
-pub mod SoundnessLaws
-pub mod TallyLaws
+pub mod SlotLaws
+pub mod StateLaws
+pub mod CallLaws
+pub mod PushLaws

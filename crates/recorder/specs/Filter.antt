@@ -1,11 +1,11 @@
 -- The definition's record of the struct.
-use Prim.Native.Nat.{ℕ}
+use mathlib.Core.Bool.{false}
+use lib.ListN.{replicate}
 use Rattle.meaning.specs.Learn.{Limits}
 use Rattle.meaning.specs.Record.{Record}
+use Rattle.meaning.specs.declared.Options.{Options}
+use Rattle.soundness.specs.Parts.{limitsOf}
 use Rattle.recorder.specs.declared.Filter.{Filter}
-
-abbrev pub limitsOf : ℕ → ℕ → ℕ → Limits
-limitsOf work total most = record { work = work; total = total; most = most }
 
 unfoldable pub recordIn : Filter → Record
 recordIn f = record {
@@ -20,4 +20,20 @@ recordIn f = record {
   packages = f .packages;
   maps = f .maps;
   fragments = f .fragments;
+}
+
+-- A record that holds and knows nothing.
+abbrev pub freshRecord : Limits → Options → Record
+freshRecord L o = record {
+  limits = L;
+  options = o;
+  held = 0;
+  plt-seen = false;
+  package-count = 0;
+  map-count = 0;
+  fragment-count = 0;
+  carousels = replicate 1024 0;
+  packages = replicate 255 0;
+  maps = replicate 64 0;
+  fragments = replicate 256 0;
 }

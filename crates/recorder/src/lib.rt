@@ -1,8 +1,31 @@
-// The filter's record: what a recorder has between two calls, beside the three lent rooms.
+// The filter's record, what a recorder has between two calls beside the three lent rooms, and its calls: start, push, dropped. Rests on
+// `call` for a push, on `soundness` for what is asked of rooms and record, on `rules` for the number of dropped identifiers.
+mod call;
+mod slots;
 pub mod sound;
-pub mod tally;
 
+ghost use mathlib.Core.Path.{_≡_};
+ghost use lib.ListN.{length};
+ghost use Rattle.meaning.specs.Refusals.{numberOf, answerNumber};
+ghost use Rattle.meaning.specs.Push.{blank};
+ghost use Rattle.soundness.specs.Parts.{limitsOf};
+ghost use Rattle.recorder.specs.Filter.{recordIn, freshRecord};
+ghost use Rattle.recorder.specs.Calls.{StartedAs, PushedAs, DroppedAs};
+use crate::call::answered;
+use crate::call::call_answer;
+use crate::slots::clear32;
+use crate::sound::is_sound;
+use learning::Extent;
+use meaning::Answer;
+use meaning::Counts;
 use meaning::Options;
+use meaning::Refusal;
+use meaning::Service;
+use rules::dropped;
+use soundness::Limits;
+use soundness::good_fragments;
+use soundness::good_maps;
+use soundness::good_work;
 
 // The record, as specs/Record.antt of `meaning` has it. Unused slots are zero.
 pub struct Filter {
@@ -26,4 +49,193 @@ pub struct Filter {
     pub maps: [u32; 64],
     // identifier * 2^48 + flags * 2^40 + length
     pub fragments: [u64; 256],
+}
+
+// What a start answers, and the record to begin with; refused, one that can be used for nothing.
+pub struct Started {
+    pub answer: Answer,
+    pub filter: Filter,
+}
+
+// Nothing held and nothing known.
+fn fresh(work: usize, total: usize, most: usize, options: Options) -> Filter
+    ensures { λ r. ⌜ recordIn r ≡ freshRecord (limitsOf work total most) options ⌝ }
+{
+    Filter {
+        work,
+        total,
+        most,
+        options,
+        held: 0,
+        seen: false,
+        package_count: 0,
+        map_count: 0,
+        fragment_count: 0,
+        carousels: [0u64; 1024],
+        packages: [0u32; 255],
+        maps: [0u32; 64],
+        fragments: [0u64; 256],
+    }
+}
+
+fn not_started(r: Refusal) -> Started
+    ensures { λ x. ⌜ (answerNumber (x .answer) ≡ numberOf r) × (recordIn (x .filter) ≡ blank) ⌝ }
+{
+    let o = Options {
+        service: Service::Every,
+        caption: false,
+        carousel: false,
+        eit: false,
+    };
+    Started {
+        answer: Answer::Refused(r),
+        filter: fresh(0, 0, 0, o),
+    }
+}
+
+// A recorder with these rooms; at most `most` bytes of one message are held.
+pub fn start(work: &[u8], bodies: &[u8], room: &[u16], most: usize, options: Options) -> Started
+    ensures { λ x. ⌜ StartedAs (limitsOf (length (now (work .entry))) (length (now (bodies .entry))) most) options (now (room .entry)) x ⌝ }
+{
+    if !good_work(work.len()) {
+        return not_started(Refusal::WorkRoom);
+    }
+    if !good_fragments(bodies.len(), most) {
+        return not_started(Refusal::FragmentRoom);
+    }
+    if !good_maps(room.len()) {
+        return not_started(Refusal::MapRoom);
+    }
+    Started {
+        answer: Answer::Done,
+        filter: fresh(work.len(), bodies.len(), most, options),
+    }
+}
+
+// What a push answers, its counts, and the record to go on with.
+pub struct Pushed {
+    pub answer: Answer,
+    pub counts: Counts,
+    pub filter: Filter,
+}
+
+// How many identifiers the rules drop; 0 where the record is refused.
+pub struct Dropped {
+    pub answer: Answer,
+    pub count: u32,
+}
+
+impl Filter {
+    // Takes in a chunk; what goes on is written to the output. The arrays are taken out once and put back once: the record is large.
+    pub fn push(
+        self,
+        chunk: &[u8],
+        work: &mut [u8],
+        bodies: &mut [u8],
+        room: &mut [u16],
+        out: &mut [u8],
+    ) -> Pushed
+        ensures { λ r. ⌜ PushedAs (recordIn self) (now (work .entry)) (now (bodies .entry)) (now (room .entry)) (now (chunk .entry)) (now (out .entry)) r (now (work .exit)) (now (bodies .exit)) (now (room .exit)) (now (out .exit)) ⌝ }
+    {
+        let l = Limits {
+            work: self.work,
+            total: self.total,
+            most: self.most,
+        };
+        let o = self.options;
+        let e = Extent {
+            seen: self.seen,
+            packages: self.package_count,
+            maps: self.map_count,
+            fragments: self.fragment_count,
+            lost: 0,
+            changed: false,
+        };
+        let mut carousels = self.carousels;
+        let mut packages = self.packages;
+        let mut maps = self.maps;
+        let mut heads = self.fragments;
+        let a = call_answer(
+            l,
+            o,
+            self.held,
+            e,
+            &packages,
+            &maps,
+            &heads,
+            work.len(),
+            bodies.len(),
+            room.len(),
+            chunk.len(),
+            out.len(),
+        );
+        let r = answered(
+            a,
+            self.held,
+            chunk,
+            e,
+            o,
+            self.most,
+            &mut carousels,
+            &mut packages,
+            &mut maps,
+            room,
+            &mut heads,
+            bodies,
+            work,
+            out,
+        );
+        let after = r.extent;
+        let c = r.counts;
+        let f = Filter {
+            work: self.work,
+            total: self.total,
+            most: self.most,
+            options: o,
+            held: r.held,
+            seen: after.seen,
+            package_count: after.packages,
+            map_count: after.maps,
+            fragment_count: after.fragments,
+            carousels,
+            packages,
+            maps,
+            fragments: heads,
+        };
+        Pushed {
+            answer: a,
+            counts: c,
+            filter: f,
+        }
+    }
+
+    // How many identifiers the present rules drop.
+    pub fn dropped(self, work: &[u8], bodies: &[u8], room: &[u16]) -> Dropped
+        ensures { λ r. ⌜ DroppedAs (recordIn self) (now (work .entry)) (now (bodies .entry)) (now (room .entry)) r ⌝ }
+    {
+        if !is_sound(self, work.len(), bodies.len(), room.len()) {
+            return Dropped {
+                answer: Answer::Refused(Refusal::Unsound),
+                count: 0,
+            };
+        }
+        let o = self.options;
+        let e = Extent {
+            seen: self.seen,
+            packages: self.package_count,
+            maps: self.map_count,
+            fragments: self.fragment_count,
+            lost: 0,
+            changed: false,
+        };
+        let carousels = self.carousels;
+        let mut packages = self.packages;
+        let mut maps = self.maps;
+        clear32(&mut packages, self.package_count);
+        clear32(&mut maps, self.map_count);
+        Dropped {
+            answer: Answer::Done,
+            count: dropped(o, e, &carousels, &packages, &maps, room),
+        }
+    }
 }

@@ -1,0 +1,261 @@
+// A call that is not refused: in copy-all the chunk is copied, else held bytes and chunk are one run in the work room, and its packets are
+// passed.
+ghost use mathlib.Core.Path.{_≡_};
+ghost use Prim.Native.Nat.{_≤_};
+ghost use mathlib.Core.Bool.{true, cond};
+ghost use lib.Dec.{eqb};
+ghost use lib.ListN.{length};
+ghost use Rattle.meaning.specs.Writing.{Wrote};
+ghost use Rattle.meaning.specs.Rules.{copiesAll};
+ghost use Rattle.meaning.specs.Refusals.{packetLimit, answerNumber};
+ghost use Rattle.meaning.specs.Push.{countsOf, filtered, push, lengthRefusal};
+ghost use Rattle.learning.specs.Observed.{HoldingSome};
+ghost use Rattle.soundness.specs.Parts.{limitsOf, partsSound};
+ghost use Rattle.recorder.specs.Calls.{RoomFor, RunsAs, Answerable, AnsweredAs};
+use crate::slots::clear32;
+use crate::slots::clear64;
+use learning::Extent;
+use meaning::Answer;
+use meaning::Counts;
+use meaning::Options;
+use meaning::Refusal;
+use octets::copy;
+use octets::move_down;
+use passing::Progress;
+use passing::Terms;
+use passing::packets;
+use rules::decide;
+use rules::ready;
+use soundness::Limits;
+use soundness::copies_all;
+use soundness::packet_limit;
+use soundness::parts_sound;
+
+pub fn counts_of(bytes: usize) -> Counts
+    ensures { λ r. ⌜ r ≡ countsOf bytes ⌝ }
+{
+    Counts {
+        bytes,
+        accepted: 0,
+        written: 0,
+        rewritten: 0,
+        skipped: 0,
+        lost: 0,
+    }
+}
+
+// What a call leaves beside the arrays.
+pub struct Ran {
+    pub extent: Extent,
+    pub counts: Counts,
+    pub held: usize,
+}
+
+// The lost maps of the call go to its counts.
+fn ended(p: Progress, held: usize) -> Ran
+    ensures { λ r. ⌜ r ≡ record { extent = p .extent; counts = record { bytes = p .counts .bytes; accepted = p .counts .accepted; written = p .counts .written; rewritten = p .counts .rewritten; skipped = p .counts .skipped; lost = p .extent .lost }; held = held } ⌝ }
+{
+    let e = p.extent;
+    let c = p.counts;
+    Ran {
+        extent: e,
+        counts: Counts {
+            bytes: c.bytes,
+            accepted: c.accepted,
+            written: c.written,
+            rewritten: c.rewritten,
+            skipped: c.skipped,
+            lost: e.lost,
+        },
+        held,
+    }
+}
+
+// The packets of held bytes and chunk.
+fn filtered(
+    held: usize,
+    chunk: &[u8],
+    e: Extent,
+    t: Terms,
+    carousels: &mut [u64; 1024],
+    packages: &mut [u32; 255],
+    maps: &mut [u32; 64],
+    room: &mut [u16],
+    heads: &mut [u64; 256],
+    bodies: &mut [u8],
+    work: &mut [u8],
+    out: &mut [u8],
+) -> Ran
+    requires { ⌜ RoomFor e held (now chunk) (now work) (now out) × (t .limit ≡ packetLimit (length (now work))) × HoldingSome e (now carousels) (now packages) (now maps) (now room) (now heads) (now bodies) ⌝ }
+    ensures { λ r. ⌜ RunsAs (λ L st. filtered L (t .options) st (now (chunk .entry))) (t .most) held e (now (carousels .entry)) (now (packages .entry)) (now (maps .entry)) (now (room .entry)) (now (heads .entry)) (now (bodies .entry)) (now (work .entry)) (now (out .entry)) r (now (carousels .exit)) (now (packages .exit)) (now (maps .exit)) (now (room .exit)) (now (heads .exit)) (now (bodies .exit)) (now (work .exit)) (now (out .exit)) ⌝ }
+{
+    let mut set = [0u64; 1024];
+    let o = t.options;
+    decide(o, e, carousels, packages, maps, room, &mut set);
+    let service = o.service;
+    let is_ready = ready(service, e, packages, maps);
+    let n = copy(chunk, work, held);
+    let first = Progress {
+        extent: e,
+        counts: counts_of(0),
+        ready: is_ready,
+    };
+    let x = packets(
+        &work[0..n],
+        0,
+        first,
+        t,
+        carousels,
+        packages,
+        maps,
+        room,
+        heads,
+        bodies,
+        &mut set,
+        out,
+    );
+    let at = x.at;
+    move_down(work, at, n - at, 0);
+    ended(x.progress, n - at)
+}
+
+fn copied(chunk: &[u8], e: Extent, out: &mut [u8]) -> Ran
+    requires { ⌜ length (now chunk) ≤ length (now out) ⌝ }
+    ensures { λ r. ⌜ (r ≡ record { extent = e; counts = countsOf (length (now (chunk .entry))); held = 0 }) × Wrote (now (chunk .entry)) (now (out .entry)) 0 (now (out .exit)) (length (now (chunk .entry))) ⌝ }
+{
+    let n = copy(chunk, out, 0);
+    Ran {
+        extent: e,
+        counts: counts_of(n),
+        held: 0,
+    }
+}
+
+// A call that is not refused.
+pub fn run_call(
+    held: usize,
+    chunk: &[u8],
+    e: Extent,
+    o: Options,
+    most: usize,
+    carousels: &mut [u64; 1024],
+    packages: &mut [u32; 255],
+    maps: &mut [u32; 64],
+    room: &mut [u16],
+    heads: &mut [u64; 256],
+    bodies: &mut [u8],
+    work: &mut [u8],
+    out: &mut [u8],
+) -> Ran
+    requires { ⌜ RoomFor e held (now chunk) (now work) (now out) × (copiesAll o ≡ true → held ≡ 0) × HoldingSome e (now carousels) (now packages) (now maps) (now room) (now heads) (now bodies) ⌝ }
+    ensures { λ r. ⌜ RunsAs (λ L st. push L o st (now (chunk .entry))) most held e (now (carousels .entry)) (now (packages .entry)) (now (maps .entry)) (now (room .entry)) (now (heads .entry)) (now (bodies .entry)) (now (work .entry)) (now (out .entry)) r (now (carousels .exit)) (now (packages .exit)) (now (maps .exit)) (now (room .exit)) (now (heads .exit)) (now (bodies .exit)) (now (work .exit)) (now (out .exit)) ⌝ }
+{
+    if copies_all(o) {
+        return copied(chunk, e, out);
+    }
+    let t = Terms {
+        options: o,
+        limit: packet_limit(work.len()),
+        most,
+    };
+    filtered(
+        held,
+        chunk,
+        e,
+        t,
+        carousels,
+        packages,
+        maps,
+        room,
+        heads,
+        bodies,
+        work,
+        out,
+    )
+}
+
+pub fn is_done(a: Answer) -> bool
+    ensures { λ r. ⌜ r ≡ eqb (answerNumber a) 0 ⌝ }
+{
+    match a {
+        Answer::Done => true,
+        Answer::Refused(_) => false,
+    }
+}
+
+// A call by its answer: refused, nothing is touched.
+pub fn answered(
+    a: Answer,
+    held: usize,
+    chunk: &[u8],
+    e: Extent,
+    o: Options,
+    most: usize,
+    carousels: &mut [u64; 1024],
+    packages: &mut [u32; 255],
+    maps: &mut [u32; 64],
+    room: &mut [u16],
+    heads: &mut [u64; 256],
+    bodies: &mut [u8],
+    work: &mut [u8],
+    out: &mut [u8],
+) -> Ran
+    requires { ⌜ Answerable (eqb (answerNumber a) 0) o held e (now chunk) (now carousels) (now packages) (now maps) (now room) (now heads) (now bodies) (now work) (now out) ⌝ }
+    ensures { λ r. ⌜ AnsweredAs (eqb (answerNumber a) 0) o (now (chunk .entry)) most held e (now (carousels .entry)) (now (packages .entry)) (now (maps .entry)) (now (room .entry)) (now (heads .entry)) (now (bodies .entry)) (now (work .entry)) (now (out .entry)) r (now (carousels .exit)) (now (packages .exit)) (now (maps .exit)) (now (room .exit)) (now (heads .exit)) (now (bodies .exit)) (now (work .exit)) (now (out .exit)) ⌝ }
+{
+    if !is_done(a) {
+        return Ran {
+            extent: e,
+            counts: counts_of(0),
+            held,
+        };
+    }
+    clear32(packages, e.packages);
+    clear32(maps, e.maps);
+    clear64(heads, e.fragments);
+    run_call(
+        held,
+        chunk,
+        e,
+        o,
+        most,
+        carousels,
+        packages,
+        maps,
+        room,
+        heads,
+        bodies,
+        work,
+        out,
+    )
+}
+
+// Why a call is refused: its record, then the chunk's length, then the output's.
+pub fn call_answer(
+    l: Limits,
+    o: Options,
+    held: usize,
+    e: Extent,
+    packages: &[u32; 255],
+    maps: &[u32; 64],
+    heads: &[u64; 256],
+    w: usize,
+    t: usize,
+    m: usize,
+    chunk: usize,
+    out: usize,
+) -> Answer
+    requires { ⌜ (length (now packages) ≡ 255) × (length (now maps) ≡ 64) × (length (now heads) ≡ 256) ⌝ }
+    ensures { λ r. ⌜ answerNumber r ≡ cond (partsSound (limitsOf (l .work) (l .total) (l .most)) o held e (now (packages .entry)) (now (maps .entry)) (now (heads .entry)) w t m) (lengthRefusal w held chunk out) 4 ⌝ }
+{
+    if !parts_sound(l, o, held, e, packages, maps, heads, w, t, m) {
+        return Answer::Refused(Refusal::Unsound);
+    }
+    if w - packet_limit(w) < chunk {
+        return Answer::Refused(Refusal::Long);
+    }
+    if out < held + chunk {
+        return Answer::Refused(Refusal::Short);
+    }
+    Answer::Done
+}

@@ -1,0 +1,2 @@
+-- What is asked of the parts of a record.
+pub mod Parts

@@ -1,0 +1,15 @@
+-- The definition's `sound`, of a record taken apart: its limits, its options, how much is held and known, and its arrays.
+use Prim.Native.Nat.{ℕ}
+use mathlib.Core.Bool.{Bool, _&&_}
+use mathlib.Core.List.{List}
+use Rattle.meaning.specs.Learn.{Limits}
+use Rattle.meaning.specs.Record.{soundRooms, soundHeld, soundPackages, soundMaps, soundFragments}
+use Rattle.meaning.specs.declared.Options.{Options}
+use Rattle.learning.specs.declared.Extent.{Extent}
+
+abbrev pub limitsOf : ℕ → ℕ → ℕ → Limits
+limitsOf work total most = record { work = work; total = total; most = most }
+
+abbrev pub partsSound : Limits → Options → ℕ → Extent → List ℕ → List ℕ → List ℕ → ℕ → ℕ → ℕ → Bool
+partsSound L o held e packages maps heads w t m =
+    soundRooms L w t m && soundHeld L o held && soundPackages (e .packages) packages && soundMaps (e .maps) maps && soundFragments t (e .fragments) heads

@@ -1,0 +1,3 @@
+-- Laws that the proofs of the tally and of answers cite.
+pub mod AnswerLaws
+pub mod TallyLaws
