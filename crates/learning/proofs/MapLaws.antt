@@ -27,7 +27,7 @@ use Rattle.tables.specs.declared.assets.Asset.{Asset}
 use Rattle.tables.specs.declared.fields.End.{End}
 use Rattle.tables.specs.declared.locations.Carrier.{Carrier}
 use Rattle.learning.specs.News.{sameNumbers, listNew}
-use Rattle.learning.specs.Steps.{numbersOf, AssetsAre, HeadsAre, lostOne, ListLearnt, MptLearnt}
+use Rattle.learning.specs.Learnt.{numbersOf, AssetsAre, HeadsAre, lostOne, ListLearnt, MptLearnt}
 use Rattle.learning.specs.Kept.{pairsIn, KeptMaps}
 use Rattle.learning.specs.declared.Extent.{Extent}
 use Rattle.learning.proofs.PairLaws.{pairs-in}

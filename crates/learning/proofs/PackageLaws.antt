@@ -28,7 +28,7 @@ use Rattle.meaning.proofs.ListLaws.{clash, and-both, and-true, or-right}
 use Rattle.meaning.proofs.Holds.{plt-holds}
 use Rattle.learning.specs.Kept.{pairsIn, Pairs, KeptPackages}
 use Rattle.learning.specs.News.{sameNumbers, samePairs}
-use Rattle.learning.specs.Steps.{before, taken, PackagesAre, PltLearnt}
+use Rattle.learning.specs.Learnt.{before, taken, PackagesAre, PltLearnt}
 use Rattle.learning.specs.declared.Extent.{Extent}
 use Rattle.learning.proofs.PairLaws.{same-refl, same-true, pairs-refl, pairs-true, pairs-as, pairs-in, first-in, in-length, first-at, pairs-put, pairs-insert}
 

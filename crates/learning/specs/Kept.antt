@@ -1,13 +1,12 @@
--- How the code holds what is known: pairs and fragment heads in arrays whose unused slots are zero, bodies one after the other at the front
--- of the fragment room. A record here says that arrays hold a state; a promise says what state they hold afterwards.
+-- How the code holds what is known of tables and messages: pairs in arrays whose unused slots are zero; how it holds fragments says the
+-- crate `fragments`. A record here says that arrays hold a state; a promise says what state they hold afterwards.
 use Prim.Native.Nat.{ℕ, _≤_}
 use mathlib.Core.Path.{_≡_}
 use mathlib.Core.List.{List, map}
 use lib.ListN.{length, take}
-use Rattle.meaning.specs.Bytes.{Bytes}
-use Rattle.meaning.specs.Learn.{Fragment, Known, heldBytes}
-use Rattle.meaning.specs.Record.{slots, packPair, pairOf, packHead}
-use Rattle.meaning.specs.Sound.{HoldsPackages, HoldsMaps, HoldsFragments, bodies}
+use Rattle.meaning.specs.Learn.{Known}
+use Rattle.meaning.specs.Record.{slots, packPair, pairOf}
+use Rattle.meaning.specs.Sound.{HoldsPackages, HoldsMaps}
 use Rattle.learning.specs.declared.Extent.{Extent}
 
 -- The pairs in the first n slots.
@@ -28,14 +27,6 @@ pub record KeptPackages (ps : List (ℕ × ℕ)) (n : ℕ) (xs : List ℕ) : Typ
 pub record KeptMaps (ms : List (ℕ × ℕ)) (n : ℕ) (xs : List ℕ) : Type 0 where
   pub pairs : Pairs 64 ms n xs
   pub hold : HoldsMaps ms
-
-pub record KeptFragments (T : ℕ) (fs : List Fragment) (n : ℕ) (heads : List ℕ) (room : Bytes) : Type 0 where
-  pub count : n ≡ length fs
-  pub are : heads ≡ slots 256 (map packHead fs)
-  pub front : take (heldBytes fs) room ≡ bodies fs
-  pub total : length room ≡ T
-  pub total-few : T ≤ 16777216
-  pub hold : HoldsFragments T fs
 
 -- What is known of tables and messages: all but the fragments.
 pub record Keeps (k : Known) (e : Extent) (carousels packages maps room : List ℕ) : Type 0 where

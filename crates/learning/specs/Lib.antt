@@ -1,6 +1,4 @@
--- How what is known stands in arrays and rooms, and what a call tells as changed.
+-- How what is known of tables stands in arrays, when a PLT or an MPT changes it, and what becomes of it then.
 pub mod Kept
-pub mod Fragments
 pub mod News
-pub mod Steps
-pub mod Observed
+pub mod Learnt

@@ -1,8 +1,5 @@
-// What is learned from signalling: packages, map lists, data-carousel identifiers, fragments of messages. No wish comes in.
-pub mod fragments;
+// What tables teach: the packages of a PLT, the lists of assets that MPTs give. No wish comes in.
 pub mod lists;
-pub mod messages;
-pub mod observe;
 pub mod packages;
 
 // How much is known, how many maps were lost on the way, and whether anything changed.

@@ -1,15 +1,15 @@
 // The lists of assets that MPTs give: their heads in an array, identifier and count in one number, their assets in the map room.
 ghost use mathlib.Core.Path.{_≡_};
-ghost use Prim.Native.Nat.{ℕ, suc, max, _+_, _-_, _*_, _/_, _%_, _≤_, _<_};
+ghost use Prim.Native.Nat.{ℕ, max, _+_, _-_, _*_, _/_, _≤_, _<_};
 ghost use mathlib.Core.Bool.{_&&_};
 ghost use lib.Dec.{ltb, eqb};
-ghost use mathlib.Core.List.{List, [], _∷_, _++_};
+ghost use mathlib.Core.List.{List, _++_};
 ghost use lib.ListN.{length, take, drop, getD};
 ghost use Rattle.meaning.specs.Tables.{mpt};
 ghost use Rattle.meaning.specs.Learn.{kindNumber, over, placeFor};
 ghost use Rattle.learning.specs.Kept.{pairsIn, KeptMaps};
 ghost use Rattle.learning.specs.News.{sameNumbers};
-ghost use Rattle.learning.specs.Steps.{numbersOf, AssetsAre, HeadsAre, MptLearnt};
+ghost use Rattle.learning.specs.Learnt.{numbersOf, AssetsAre, HeadsAre, MptLearnt};
 use crate::Extent;
 use meaning::Part;
 use octets::wide;

@@ -18,7 +18,7 @@ use Rattle.meaning.specs.Push.{Passed, passOne, pass, withheld}
 use Rattle.meaning.specs.declared.Options.{Options}
 use Rattle.meaning.specs.declared.Counts.{Counts}
 use Rattle.meaning.proofs.Writes.{wrote-then}
-use Rattle.learning.specs.Observed.{Holding}
+use Rattle.observing.specs.Observed.{Holding}
 use Rattle.rules.specs.Changes.{SetIs}
 use Rattle.passing.specs.declared.Progress.{Progress}
 use Rattle.passing.specs.Passing.{Sofar, countsFor}

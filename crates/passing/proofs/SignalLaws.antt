@@ -21,11 +21,11 @@ use Rattle.meaning.proofs.Writes.{wrote-none}
 use Rattle.meaning.proofs.Statements.{packet-shorter}
 use Rattle.narrowing.specs.Answers.{packetWith}
 use Rattle.learning.specs.Kept.{Keeps}
-use Rattle.learning.specs.News.{news}
-use Rattle.learning.specs.Observed.{Holding, Observed}
 use Rattle.learning.specs.declared.Extent.{Extent}
-use Rattle.learning.proofs.StepLaws.{or-false}
-use Rattle.learning.proofs.NewsLaws.{still, drops-still, ready-still}
+use Rattle.observing.specs.News.{news}
+use Rattle.observing.specs.Observed.{Holding, Observed}
+use Rattle.observing.proofs.StepLaws.{or-false}
+use Rattle.observing.proofs.NewsLaws.{still, drops-still, ready-still}
 use Rattle.rules.specs.Changes.{SetIs}
 use Rattle.passing.specs.declared.Progress.{Progress}
 use Rattle.passing.specs.Verdicts.{Signals}

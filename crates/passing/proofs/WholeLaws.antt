@@ -18,8 +18,8 @@ use Rattle.meaning.specs.Push.{Passed, pass, Pushed, pushed, filtered, countsOf
 use Rattle.meaning.specs.declared.Options.{Options}
 use Rattle.meaning.specs.declared.Counts.{Counts}
 use Rattle.meaning.proofs.Writes.{wrote-none}
-use Rattle.learning.specs.Observed.{Holding}
 use Rattle.learning.specs.declared.Extent.{Extent}
+use Rattle.observing.specs.Observed.{Holding}
 use Rattle.rules.specs.Changes.{SetIs}
 use Rattle.passing.specs.declared.Progress.{Progress}
 use Rattle.passing.specs.Passing.{Fits, Sofar}

@@ -16,8 +16,8 @@ use Rattle.meaning.specs.Push.{Passed, pass}
 use Rattle.meaning.specs.declared.Options.{Options}
 use Rattle.meaning.specs.declared.Counts.{Counts}
 use Rattle.learning.specs.Kept.{Keeps}
-use Rattle.learning.specs.Observed.{Holding}
 use Rattle.learning.specs.declared.Extent.{Extent}
+use Rattle.observing.specs.Observed.{Holding}
 use Rattle.rules.specs.Changes.{SetIs}
 use Rattle.passing.specs.declared.Terms.{Terms}
 use Rattle.passing.specs.declared.Progress.{Progress}

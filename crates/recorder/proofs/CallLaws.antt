@@ -20,7 +20,7 @@ use Rattle.meaning.specs.Record.{State}
 use Rattle.meaning.specs.declared.Options.{Options}
 use Rattle.meaning.specs.declared.Counts.{Counts}
 use Rattle.learning.specs.Kept.{Keeps}
-use Rattle.learning.specs.Observed.{Holding, HoldingSome}
+use Rattle.observing.specs.Observed.{Holding, HoldingSome}
 use Rattle.learning.specs.declared.Extent.{Extent}
 use Rattle.rules.specs.Changes.{SetIs}
 use Rattle.passing.specs.declared.Terms.{Terms}

@@ -17,9 +17,10 @@ use Rattle.meaning.specs.Sound.{HoldsPackages, HoldsMaps, HoldsFragments, bodie
 use Rattle.meaning.specs.declared.Options.{Options}
 use Rattle.meaning.proofs.ListLaws.{and-both}
 use Rattle.meaning.proofs.SoundLaws.{HoldsState, state-holds, state-back}
-use Rattle.learning.specs.Kept.{pairsIn, Pairs, KeptPackages, KeptMaps, KeptFragments}
-use Rattle.learning.specs.Fragments.{lens}
-use Rattle.learning.specs.Observed.{Holding}
+use Rattle.fragments.specs.Fragments.{KeptFragments}
+use Rattle.learning.specs.Kept.{pairsIn, Pairs, KeptPackages, KeptMaps}
+use Rattle.fragments.specs.Fragments.{lens}
+use Rattle.observing.specs.Observed.{Holding}
 use Rattle.learning.specs.declared.Extent.{Extent}
 use Rattle.learning.proofs.PairLaws.{in-length}
 use Rattle.soundness.proofs.PartLaws.{SoundParts, sound-parts}

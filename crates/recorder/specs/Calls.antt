@@ -13,7 +13,7 @@ use Rattle.meaning.specs.Record.{State, Record, stateOf}
 use Rattle.meaning.specs.Push.{Pushed, push, started, soundRefusal, called, droppedNow, countsOf}
 use Rattle.meaning.specs.Refusals.{answerNumber}
 use Rattle.meaning.specs.declared.Options.{Options}
-use Rattle.learning.specs.Observed.{Holding, HoldingSome}
+use Rattle.observing.specs.Observed.{Holding, HoldingSome}
 use Rattle.learning.specs.declared.Extent.{Extent}
 use Rattle.recorder.specs.declared.call.Ran.{Ran}
 use Rattle.recorder.specs.declared.Pushed as code

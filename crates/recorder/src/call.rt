@@ -9,7 +9,7 @@ ghost use Rattle.meaning.specs.Writing.{Wrote};
 ghost use Rattle.meaning.specs.Rules.{copiesAll};
 ghost use Rattle.meaning.specs.Refusals.{packetLimit, answerNumber};
 ghost use Rattle.meaning.specs.Push.{countsOf, filtered, push, lengthRefusal};
-ghost use Rattle.learning.specs.Observed.{HoldingSome};
+ghost use Rattle.observing.specs.Observed.{HoldingSome};
 ghost use Rattle.soundness.specs.Parts.{limitsOf, partsSound};
 ghost use Rattle.recorder.specs.Calls.{RoomFor, RunsAs, Answerable, AnsweredAs};
 use crate::slots::clear32;

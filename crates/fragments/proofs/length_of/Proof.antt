@@ -1,0 +1,12 @@
+use Rattle.meaning.specs.Record.{headLength}
+use mathlib.Core.Path.{refl}
+use native.Mathlib.Omega.{arith}
+use Rattle.fragments.proofs.length_of.Statement.{statement}
+use Rattle.fragments.proofs.length_of.Tie as tie
+
+returns : tie.Need-returns
+unfolding headLength
+returns c = (refl, omega arith)
+
+pub length-of-spec : {M : Type 1} → statement M
+length-of-spec = tie.close (tie.spec returns)

@@ -1,0 +1,15 @@
+use Rattle.meaning.specs.Record.{headLength}
+use native.Mathlib.Omega.{arith}
+use borrow.Author.Needs.{needs}
+use Rattle.fragments.proofs.longer.Statement.{statement}
+use Rattle.fragments.proofs.longer.Tie as tie
+
+add-result : tie.Need-add-result
+unfolding headLength
+add-result c = omega arith
+
+returns : tie.Need-returns
+returns c = search needs
+
+pub longer-spec : {M : Type 1} → statement M
+longer-spec = tie.close (tie.spec add-result returns)

@@ -1,0 +1,61 @@
+use Rattle.fragments.proofs.GrowLaws.{middle-joined, middle-discarded, middle-absent}
+use borrow.Author.Needs.{needs}
+use Rattle.fragments.proofs.middle.Statement.{statement}
+use Rattle.fragments.proofs.middle.Tie as tie
+
+grow-requires : tie.Need-grow-requires
+grow-requires c κs = search needs
+
+enum-told : tie.Need-enum-told
+enum-told c = search needs
+
+enum-known-m : tie.Need-enum-known-m
+enum-known-m c = search needs
+
+enum-told-2 : tie.Need-enum-told-2
+enum-told-2 c = search needs
+
+same-length : tie.Need-same-length
+same-length c = search needs
+
+returns : tie.Need-returns
+returns c =
+    let d = c .before .before .before .before in
+    let a = d .before .before .before .before .before .args in
+    let g = rw (c .enum-told .given .1) at (d .grow .ensures) in
+    middle-joined (a .id) (a .most) (a .body .now) (a .n) (a .heads .now) (a .room .now) _ _ _ (d .grow .last .1 .1 .1 .1 .0) (d .grow .last .1 .1 .1 .1 .1 .0) g
+
+same-length-2 : tie.Need-same-length-2
+same-length-2 c = search needs
+
+returns-2 : tie.Need-returns-2
+returns-2 c =
+    let d = c .before .before .before .before .before in
+    let a = d .before .before .before .before .before .args in
+    let g = rw (c .before .m .given .1) at (d .grow .ensures) in
+    middle-discarded (a .id) (a .most) (a .body .now) (a .n) (a .heads .now) (a .room .now) _ (d .grow .last .1 .1 .1 .1 .0) (d .grow .last .1 .1 .1 .1 .1 .0) g
+
+same-length-3 : tie.Need-same-length-3
+same-length-3 c = search needs
+
+returns-3 : tie.Need-returns-3
+returns-3 c =
+    let d = c .before .before .before .before in
+    let a = d .before .before .before .before .before .args in
+    let g = rw (c .enum-told2 .given .1) at (d .grow .ensures) in
+    middle-absent (a .id) (a .most) (a .body .now) (a .n) (a .heads .now) (a .room .now) (d .grow .last .1 .1 .1 .1 .0) (d .grow .last .1 .1 .1 .1 .1 .0) g
+
+pub middle-spec : {M : Type 1} → statement M
+middle-spec =
+    tie.close
+    (tie.spec
+    grow-requires
+    enum-told
+    enum-known-m
+    enum-told-2
+    same-length
+    returns
+    same-length-2
+    returns-2
+    same-length-3
+    returns-3)

@@ -1,0 +1,99 @@
+-- What the functions that read a PLT or an MPT promise, in the terms of the definitions: what the arrays hold afterwards, whatever they held.
+use Prim.Native.Nat.{ℕ, suc, max, _+_, _*_, _≤_}
+use mathlib.Core.Path.{_≡_}
+use mathlib.Core.Bool.{Bool, true, false, cond, not, _&&_, _||_}
+use mathlib.Core.List.{List, [], _∷_, _++_}
+use mathlib.Core.Option.{none, some}
+use lib.ListN.{length, take, drop, getD, set}
+use lib.Dec.{ltb, eqb}
+use Rattle.meaning.specs.Bytes.{Bytes}
+use Rattle.meaning.specs.Readers.{Out}
+use Rattle.meaning.specs.Tables.{Mpt, Package}
+use Rattle.meaning.specs.Learn.{Listed, kindNumber, assetNumbers, over, placeFor, listed, insertPackage, packagesIn}
+use Rattle.meaning.specs.declared.Part.{Part}
+use Rattle.tables.specs.declared.fields.End.{End}
+use Rattle.tables.specs.declared.locations.Carrier.{Carrier}
+use Rattle.tables.specs.declared.packages.Named.{Named}
+use Rattle.learning.specs.Kept.{Pairs, KeptPackages, KeptMaps}
+use Rattle.learning.specs.News.{sameNumbers, packagesNew, listNew}
+use Rattle.learning.specs.declared.Extent.{Extent}
+
+-- ---- a PLT
+
+-- How many pairs come before the first whose service is not below s.
+unfoldable pub before : ℕ → List (ℕ × ℕ) → ℕ
+before s [] = 0
+before s (q ∷ qs) = cond (ltb (q .0) s) (suc (before s qs)) 0
+
+-- One more package, if it has a service and an identifier.
+abbrev pub taken : Named → Carrier → List (ℕ × ℕ) → List (ℕ × ℕ)
+taken Named.Other c ps = ps
+taken (Named.Service s) Carrier.Nowhere ps = ps
+taken (Named.Service s) (Carrier.By p) ps = insertPackage s p ps
+
+-- The packages of a PLT's body that have a service and an identifier, in an array of their own.
+abbrev pub PackagesAre : Out (List Package) → End → List ℕ → Type 0
+PackagesAre o (End.At n) xs = (ys : List Package) × (more : Bytes) × (o ≡ some (ys, more)) × Pairs 255 (packagesIn ys []) n xs
+PackagesAre o End.Nothing xs = o ≡ none
+
+-- What a PLT makes of the extent and of the packages.
+abbrev pub PltLearnt : Out (List Package) → List (ℕ × ℕ) → Extent → Extent → List ℕ → Type 0
+PltLearnt none ps e r xs = (r ≡ e) × KeptPackages ps (e .packages) xs
+PltLearnt (some (ys, more)) ps e r xs =
+    KeptPackages (packagesIn ys []) (r .packages) xs
+    × (r ≡ record {
+      seen = true;
+      packages = length (packagesIn ys []);
+      maps = e .maps;
+      fragments = e .fragments;
+      lost = e .lost;
+      changed = e .changed || packagesNew (some (ys, more)) (e .seen) ps;
+    })
+
+-- ---- an MPT
+
+-- The listed assets of an MPT's body, as numbers at the front of an array of their own.
+abbrev pub AssetsAre : Out Mpt → End → List ℕ → Type 0
+AssetsAre o (End.At n) xs =
+    (n ≤ 255) × ((m : Mpt) × (more : Bytes) × (o ≡ some (m, more)) × (n ≡ length (listed (m .entries))) × (take (2 * n) xs ≡ assetNumbers (listed (m .entries))))
+AssetsAre o End.Nothing xs = o ≡ none
+
+-- The two numbers of an asset, if it has an identifier.
+abbrev pub numbersOf : Carrier → Part → List ℕ
+numbersOf Carrier.Nowhere part = []
+numbersOf (Carrier.By p) part = p ∷ kindNumber part ∷ []
+
+-- A list of n assets at place i: its head, its numbers, and how many lists there are then. Held already, it changes nothing.
+pub record HeadsAre (i p n : ℕ) (fresh : List ℕ) (e : Extent) (maps room : List ℕ) (r : Extent) (maps′ room′ : List ℕ) : Type 0 where
+  pub maps-are : maps′ ≡ set maps i (p * 65536 + n)
+  pub room-is : room′ ≡ over room (512 * i) (take (2 * n) fresh)
+  pub extent-is : r ≡ record {
+    seen = e .seen;
+    packages = e .packages;
+    maps = max (e .maps) (i + 1);
+    fragments = e .fragments;
+    lost = e .lost;
+    changed = e .changed || not (ltb i (e .maps) && (eqb (getD maps i 0) (p * 65536 + n) && sameNumbers (take (2 * n) (drop (512 * i) room)) (take (2 * n) fresh)));
+  }
+
+abbrev pub lostOne : Extent → Extent
+lostOne e = record { seen = e .seen; packages = e .packages; maps = e .maps; fragments = e .fragments; lost = e .lost + 1; changed = e .changed }
+
+-- Whether there is a place for it: its list takes the place, or it is lost.
+abbrev pub ListLearnt : Bool → ℕ → Listed → List (ℕ × ℕ) → Extent → List ℕ → Extent → List ℕ → List ℕ → Type 0
+ListLearnt true p as′ ms e room r xs room′ =
+    KeptMaps (take (placeFor p ms) ms ++ ((p, length as′) ∷ drop (suc (placeFor p ms)) ms)) (r .maps) xs
+    × (room′ ≡ over room (512 * placeFor p ms) (assetNumbers as′))
+    × (r ≡ record {
+      seen = e .seen;
+      packages = e .packages;
+      maps = r .maps;
+      fragments = e .fragments;
+      lost = e .lost;
+      changed = e .changed || listNew p as′ ms room;
+    })
+ListLearnt false p as′ ms e room r xs room′ = KeptMaps ms (e .maps) xs × (room′ ≡ room) × (r ≡ lostOne e)
+
+abbrev pub MptLearnt : ℕ → Out Mpt → List (ℕ × ℕ) → Extent → List ℕ → Extent → List ℕ → List ℕ → Type 0
+MptLearnt p none ms e room r xs room′ = KeptMaps ms (e .maps) xs × (room′ ≡ room) × (r ≡ e)
+MptLearnt p (some (m, more)) ms e room r xs room′ = ListLearnt (ltb (placeFor p ms) 64) p (listed (m .entries)) ms e room r xs room′

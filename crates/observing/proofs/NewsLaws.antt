@@ -1,0 +1,209 @@
+-- What no news means: where nothing is new, learning changes at most the held fragments, so what is dropped and whether it is ready stay
+-- as they are. Of every state, sound or not. Rests on specs/News, on FoldLaws, and on what the two tests of sameness prove (PairLaws of
+-- `learning`).
+use Prim.Native.Nat.{ℕ, zero, suc, _+_, _*_, _/_, _%_, _^_}
+use mathlib.Core.Path.{_≡_, refl, sym, ap, ap₂, _∙_}
+use mathlib.Core.Bool.{Bool, true, false, cond, not, _&&_}
+use mathlib.Core.List.{List, [], _∷_, _++_}
+use mathlib.Core.Option.{Option, none, some, Option·some-injective}
+use native.Mathlib.Nat.{mod-lt}
+use native.Mathlib.Omega.{arith}
+use lib.ListN.{length, take, drop, getD, set, take-append-drop}
+use lib.Seq.{drop-drop, set-getD}
+use lib.Dec.{ltb, eqb}
+use lib.Bits.{bitOr, or-step, or-zero-r, or-block}
+use lib.Pow.{pow-pos, split}
+use borrow.Author.Tests.{eqb-true, not-false}
+use Rattle.meaning.specs.Bytes.{Bytes}
+use Rattle.meaning.specs.Sets.{Words, bitAt, inSet, withId}
+use Rattle.meaning.specs.Readers.{Out}
+use Rattle.meaning.specs.Messages.{Message, messages, indicator}
+use Rattle.meaning.specs.Tables.{Mpt, mpt, Package, plt, Table, isMpt, isPlt, pa}
+use Rattle.meaning.specs.Learn.{Limits, Fragment, Known, Learnt, learnt, Listed, assetNumbers, lists, over, placeFor, listed, withList, mptFrom, learnMpt, packagesIn, pltFrom, learnPlt, learnTable, learnTables, paTables, withCarousel, learnMessage, learnMessages, withFragments, without, fragmentOf, holdFirst, fits, middle, joined, lastFor, last, byIndicator, observe}
+use Rattle.meaning.specs.Rules.{inDropSet, drops, ready}
+use Rattle.meaning.specs.declared.Options.{Options}
+use Rattle.meaning.specs.declared.Service.{Service}
+use Rattle.meaning.proofs.ListLaws.{clash, and-both, or-neither}
+use Rattle.meaning.proofs.Holds.{putHead, put-is}
+use Rattle.meaning.proofs.SpareLaws.{numbers-length}
+use Rattle.learning.specs.News.{sameNumbers, samePairs, packagesNew, countAt, sameList, listNew}
+use Rattle.learning.proofs.PairLaws.{same-true, pairs-true}
+use Rattle.observing.specs.News.{mptNew, newsTable, newsMessage, newsMessages, newsTables, newsLast, newsBy, news}
+use Rattle.observing.proofs.FoldLaws.{Folds}
+use Rattle.observing.proofs.TableSteps.{tables-fold}
+
+-- what is written anew, field by field, is what was known
+known-same : (k : Known) {seen : Bool} {ps ms : List (ℕ × ℕ)} {room : List ℕ} {ws : Words}
+    → seen ≡ k .plt-seen → ps ≡ k .packages → ms ≡ k .maps → room ≡ k .room → ws ≡ k .carousels
+    → record { plt-seen = seen; packages = ps; maps = ms; room = room; carousels = ws; fragments = k .fragments } ≡ k
+known-same k a b c d e = λ i. record { plt-seen = a i; packages = b i; maps = c i; room = d i; carousels = e i; fragments = k .fragments }
+
+-- ---- an identifier that is in the set
+
+or-one : (a : ℕ) → a % 2 ≡ 1 → bitOr a 1 ≡ a
+or-one a h = rw (or-step a 1, or-zero-r (a / 2)) (omega arith)
+
+-- a word with a bit that it has
+or-bit : (w k : ℕ) → bitAt w k ≡ 1 → bitOr w (2 ^ k) ≡ w
+or-bit w k h =
+    let one : 2 ^ k ≡ 1 * 2 ^ k + 0 = omega arith in
+    ap₂ bitOr (sym (split w k)) one
+    ∙ or-block k (w / 2 ^ k) 1 (w % 2 ^ k) 0 (mod-lt w (pow-pos k)) (pow-pos k)
+    ∙ ap₂ (λ (x y : ℕ). x * 2 ^ k + y) (or-one (w / 2 ^ k) h) (or-zero-r (w % 2 ^ k))
+    ∙ split w k
+
+-- the words stay as they are, however many there are and however long
+insert-there : (ws : Words) (p : ℕ) → inSet ws p ≡ true → withId ws p ≡ ws
+unfolding inSet withId
+insert-there ws p h =
+    ap (set ws (p / 64)) (or-bit (getD ws (p / 64) 0) (p % 64) (eqb-true _ _ h)) ∙ set-getD ws (p / 64) 0
+
+-- ---- a list that stands in its place
+
+-- numbers written over themselves
+over-same : (room ns : List ℕ) (at : ℕ) → take (length ns) (drop at room) ≡ ns → over room at ns ≡ room
+unfolding over
+over-same room ns at e =
+    ap (λ (z : List ℕ). take at room ++ z)
+    (ap₂ (λ (x y : List ℕ). x ++ y) (sym e) (sym (drop-drop (length ns) at room)) ∙ take-append-drop (length ns) (drop at room))
+    ∙ take-append-drop at room
+
+-- a head put over itself
+head-there : (p n : ℕ) (ms : List (ℕ × ℕ)) → countAt (placeFor p ms) ms ≡ some n → putHead p n ms ≡ ms
+unfolding placeFor countAt putHead
+head-there p n [] e = clash (cc)
+head-there p n (m ∷ ms) e = go (eqb (m .0) p) refl e (head-there p n ms)
+  where
+    go : (a : Bool) → eqb (m .0) p ≡ a → countAt (cond a 0 (suc (placeFor p ms))) (m ∷ ms) ≡ some n → (countAt (placeFor p ms) ms ≡ some n → putHead p n ms ≡ ms)
+        → cond a ((p, n) ∷ ms) (m ∷ putHead p n ms) ≡ m ∷ ms
+    go true ea e ih = ap₂ (λ (x y : ℕ). (x, y) ∷ ms) (sym (eqb-true _ _ ea)) (sym (Option·some-injective _ _ e))
+    go false ea e ih = ap (λ (l : List (ℕ × ℕ)). m ∷ l) (ih e)
+
+module _ (p : ℕ) (as′ : Listed) (k : Known) where
+  abbrev at : ℕ
+  at = placeFor p (k .maps)
+
+  list-same : (o : Option ℕ) → countAt at (k .maps) ≡ o → sameList o as′ (drop (512 * at) (k .room)) ≡ true → withList p as′ k at ≡ k
+  unfolding withList
+  list-same none e h = clash (cc)
+  list-same (some n) e h =
+      let b = and-both (eqb n (length as′)) (sameNumbers (take (2 * length as′) (drop (512 * at) (k .room))) (assetNumbers as′)) h in
+      let heads = put-is p (length as′) (k .maps) ∙ head-there p (length as′) (k .maps) (e ∙ ap some (eqb-true n (length as′) (b .0))) in
+      let numbers =
+      over-same (k .room) (assetNumbers as′) (512 * at)
+      (ap (λ (c : ℕ). take c (drop (512 * at) (k .room))) (numbers-length as′) ∙ same-true (take (2 * length as′) (drop (512 * at) (k .room))) (assetNumbers as′) (b .1)) in
+      known-same k refl refl heads numbers refl
+
+  -- it is there, or it is lost
+  list-still : listNew p as′ (k .maps) (k .room) ≡ false → cond (ltb at 64) (learnt (withList p as′ k at)) (record { known = k; lost = 1 }) .known ≡ k
+  unfolding listNew
+  list-still e = go (ltb at 64) e
+    where
+      go : (a : Bool) → (a && not (sameList (countAt at (k .maps)) as′ (drop (512 * at) (k .room)))) ≡ false
+          → cond a (learnt (withList p as′ k at)) (record { known = k; lost = 1 }) .known ≡ k
+      go true e = list-same (countAt at (k .maps)) refl (not-false _ e)
+      go false e = refl
+
+-- ---- a table
+
+mpt-still : (p : ℕ) (x : Out Mpt) (k : Known) → mptNew p x (k .maps) (k .room) ≡ false → mptFrom p x k .known ≡ k
+mpt-still p none k e = refl
+mpt-still p (some (m, more)) k e = list-still p (listed (m .entries)) k e
+
+plt-still : (x : Out (List Package)) (k : Known) → packagesNew x (k .plt-seen) (k .packages) ≡ false → pltFrom x k ≡ k
+plt-still none k e = refl
+plt-still (some (xs, more)) k e =
+    let b = and-both (k .plt-seen) (samePairs (k .packages) (packagesIn xs [])) (not-false _ e) in
+    known-same k (sym (b .0)) (sym (pairs-true (k .packages) (packagesIn xs []) (b .1))) refl refl refl
+
+table-still : (p : ℕ) (t : Table) (k : Known) → newsTable p t k ≡ false → learnTable p t k .known ≡ k
+unfolding newsTable learnTable learnPlt learnMpt
+table-still p t k e = go (isPlt (t .number) && eqb p 0) (isMpt (t .number)) e
+  where
+    go : (a b : Bool) → cond a (packagesNew (plt (t .body)) (k .plt-seen) (k .packages)) (cond b (mptNew p (mpt (t .body)) (k .maps) (k .room)) false) ≡ false
+        → cond a (learnt (pltFrom (plt (t .body)) k)) (cond b (mptFrom p (mpt (t .body)) k) (learnt k)) .known ≡ k
+    go true b e = plt-still (plt (t .body)) k e
+    go false true e = mpt-still p (mpt (t .body)) k e
+    go false false e = refl
+
+-- ---- one thing after the other
+
+-- each leaves what is known as it is, so all do
+fold-still : {A : Type 0} (one : A → Known → Learnt) (new : A → Known → Bool) (all : List A → Known → Learnt) (some-new : List A → Known → Bool) → Folds one new all some-new
+    → ((a : A) (k : Known) → new a k ≡ false → one a k .known ≡ k) → (as′ : List A) (k : Known) → some-new as′ k ≡ false → all as′ k .known ≡ k
+fold-still one new all some-new f h [] k e = ap (λ l. l .known) (f .nil k)
+fold-still one new all some-new f h (a ∷ as′) k e =
+    let b = or-neither (new a k) (some-new as′ (one a k .known)) (sym (f .more-news a as′ k) ∙ e) in
+    let same = h a k (b .0) in
+    ap (λ l. l .known) (f .cons a as′ k) ∙ ap (λ (z : Known). all as′ z .known) same ∙ fold-still one new all some-new f h as′ k (rw same at (b .1))
+
+message-still : (p : ℕ) (m : Message) (k : Known) → newsMessage p m k ≡ false → learnMessage p m k .known ≡ k
+unfolding newsMessage learnMessage
+message-still p m k e = go (eqb (m .number) 0) (eqb (m .number) 0x8003) e
+  where
+    ts : List (Table × Bytes)
+    ts = paTables (pa (m .body))
+
+    go : (a b : Bool) → cond a (newsTables p ts k) (cond b (not (inSet (k .carousels) p)) false) ≡ false
+        → cond a (learnTables p ts k) (cond b (learnt (withCarousel p k)) (learnt k)) .known ≡ k
+    go true b e = fold-still (λ t. learnTable p (t .0)) (λ t. newsTable p (t .0)) (learnTables p) (newsTables p) (tables-fold p) (λ t. table-still p (t .0)) ts k e
+    go false true e = known-same k refl refl refl refl (insert-there (k .carousels) p (not-false _ e))
+    go false false e = refl
+
+messages-fold : (p : ℕ) → Folds (learnMessage p) (newsMessage p) (learnMessages p) (newsMessages p)
+unfolding learnMessages newsMessages
+messages-fold p = record { nil = λ k. refl; cons = λ m ms k. refl; no-news = λ k. refl; more-news = λ m ms k. refl }
+
+-- ---- a payload
+
+-- The same is known, but for fragments.
+pub record Still (k k′ : Known) : Type 0 where
+  pub held : List Fragment
+  pub known-is : k′ ≡ withFragments held k
+
+module _ (L : Limits) (p : ℕ) where
+  messages-still : (ms : List Message) (fs : List Fragment) (k : Known) → newsMessages p ms (withFragments fs k) ≡ false → Still k (learnMessages p ms (withFragments fs k) .known)
+  messages-still ms fs k e = record {
+    held = fs;
+    known-is = fold-still (learnMessage p) (newsMessage p) (learnMessages p) (newsMessages p) (messages-fold p) (message-still p) ms (withFragments fs k) e;
+  }
+
+  last-still : (o : Option Fragment) (b : Bytes) (k : Known) → newsLast o L p b k ≡ false → Still k (lastFor o L p b k .known)
+  last-still none b k e = record { held = k .fragments; known-is = refl }
+  last-still (some f) b k e = go (fits L f b (k .fragments)) e
+    where
+      rest : List Fragment
+      rest = without p (k .fragments)
+
+      go : (a : Bool) → cond a (newsMessages p (messages (joined f b)) (withFragments rest k)) false ≡ false
+          → Still k (cond a (learnMessages p (messages (joined f b)) (withFragments rest k)) (learnt (withFragments rest k)) .known)
+      go true e = messages-still (messages (joined f b)) rest k e
+      go false e = record { held = rest; known-is = refl }
+
+  by-still : (i flags : ℕ) (s : Bytes) (k : Known) → newsBy i L p flags s k ≡ false → Still k (byIndicator i L p flags s k .known)
+  unfolding last
+  by-still zero flags s k e = messages-still (messages (flags ∷ s)) (without p (k .fragments)) k e
+  by-still (suc zero) flags s k e = record { held = holdFirst L p flags (drop 1 s) (k .fragments); known-is = refl }
+  by-still (suc (suc zero)) flags s k e = record { held = middle L p (drop 1 s) (k .fragments); known-is = refl }
+  by-still (suc (suc (suc i))) flags s k e = last-still (fragmentOf p (k .fragments)) (drop 1 s) k e
+
+-- Where nothing is new, at most fragments changed.
+pub still : (L : Limits) (p : ℕ) (s : Bytes) (k : Known) → news L p s k ≡ false → Still k (observe L p s k .known)
+unfolding news observe
+still L p [] k e = record { held = k .fragments; known-is = refl }
+still L p (flags ∷ s) k e = go (inSet (k .carousels) p) e
+  where
+    go : (a : Bool) → cond a false (newsBy (indicator flags) L p flags s k) ≡ false → Still k (cond a (learnt k) (byIndicator (indicator flags) L p flags s k) .known)
+    go true e = record { held = k .fragments; known-is = refl }
+    go false e = by-still L p (indicator flags) flags s k e
+
+-- ---- and no rule reads fragments
+
+module _ {k k′ : Known} (x : Still k k′) where
+  pub drops-still : (o : Options) (q : ℕ) → drops o k′ q ≡ drops o k q
+  unfolding drops inDropSet lists
+  drops-still o q = ap (λ (z : Known). drops o z q) (x .known-is)
+
+  pub ready-still : (s : Service) → ready s k′ ≡ ready s k
+  unfolding ready lists
+  ready-still s = ap (ready s) (x .known-is)

@@ -1,0 +1,236 @@
+-- A payload by the top bits of its first byte, as `observe` meets it. Rests on StepLaws, and on the promises of `fragments`.
+use Prim.Native.Nat.{ℕ, zero, suc, _+_, _-_, _/_, _%_, _≤_, _<_}
+use mathlib.Core.Path.{_≡_, refl, sym, ap, ap₂, _∙_}
+use mathlib.Core.Bool.{Bool, true, false, cond, _&&_}
+use mathlib.Core.List.{List, [], _∷_}
+use mathlib.Core.Option.{none, some}
+use native.Mathlib.Nat.{mod-eq-of-lt}
+use native.Mathlib.Omega.{arith}
+use lib.ListN.{length, take, drop, getD, length-take, length-drop}
+use lib.Dec.{ltb, eqb}
+use Rattle.meaning.specs.Bytes.{Bytes}
+use Rattle.meaning.specs.Sets.{inSet}
+use Rattle.meaning.specs.Readers.{Out, byte, u16, walk}
+use Rattle.meaning.specs.Messages.{Message, indicator, aggregated, longLengths, message, messageBody, readEach, inBody, messages}
+use Rattle.meaning.specs.Tables.{Mpt, mpt, Package, plt, Table, isPlt, isMpt, pa}
+use Rattle.meaning.specs.Learn.{Limits, Fragment, Known, learnt, listed, placeFor, withList, mptFrom, learnMpt, pltFrom, learnPlt, learnTable, learnTables, paTables, withCarousel, learnMessage, learnMessages, withFragments, without, fragmentOf, growIn, holdFirst, middle, joined, last, observe}
+use Rattle.fragments.specs.Fragments.{KeptFragments, GrewAt, GaveUp}
+use Rattle.fragments.proofs.FragmentLaws.{without-grown}
+use Rattle.learning.specs.Kept.{Keeps}
+use Rattle.learning.specs.declared.Extent.{Extent}
+use Rattle.observing.specs.News.{newsMessages, newsLast, news}
+use Rattle.observing.specs.Steps.{After}
+use Rattle.observing.specs.Observed.{Holding, Observed, withCount, wholeStep, wholeNew, lastStep, lastNew}
+use Rattle.observing.proofs.StepLaws.{or-false}
+
+-- ---- tables and messages leave the fragments
+
+table-fragments : (q : ℕ) (t : Table) (k : Known) → learnTable q t k .known .fragments ≡ k .fragments
+unfolding learnTable learnPlt learnMpt withList
+table-fragments q t k = go (isPlt (t .number) && eqb q 0) (isMpt (t .number))
+  where
+    by-plt : (x : Out (List Package)) → pltFrom x k .fragments ≡ k .fragments
+    by-plt none = refl
+    by-plt (some x) = refl
+
+    by-mpt : (x : Out Mpt) → mptFrom q x k .known .fragments ≡ k .fragments
+    by-mpt none = refl
+    by-mpt (some (m, more)) = on (ltb (placeFor q (k .maps)) 64)
+      where
+        on : (a : Bool) → cond a (learnt (withList q (listed (m .entries)) k (placeFor q (k .maps)))) (record { known = k; lost = 1 }) .known .fragments ≡ k .fragments
+        on true = refl
+        on false = refl
+
+    go : (a b : Bool) → cond a (learnt (pltFrom (plt (t .body)) k)) (cond b (mptFrom q (mpt (t .body)) k) (learnt k)) .known .fragments ≡ k .fragments
+    go true b = by-plt (plt (t .body))
+    go false true = by-mpt (mpt (t .body))
+    go false false = refl
+
+tables-fragments : (q : ℕ) (ts : List (Table × Bytes)) (k : Known) → learnTables q ts k .known .fragments ≡ k .fragments
+unfolding learnTables
+tables-fragments q [] k = refl
+tables-fragments q (t ∷ ts) k = tables-fragments q ts (learnTable q (t .0) k .known) ∙ table-fragments q (t .0) k
+
+message-fragments : (q : ℕ) (m : Message) (k : Known) → learnMessage q m k .known .fragments ≡ k .fragments
+unfolding learnMessage
+message-fragments q m k = go (eqb (m .number) 0) (eqb (m .number) 0x8003)
+  where
+    go : (a b : Bool) → cond a (learnTables q (paTables (pa (m .body))) k) (cond b (learnt (withCarousel q k)) (learnt k)) .known .fragments ≡ k .fragments
+    go true b = tables-fragments q (paTables (pa (m .body))) k
+    go false true = refl
+    go false false = refl
+
+messages-fragments : (q : ℕ) (ms : List Message) (k : Known) → learnMessages q ms k .known .fragments ≡ k .fragments
+unfolding learnMessages
+messages-fragments q [] k = refl
+messages-fragments q (m ∷ ms) k = messages-fragments q ms (learnMessage q m k .known) ∙ message-fragments q m k
+
+-- ---- the count of fragments is told apart from the rest
+
+pub keeps-with : (k : Known) (fs : List Fragment) (e : Extent) (n : ℕ) (c p m o : List ℕ) → Keeps k e c p m o → Keeps (withFragments fs k) (withCount e n) c p m o
+keeps-with k fs e n c p m o h =
+    record { seen = h .seen; packages-kept = h .packages-kept; maps-kept = h .maps-kept; carousels-are = h .carousels-are; carousels-all = h .carousels-all; room-is = h .room-is; room-all = h .room-all }
+
+-- messages learned where so many fragments are held
+pub messages-observed : (T q : ℕ) (ms : List Message) (k : Known) (fs : List Fragment) (e r : Extent) (n : ℕ) (c p m o heads : List ℕ) (bodies : Bytes)
+    → After (learnMessages q ms (withFragments fs k)) (newsMessages q ms (withFragments fs k)) (withCount e n) r c p m o → KeptFragments T fs n heads bodies
+    → Observed T (learnMessages q ms (withFragments fs k)) (newsMessages q ms (withFragments fs k)) e r c p m o heads bodies
+messages-observed T q ms k fs e r n c p m o heads bodies a f =
+    let same = messages-fragments q ms (withFragments fs k) in
+    record {
+      holding = record { tables-kept = a .keeps; fragments-kept = rw (same, a .fragments-same) f };
+      lost-is = a .lost-is;
+      changed-is = a .changed-is;
+    }
+
+-- the same, where the count is told afterwards
+pub messages-then : (T q : ℕ) (ms : List Message) (k : Known) (fs : List Fragment) (e r : Extent) (n : ℕ) (c p m o heads : List ℕ) (bodies : Bytes)
+    → After (learnMessages q ms (withFragments fs k)) (newsMessages q ms (withFragments fs k)) e r c p m o → KeptFragments T fs n heads bodies
+    → Observed T (learnMessages q ms (withFragments fs k)) (newsMessages q ms (withFragments fs k)) e (withCount r n) c p m o heads bodies
+messages-then T q ms k fs e r n c p m o heads bodies a f =
+    let same = messages-fragments q ms (withFragments fs k) in
+    let h = a .keeps in
+    record {
+      holding =
+          record {
+            tables-kept =
+                record { seen = h .seen; packages-kept = h .packages-kept; maps-kept = h .maps-kept; carousels-are = h .carousels-are; carousels-all = h .carousels-all; room-is = h .room-is; room-all = h .room-all };
+            fragments-kept = rw same f;
+          };
+      lost-is = a .lost-is;
+      changed-is = a .changed-is;
+    }
+
+-- fragments alone
+pub fragments-observed : (T : ℕ) (k : Known) (fs : List Fragment) (e : Extent) (n : ℕ) (c p m o heads : List ℕ) (bodies : Bytes) → Keeps k e c p m o → KeptFragments T fs n heads bodies
+    → Observed T (learnt (withFragments fs k)) false e (withCount e n) c p m o heads bodies
+fragments-observed T k fs e n c p m o heads bodies h f =
+    record { holding = record { tables-kept = keeps-with k fs e n c p m o h; fragments-kept = f }; lost-is = omega arith; changed-is = or-false (e .changed) }
+
+-- nothing
+pub nothing-observed : (T : ℕ) (k : Known) (e : Extent) (c p m o heads : List ℕ) (bodies : Bytes) → Holding T k e c p m o heads bodies → Observed T (learnt k) false e e c p m o heads bodies
+nothing-observed T k e c p m o heads bodies h = record { holding = h; lost-is = omega arith; changed-is = or-false (e .changed) }
+
+-- ---- a last fragment
+
+pub keeps-fragments : (k : Known) (fs : List Fragment) (e : Extent) (c p m o : List ℕ) → Keeps k e c p m o → Keeps (withFragments fs k) e c p m o
+keeps-fragments k fs e c p m o h =
+    record { seen = h .seen; packages-kept = h .packages-kept; maps-kept = h .maps-kept; carousels-are = h .carousels-are; carousels-all = h .carousels-all; room-is = h .room-is; room-all = h .room-all }
+
+-- the part of a room is no longer than the room
+pub part-within : (lost : ℕ) (room : Bytes) (a e T most : ℕ) → length room ≡ T → lost + T ≤ most → lost + length (take (e - a) (drop a room)) ≤ most
+part-within lost room a e T most l h = omega (arith, length-take (e - a) (drop a room), length-drop a room)
+
+pub lost-within : (lost r : ℕ) (room : Bytes) (a e T : ℕ) → length room ≡ T → r ≤ lost + length (take (e - a) (drop a room)) → r ≤ lost + T
+lost-within lost r room a e T l h = omega (arith, length-take (e - a) (drop a room), length-drop a room)
+
+module _ (L : Limits) (q : ℕ) (b : Bytes) (k : Known) (e : Extent) where
+  pub last-grew : (n start end flags : ℕ) (h₁ : List ℕ) (b₁ : Bytes) → GrewAt L q b (k .fragments) n start end flags h₁ b₁
+      → (r : Extent) (n′ : ℕ) (c p m o heads : List ℕ) (bodies : Bytes)
+      → After (learnMessages q (messages (flags ∷ 0 ∷ take (end - start) (drop start b₁))) (withFragments (without q (k .fragments)) k))
+      (newsMessages q (messages (flags ∷ 0 ∷ take (end - start) (drop start b₁))) (withFragments (without q (k .fragments)) k)) e r c p m o
+      → KeptFragments (L .total) (without q (growIn q b (k .fragments))) n′ heads bodies
+      → Observed (L .total) (last L q b k) (newsLast (fragmentOf q (k .fragments)) L q b k) e (withCount r n′) c p m o heads bodies
+  unfolding last joined
+  last-grew n start end flags h₁ b₁ g r n′ c p m o heads bodies a f =
+      let ms : messages (flags ∷ 0 ∷ take (end - start) (drop start b₁)) ≡ messages (joined (g .fragment) b) =
+      ap₂ (λ (x : ℕ) (y : Bytes). messages (x ∷ 0 ∷ y)) (g .flags-are) (g .body-is) in
+      rw (g .found, g .fitting)
+      (messages-then (L .total) q (messages (joined (g .fragment) b)) k (without q (k .fragments)) e r n′ c p m o heads bodies (rw ms at a) (rw (without-grown q b (k .fragments)) at f))
+
+  pub last-gave : (n : ℕ) (heads : List ℕ) (bodies : Bytes) → GaveUp L q b (k .fragments) n heads bodies → (c p m o : List ℕ) → Keeps k e c p m o
+      → Observed (L .total) (last L q b k) (newsLast (fragmentOf q (k .fragments)) L q b k) e (withCount e n) c p m o heads bodies
+  unfolding last
+  last-gave n heads bodies g c p m o h = rw (g .found, g .fitting) (fragments-observed (L .total) k (without q (k .fragments)) e n c p m o heads bodies h (g .kept))
+
+  pub last-absent : fragmentOf q (k .fragments) ≡ none → (c p m o heads : List ℕ) (bodies : Bytes) → Holding (L .total) k e c p m o heads bodies
+      → Observed (L .total) (last L q b k) (newsLast (fragmentOf q (k .fragments)) L q b k) e e c p m o heads bodies
+  unfolding last
+  last-absent f c p m o heads bodies h = rw f (nothing-observed (L .total) k e c p m o heads bodies h)
+
+-- ---- a payload, by its first byte
+
+-- no message in no bytes
+none-in : (n : ℕ) (long : Bool) → inBody n long [] ≡ []
+unfolding inBody message readEach walk messageBody u16 byte
+none-in zero long = refl
+none-in (suc n) long = refl
+
+-- the counter is not read
+whole-same : (flags : ℕ) (s : Bytes) → indicator flags ≡ 0 → messages (flags ∷ s) ≡ messages (flags ∷ 0 ∷ drop 1 s)
+unfolding messages
+whole-same flags [] h = rw h (sym (none-in (aggregated flags) (longLengths flags)))
+whole-same flags (c ∷ s) h = refl
+
+-- the bytes from 2 on
+module _ (L : Limits) (q flags : ℕ) (s : Bytes) (k : Known) (e r : Extent) (c p m o heads : List ℕ) (bodies : Bytes) (fresh : inSet (k .carousels) q ≡ false) where
+  abbrev Sees : Type 0
+  Sees = Observed (L .total) (observe L q (flags ∷ s) k) (news L q (flags ∷ s) k) e r c p m o heads bodies
+
+  pub see-whole : indicator flags ≡ 0 → Observed (L .total) (wholeStep q flags (drop 1 s) L k) (wholeNew q flags (drop 1 s) L k) e r c p m o heads bodies → Sees
+  unfolding observe news
+  see-whole i x = rw (fresh, i, whole-same flags s i) x
+
+  pub see-first : indicator flags ≡ 1 → Observed (L .total) (learnt (withFragments (holdFirst L q flags (drop 1 s) (k .fragments)) k)) false e r c p m o heads bodies → Sees
+  unfolding observe news
+  see-first i x = rw (fresh, i) x
+
+  pub see-middle : indicator flags ≡ 2 → Observed (L .total) (learnt (withFragments (middle L q (drop 1 s) (k .fragments)) k)) false e r c p m o heads bodies → Sees
+  unfolding observe news
+  see-middle i x = rw (fresh, i) x
+
+  pub see-last : indicator flags ≡ 3 → Observed (L .total) (lastStep q (drop 1 s) L k) (lastNew q (drop 1 s) L k) e r c p m o heads bodies → Sees
+  unfolding observe news
+  see-last i x = rw (fresh, i) x
+
+module _ (L : Limits) (q : ℕ) (k : Known) (e : Extent) (c p m o heads : List ℕ) (bodies : Bytes) (h : Holding (L .total) k e c p m o heads bodies) where
+  pub see-nothing : (s : Bytes) → length s ≡ 0 → Observed (L .total) (observe L q s k) (news L q s k) e e c p m o heads bodies
+  unfolding observe news
+  see-nothing [] z = nothing-observed (L .total) k e c p m o heads bodies h
+  see-nothing (x ∷ s) z = absurd (omega arith)
+
+  pub see-carousel : (s : Bytes) → inSet (k .carousels) q ≡ true → Observed (L .total) (observe L q s k) (news L q s k) e e c p m o heads bodies
+  unfolding observe news
+  see-carousel [] z = nothing-observed (L .total) k e c p m o heads bodies h
+  see-carousel (x ∷ s) z = rw z (nothing-observed (L .total) k e c p m o heads bodies h)
+
+-- ---- the payload as the code has it
+
+top : (f n : ℕ) → f / 64 ≡ n → n < 4 → indicator f ≡ n
+unfolding indicator
+top f n e l = ap (λ (z : ℕ). z % 4) e ∙ mod-eq-of-lt l
+
+module _ (L : Limits) (q : ℕ) (k : Known) (e r : Extent) (c p m o heads : List ℕ) (bodies : Bytes) (fresh : inSet (k .carousels) q ≡ false) where
+  abbrev Seen : Bytes → Type 0
+  Seen y = Observed (L .total) (observe L q y k) (news L q y k) e r c p m o heads bodies
+
+  pub payload-whole : (y : Bytes) → (length y ≡ 0 → ⊥) → getD y 0 0 / 64 ≡ 0 → (b : Bytes) → b ≡ drop 2 y
+      → Observed (L .total) (wholeStep q (getD y 0 0) b L k) (wholeNew q (getD y 0 0) b L k) e r c p m o heads bodies → Seen y
+  payload-whole [] z i b d x = absurd (z refl)
+  payload-whole (f ∷ s) z i b d x = see-whole L q f s k e r c p m o heads bodies fresh (top f 0 i (omega arith)) (rw d at x)
+
+  pub payload-first : (y : Bytes) → (length y ≡ 0 → ⊥) → getD y 0 0 / 64 ≡ 1 → (b : Bytes) → b ≡ drop 2 y
+      → Observed (L .total) (learnt (withFragments (holdFirst L q (getD y 0 0) b (k .fragments)) k)) false e r c p m o heads bodies → Seen y
+  payload-first [] z i b d x = absurd (z refl)
+  payload-first (f ∷ s) z i b d x = see-first L q f s k e r c p m o heads bodies fresh (top f 1 i (omega arith)) (rw d at x)
+
+  pub payload-middle : (y : Bytes) → (length y ≡ 0 → ⊥) → getD y 0 0 / 64 ≡ 2 → (b : Bytes) → b ≡ drop 2 y
+      → Observed (L .total) (learnt (withFragments (middle L q b (k .fragments)) k)) false e r c p m o heads bodies → Seen y
+  payload-middle [] z i b d x = absurd (z refl)
+  payload-middle (f ∷ s) z i b d x = see-middle L q f s k e r c p m o heads bodies fresh (top f 2 i (omega arith)) (rw d at x)
+
+  pub payload-last : (y : Bytes) → (length y ≡ 0 → ⊥) → getD y 0 0 / 64 ≡ 3 → (b : Bytes) → b ≡ drop 2 y
+      → Observed (L .total) (lastStep q b L k) (lastNew q b L k) e r c p m o heads bodies → Seen y
+  payload-last [] z i b d x = absurd (z refl)
+  payload-last (f ∷ s) z i b d x = see-last L q f s k e r c p m o heads bodies fresh (top f 3 i (omega arith)) (rw d at x)
+
+-- a byte's top bits are the last value where they are no other
+pub top-three : (f : ℕ) → f < 256 → (f / 64 ≡ 0 → ⊥) → (f / 64 ≡ 1 → ⊥) → (f / 64 ≡ 2 → ⊥) → f / 64 ≡ 3
+top-three f b x y z = go (f / 64) (omega arith) x y z
+  where
+    go : (n : ℕ) → n < 4 → (n ≡ 0 → ⊥) → (n ≡ 1 → ⊥) → (n ≡ 2 → ⊥) → n ≡ 3
+    go zero l x y z = absurd (x refl)
+    go (suc zero) l x y z = absurd (y refl)
+    go (suc (suc zero)) l x y z = absurd (z refl)
+    go (suc (suc (suc zero))) l x y z = refl
+    go (suc (suc (suc (suc n)))) l x y z = absurd (omega arith)

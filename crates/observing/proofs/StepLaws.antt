@@ -1,0 +1,170 @@
+-- Steps of learning: one after the other, and what a table adds by what `plt` and `mpt` promise. Rests on specs/Steps, specs/News and
+-- Learnt of `learning`.
+use Prim.Native.Nat.{ℕ, _*_}
+use mathlib.Core.Path.{_≡_, refl, sym, ap, _∙_, subst}
+use mathlib.Core.Bool.{Bool, true, false, cond, _&&_, _||_}
+use mathlib.Core.List.{List}
+use mathlib.Core.Option.{none, some}
+use native.Mathlib.Omega.{arith}
+use lib.ListN.{length}
+use lib.Dec.{ltb, eqb}
+use borrow.Author.Tests.{eqb-true, ne-eqb}
+use Rattle.meaning.specs.Readers.{Out}
+use Rattle.meaning.specs.Tables.{Mpt, mpt, Package, plt, Table, isPlt, isMpt}
+use Rattle.meaning.specs.Learn.{Known, Learnt, learnt, Listed, assetNumbers, over, placeFor, listed, withList, mptFrom, learnMpt, pltFrom, learnPlt, learnTable, andLost}
+use Rattle.meaning.proofs.ListLaws.{clash}
+use Rattle.learning.specs.Kept.{KeptPackages, KeptMaps, Keeps}
+use Rattle.learning.specs.News.{packagesNew, listNew}
+use Rattle.learning.specs.Learnt.{PltLearnt, ListLearnt, MptLearnt}
+use Rattle.learning.specs.declared.Extent.{Extent}
+use Rattle.observing.specs.News.{mptNew, newsTable}
+use Rattle.observing.specs.Steps.{After}
+
+-- ---- one step after the other
+
+pub or-assoc : (a b c : Bool) → ((a || b) || c) ≡ (a || (b || c))
+or-assoc true b c = refl
+or-assoc false b c = refl
+
+pub or-false : (a : Bool) → a ≡ (a || false)
+or-false true = refl
+or-false false = refl
+
+-- nothing learned
+pub after-none : (k : Known) (e : Extent) (c p m o : List ℕ) → Keeps k e c p m o → After (learnt k) false e e c p m o
+after-none k e c p m o h = record { keeps = h; lost-is = omega arith; changed-is = or-false (e .changed); fragments-same = refl }
+
+pub after-then : (f g : Learnt) (a b : Bool) (e e₁ r : Extent) (c₁ p₁ m₁ o₁ c p m o : List ℕ) → After f a e e₁ c₁ p₁ m₁ o₁ → After g b e₁ r c p m o
+    → After (andLost (f .lost) g) (a || b) e r c p m o
+after-then f g a b e e₁ r c₁ p₁ m₁ o₁ c p m o x y =
+    record {
+      keeps = y .keeps;
+      lost-is = omega (arith, x .lost-is, y .lost-is);
+      changed-is = y .changed-is ∙ ap (λ (z : Bool). z || b) (x .changed-is) ∙ or-assoc (e .changed) a b;
+      fragments-same = y .fragments-same ∙ x .fragments-same;
+    }
+
+-- ---- a PLT
+
+module _ (k : Known) (e r : Extent) (c p m o : List ℕ) (h : Keeps k e c p m o) (p′ : List ℕ) where
+  plt-after : (x : Out (List Package)) → PltLearnt x (k .packages) e r p′ → After (learnt (pltFrom x k)) (packagesNew x (k .plt-seen) (k .packages)) e r c p′ m o
+  plt-after none x =
+      record {
+        keeps =
+            record {
+              seen = ap (λ z. z .seen) (x .0) ∙ h .seen;
+              packages-kept = subst (λ (n : ℕ). KeptPackages (k .packages) n p′) (sym (ap (λ z. z .packages) (x .0))) (x .1);
+              maps-kept = subst (λ (n : ℕ). KeptMaps (k .maps) n m) (sym (ap (λ z. z .maps) (x .0))) (h .maps-kept);
+              carousels-are = h .carousels-are;
+              carousels-all = h .carousels-all;
+              room-is = h .room-is;
+              room-all = h .room-all;
+            };
+        lost-is = omega (arith, ap (λ z. z .lost) (x .0));
+        changed-is = ap (λ z. z .changed) (x .0) ∙ or-false (e .changed);
+        fragments-same = ap (λ z. z .fragments) (x .0);
+      }
+  plt-after (some (ys, more)) x =
+      record {
+        keeps =
+            record {
+              seen = ap (λ z. z .seen) (x .1);
+              packages-kept = x .0;
+              maps-kept = subst (λ (n : ℕ). KeptMaps (k .maps) n m) (sym (ap (λ z. z .maps) (x .1))) (h .maps-kept);
+              carousels-are = h .carousels-are;
+              carousels-all = h .carousels-all;
+              room-is = h .room-is;
+              room-all = h .room-all;
+            };
+        lost-is = omega (arith, ap (λ z. z .lost) (x .1));
+        changed-is = ap (λ z. z .changed) (x .1) ∙ ap (λ (s : Bool). e .changed || packagesNew (some (ys, more)) s (k .packages)) (h .seen);
+        fragments-same = ap (λ z. z .fragments) (x .1);
+      }
+
+-- ---- an MPT
+
+lost-not-new : (q : ℕ) (as′ : Listed) (ms : List (ℕ × ℕ)) (room : List ℕ) → ltb (placeFor q ms) 64 ≡ false → listNew q as′ ms room ≡ false
+unfolding listNew
+lost-not-new q as′ ms room f = rw f
+
+module _ (q : ℕ) (k : Known) (e r : Extent) (c p m o : List ℕ) (h : Keeps k e c p m o) (m′ o′ : List ℕ) (same : length o′ ≡ length o) where
+  list-after : (as′ : Listed) (there : Bool) → ltb (placeFor q (k .maps)) 64 ≡ there → ListLearnt there q as′ (k .maps) e o r m′ o′
+      → After (cond there (learnt (withList q as′ k (placeFor q (k .maps)))) (record { known = k; lost = 1 })) (listNew q as′ (k .maps) (k .room)) e r c p m′ o′
+  unfolding withList
+  list-after as′ true t x =
+      record {
+        keeps =
+            record {
+              seen = ap (λ z. z .seen) (x .2) ∙ h .seen;
+              packages-kept = subst (λ (n : ℕ). KeptPackages (k .packages) n p) (sym (ap (λ z. z .packages) (x .2))) (h .packages-kept);
+              maps-kept = x .0;
+              carousels-are = h .carousels-are;
+              carousels-all = h .carousels-all;
+              room-is = x .1 ∙ ap (λ (z : List ℕ). over z (512 * placeFor q (k .maps)) (assetNumbers as′)) (h .room-is);
+              room-all = same ∙ h .room-all;
+            };
+        lost-is = omega (arith, ap (λ z. z .lost) (x .2));
+        changed-is = ap (λ z. z .changed) (x .2) ∙ ap (λ (z : List ℕ). e .changed || listNew q as′ (k .maps) z) (h .room-is);
+        fragments-same = ap (λ z. z .fragments) (x .2);
+      }
+  list-after as′ false t x =
+      record {
+        keeps =
+            record {
+              seen = ap (λ z. z .seen) (x .2) ∙ h .seen;
+              packages-kept = subst (λ (n : ℕ). KeptPackages (k .packages) n p) (sym (ap (λ z. z .packages) (x .2))) (h .packages-kept);
+              maps-kept = subst (λ (n : ℕ). KeptMaps (k .maps) n m′) (sym (ap (λ z. z .maps) (x .2))) (x .0);
+              carousels-are = h .carousels-are;
+              carousels-all = h .carousels-all;
+              room-is = x .1 ∙ h .room-is;
+              room-all = ap length (x .1) ∙ h .room-all;
+            };
+        lost-is = omega (arith, ap (λ z. z .lost) (x .2));
+        changed-is = ap (λ z. z .changed) (x .2) ∙ or-false (e .changed) ∙ ap (λ (z : Bool). e .changed || z) (sym (lost-not-new q as′ (k .maps) (k .room) t));
+        fragments-same = ap (λ z. z .fragments) (x .2);
+      }
+
+  mpt-after : (x : Out Mpt) → MptLearnt q x (k .maps) e o r m′ o′ → After (mptFrom q x k) (mptNew q x (k .maps) (k .room)) e r c p m′ o′
+  mpt-after none x =
+      record {
+        keeps =
+            record {
+              seen = ap (λ z. z .seen) (x .2) ∙ h .seen;
+              packages-kept = subst (λ (n : ℕ). KeptPackages (k .packages) n p) (sym (ap (λ z. z .packages) (x .2))) (h .packages-kept);
+              maps-kept = subst (λ (n : ℕ). KeptMaps (k .maps) n m′) (sym (ap (λ z. z .maps) (x .2))) (x .0);
+              carousels-are = h .carousels-are;
+              carousels-all = h .carousels-all;
+              room-is = x .1 ∙ h .room-is;
+              room-all = ap length (x .1) ∙ h .room-all;
+            };
+        lost-is = omega (arith, ap (λ z. z .lost) (x .2));
+        changed-is = ap (λ z. z .changed) (x .2) ∙ or-false (e .changed);
+        fragments-same = ap (λ z. z .fragments) (x .2);
+      }
+  mpt-after (some (y, more)) x = list-after (listed (y .entries)) (ltb (placeFor q (k .maps)) 64) refl x
+
+-- ---- a table, by its number
+
+not-plt : (n : ℕ) → isMpt n ≡ true → eqb n 0x80 ≡ false
+unfolding isMpt
+not-plt n h = ne-eqb n 0x80 (λ e. clash (cc (ap isMpt e)))
+
+module _ (q : ℕ) (t : Table) (k : Known) (e r : Extent) (c p m o : List ℕ) (h : Keeps k e c p m o) where
+  pub table-plt : t .number ≡ 0x80 → q ≡ 0 → (p′ : List ℕ) → PltLearnt (plt (t .body)) (k .packages) e r p′ → After (learnTable q t k) (newsTable q t k) e r c p′ m o
+  unfolding learnTable newsTable isPlt learnPlt
+  table-plt n z p′ x = rw (n, z) (plt-after k e r c p m o h p′ (plt (t .body)) x)
+
+  pub table-mpt : isMpt (t .number) ≡ true → (m′ o′ : List ℕ) → length o′ ≡ length o → MptLearnt q (mpt (t .body)) (k .maps) e o r m′ o′ → After (learnTable q t k) (newsTable q t k) e r c p m′ o′
+  unfolding learnTable newsTable isPlt learnMpt
+  table-mpt n m′ o′ l x = rw (not-plt (t .number) n, n) (mpt-after q k e r c p m o h m′ o′ l (mpt (t .body)) x)
+
+  pub table-other : isMpt (t .number) ≡ false → (t .number ≡ 0x80 → q ≡ 0 → ⊥) → After (learnTable q t k) (newsTable q t k) e e c p m o
+  unfolding learnTable newsTable isPlt
+  table-other n z = go (eqb (t .number) 0x80) refl (eqb q 0) refl
+    where
+      go : (a : Bool) → eqb (t .number) 0x80 ≡ a → (b : Bool) → eqb q 0 ≡ b
+          → After (cond (a && b) (learnt (learnPlt (t .body) k)) (cond (isMpt (t .number)) (learnMpt q (t .body) k) (learnt k)))
+          (cond (a && b) (packagesNew (plt (t .body)) (k .plt-seen) (k .packages)) (cond (isMpt (t .number)) (mptNew q (mpt (t .body)) (k .maps) (k .room)) false)) e e c p m o
+      go true ea true eb = absurd (z (eqb-true _ _ ea) (eqb-true _ _ eb))
+      go true ea false eb = rw n (after-none k e c p m o h)
+      go false ea b eb = rw n (after-none k e c p m o h)

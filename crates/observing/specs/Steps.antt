@@ -1,0 +1,46 @@
+-- What each step of learning promises, in the terms of the definitions: the state that the arrays hold afterwards, whatever state it was.
+use Prim.Native.Nat.{ℕ, _+_, _-_}
+use mathlib.Core.Path.{_≡_}
+use mathlib.Core.Bool.{Bool, not, _||_}
+use mathlib.Core.List.{List}
+use lib.ListN.{length, take, drop, getD}
+use Rattle.meaning.specs.Bytes.{Bytes}
+use Rattle.meaning.specs.Sets.{Words, inSet, withId}
+use Rattle.meaning.specs.Tables.{Table}
+use Rattle.meaning.specs.Learn.{Known, Learnt}
+use Rattle.learning.specs.Kept.{Keeps}
+use Rattle.learning.specs.declared.Extent.{Extent}
+
+-- ---- a data-carousel identifier
+
+abbrev pub DataLearnt : ℕ → Extent → Words → Extent → Words → Type 0
+DataLearnt p e ws r ws′ =
+    (ws′ ≡ withId ws p)
+    × (r ≡ record { seen = e .seen; packages = e .packages; maps = e .maps; fragments = e .fragments; lost = e .lost; changed = e .changed || not (inSet ws p) })
+
+-- ---- tables and messages
+
+-- The arrays hold some state.
+abbrev pub KeepsSome : Extent → List ℕ → List ℕ → List ℕ → List ℕ → Type 0
+KeepsSome e carousels packages maps room = (k : Known) × Keeps k e carousels packages maps room
+
+-- After a step: the state that is held, how many maps were lost, whether anything changed.
+pub record After (l : Learnt) (new : Bool) (e r : Extent) (carousels packages maps room : List ℕ) : Type 0 where
+  pub keeps : Keeps (l .known) r carousels packages maps room
+  pub lost-is : r .lost ≡ e .lost + l .lost
+  pub changed-is : r .changed ≡ (e .changed || new)
+  pub fragments-same : r .fragments ≡ e .fragments
+
+-- A step of learning, whatever state the arrays hold.
+abbrev pub Learns : (Known → Learnt) → (Known → Bool) → Extent → List ℕ → List ℕ → List ℕ → List ℕ → Extent → List ℕ → List ℕ → List ℕ → List ℕ → Type 0
+Learns step new e carousels packages maps room r carousels′ packages′ maps′ room′ =
+    (k : Known) → Keeps k e carousels packages maps room → After (step k) (new k) e r carousels′ packages′ maps′ room′
+
+-- A step that leaves the data-carousel identifiers as they are.
+abbrev pub LearnsTables : (Known → Learnt) → (Known → Bool) → Extent → List ℕ → List ℕ → List ℕ → Extent → List ℕ → List ℕ → List ℕ → Type 0
+LearnsTables step new e packages maps room r packages′ maps′ room′ =
+    (carousels : List ℕ) → Learns step new e carousels packages maps room r carousels packages′ maps′ room′
+
+-- The table whose bytes these are.
+abbrev pub tableIn : Bytes → Table
+tableIn t = record { number = getD t 0 0; version = getD t 1 0; body = take (length t - 4) (drop 4 t) }
