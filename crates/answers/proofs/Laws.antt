@@ -16,7 +16,7 @@ use Rattle.meaning.specs.declared.Options.{Options}
 use Rattle.meaning.specs.declared.Service.{Service}
 use Rattle.meaning.specs.declared.Service.the-variants.{Every, Only}
 use Rattle.narrowing.specs.Answers.{NarrowedAs}
-use Rattle.answers.specs.Answers.{rowBytes, frontBytes, changeAs}
+use Rattle.answers.specs.Answers.{threeBytes, rowBytes, frontBytes, changeAs}
 
 pub service-named : (f s : ℕ) → f ≡ 1 → Only s ≡ serviceIf f s
 service-named f s e = rw e
@@ -31,9 +31,13 @@ pub options-with : (flags s : ℕ) (x : Service) → x ≡ serviceIf (flags / 8 
 unfolding optionsOf
 options-with flags s x e = ap (with-service flags) e
 
+pub three-long : (a b c : ℕ) → length (threeBytes a b c) ≡ 12
+unfolding threeBytes put32 put16
+three-long a b c = refl
+
 pub twelve : (row : List ℕ) → length (rowBytes row) ≡ 12
-unfolding rowBytes put32 put16
-twelve row = refl
+unfolding rowBytes
+twelve row = three-long (getD row 0 0) (getD row 1 0) (getD row 2 0)
 
 pub six : (n : Narrowing) → length (frontBytes n) ≡ 6
 unfolding frontBytes put32 put16
@@ -53,11 +57,11 @@ module _ (kind : ℕ) (head input : Bytes) (o : Options) (s : ℕ) (i : s ≡ be
   case-packet n m = rw (e, i, ne-eqb kind 1 n, ne-eqb kind 2 m)
 
 -- What was written lies within the output.
+pub wrote-within : {y d d′ : Bytes} {k : ℕ} → Wrote y d 0 d′ k → k ≤ length d′
+wrote-within {y} {d} {d′} {k} u = omega (arith, u .end, length-take k d′, length-append (take 0 d) y, ap length (u .front))
+
 pub told-within : (x : ℕ) (n : Option Change) (d d′ : Bytes) (r : Narrowing) (s w : List ℕ) → NarrowedAs x n d d′ r s w → narrowingLength r ≤ length d′
 unfolding narrowingLength
 told-within x n d d′ (Narrowing.Refused r) s w h = omega arith
 told-within x n d d′ Narrowing.Unchanged s w h = omega arith
-told-within x n d d′ (Narrowing.Changed k) s w h =
-    let c : Change = h .1 .0 in
-    let u : Wrote (c .out) d 0 d′ k = h .1 .2 in
-    omega (arith, u .end, length-take k d′, length-append (take 0 d) (c .out), ap length (u .front))
+told-within x n d d′ (Narrowing.Changed k) s w h = let u : Wrote (h .1 .0 .out) d 0 d′ k = h .1 .2 in wrote-within u

@@ -16,9 +16,13 @@ changedFlag (Narrowing.Refused r) = 0
 changedFlag Narrowing.Unchanged = 0
 changedFlag (Narrowing.Changed n) = 1
 
+unfoldable pub threeBytes : ℕ → ℕ → ℕ → Bytes
+threeBytes a b c = put32 a ++ (put32 b ++ put32 c)
+
 -- Three counts.
 unfoldable pub rowBytes : List ℕ → Bytes
-rowBytes row = put32 (getD row 0 0) ++ (put32 (getD row 1 0) ++ put32 (getD row 2 0))
+unfolding threeBytes
+rowBytes row = threeBytes (getD row 0 0) (getD row 1 0) (getD row 2 0)
 
 unfoldable pub frontBytes : Narrowing → Bytes
 frontBytes n = (narrowingNumber n ∷ []) ++ ((changedFlag n ∷ []) ++ put32 (narrowingLength n))

@@ -1,13 +1,19 @@
-// Answers to a batch of cases on standard input, in the format of docs/ARCHITECTURE.md: kinds 1 to 3, narrowings. No contract can say
-// which bytes are read or written, so the promises stop at what is read from and written to the program's own arrays.
+// Answers to a batch of cases on standard input, in the format of docs/ARCHITECTURE.md: a stream (kind 0, in `streams`) or a narrowing
+// (kinds 1 to 3). No contract can say which bytes are read or written, so the promises stop at what is read from and written to the
+// program's own arrays.
 ghost use mathlib.Core.Path.{_≡_};
 ghost use Prim.Native.Nat.{_+_, _/_, _%_, _≤_, _<_};
 ghost use lib.ListN.{length};
 ghost use Rattle.meaning.specs.Writing.{Wrote};
 ghost use Rattle.meaning.specs.Programs.{serviceIf, optionsOf};
-ghost use Rattle.meaning.specs.Refusals.{numberOf, narrowingNumber, narrowingLength, narrowRefusal};
+ghost use Rattle.meaning.specs.Refusals.{numberOf, answerNumber, narrowingNumber, narrowingLength, narrowRefusal};
 ghost use Rattle.narrowing.specs.Answers.{NarrowedAs};
-ghost use Rattle.answers.specs.Answers.{changedFlag, rowBytes, frontBytes, headBytes, changeAs};
+ghost use Rattle.answers.specs.Answers.{changedFlag, threeBytes, rowBytes, frontBytes, headBytes, changeAs};
+
+mod streams;
+
+use crate::streams::stream;
+use meaning::Answer;
 use meaning::Narrowing;
 use meaning::Options;
 use meaning::Refusal;
@@ -21,10 +27,16 @@ use octets::id16;
 use octets::put8;
 use octets::put32;
 
-// The rooms: the longest input and the longest output of a case.
-const INPUT: usize = 131200;
+// The rooms: the longest chunk or narrowing input, the longest output, and the longest rooms of a stream's filter.
+pub const INPUT: usize = 131200;
 
-const OUTPUT: usize = 262400;
+pub const OUTPUT: usize = 262400;
+
+pub const WORK: usize = 131200;
+
+pub const BODIES: usize = 1048576;
+
+pub const MAPS: usize = 33000;
 
 fn service_of(flags: u8, service: u16) -> Service
     ensures { λ r. ⌜ r ≡ serviceIf (flags / 8 % 2) service ⌝ }
@@ -35,7 +47,7 @@ fn service_of(flags: u8, service: u16) -> Service
     Service::Every
 }
 
-fn options_of(flags: u8, service: u16) -> Options
+pub fn options_of(flags: u8, service: u16) -> Options
     ensures { λ r. ⌜ r ≡ optionsOf flags service ⌝ }
 {
     Options {
@@ -59,6 +71,16 @@ fn number_of(r: Refusal) -> u8
         Refusal::Short => 6,
         Refusal::Tally => 7,
         Refusal::Input => 8,
+    }
+}
+
+// The number of an answer, 0 where it is no refusal.
+pub fn answer_number(a: Answer) -> u8
+    ensures { λ n. ⌜ n ≡ answerNumber a ⌝ }
+{
+    match a {
+        Answer::Done => 0,
+        Answer::Refused(r) => number_of(r),
     }
 }
 
@@ -92,14 +114,22 @@ fn changed_length(n: Narrowing) -> usize
     }
 }
 
+// Writes three numbers of 32 bits at `to`; answers the place past them.
+pub fn put_three(out: &mut [u8], to: usize, a: usize, b: usize, c: usize) -> usize
+    requires { ⌜ to + 12 ≤ length (now out) ⌝ }
+    ensures { λ r. ⌜ Wrote (threeBytes a b c) (now (out .entry)) to (now (out .exit)) r ⌝ }
+{
+    let second = put32(out, to, a);
+    let third = put32(out, second, b);
+    put32(out, third, c)
+}
+
 // Writes three counts at `to`; answers the place past them.
 fn put_row(out: &mut [u8], to: usize, row: [u64; 3]) -> usize
     requires { ⌜ to + 12 ≤ length (now out) ⌝ }
     ensures { λ r. ⌜ Wrote (rowBytes row) (now (out .entry)) to (now (out .exit)) r ⌝ }
 {
-    let a = put32(out, to, row[0] as usize);
-    let b = put32(out, a, row[1] as usize);
-    put32(out, b, row[2] as usize)
+    put_three(out, to, row[0] as usize, row[1] as usize, row[2] as usize)
 }
 
 // Writes the refusal's number, whether it is changed, and the length; answers the place past them.
@@ -188,9 +218,30 @@ fn in_rooms(kind: u8, input: &mut [u8; INPUT], out: &mut [u8; OUTPUT]) -> bool {
     one_narrowing(kind, input, out)
 }
 
+// One case after its kind; answers whether another may follow.
+fn one_case(
+    kind: u8,
+    input: &mut [u8; INPUT],
+    work: &mut [u8; WORK],
+    bodies: &mut [u8; BODIES],
+    room: &mut [u16; MAPS],
+    out: &mut [u8; OUTPUT],
+) -> bool {
+    if kind == 0 {
+        return stream(input, work, bodies, room, out);
+    }
+    if 3 < kind {
+        return false;
+    }
+    in_rooms(kind, input, out)
+}
+
 fn main() {
     let mut kind = [0u8; 1];
     let mut input = [0u8; INPUT];
+    let mut work = [0u8; WORK];
+    let mut bodies = [0u8; BODIES];
+    let mut room = [0u16; MAPS];
     let mut out = [0u8; OUTPUT];
     let mut turns = u64::MAX;
     while 0 < turns {
@@ -198,14 +249,14 @@ fn main() {
         if io::read_full(0, &mut kind) != 1 {
             return;
         }
-        let k = kind[0];
-        if k == 0 {
-            return;
-        }
-        if 3 < k {
-            return;
-        }
-        if !in_rooms(k, &mut input, &mut out) {
+        if !one_case(
+            kind[0],
+            &mut input,
+            &mut work,
+            &mut bodies,
+            &mut room,
+            &mut out,
+        ) {
             return;
         }
     }

@@ -15,6 +15,8 @@ mod narrowing;
 mod proved;
 #[cfg(driver)]
 mod rules;
+#[cfg(driver)]
+mod streams;
 
 use std::process::ExitCode;
 
@@ -22,7 +24,12 @@ use std::process::ExitCode;
 #[cfg(driver)]
 fn main() -> ExitCode {
     let word = std::env::args().nth(1).unwrap_or_default();
-    let rows = [narrowing::rows(), learning::rows(), rules::rows()];
+    let rows = [
+        narrowing::rows(),
+        learning::rows(),
+        rules::rows(),
+        streams::rows(),
+    ];
     let asked = |row: &measure::Row| row.name.contains(&word);
     measure::table(rows.into_iter().flatten().filter(asked).collect());
     ExitCode::SUCCESS

@@ -87,11 +87,14 @@ pub fn of_seed(seed: u64, stream: bool, narrowings: usize) -> Vec<u8> {
     writer.bytes
 }
 
-/// The named cases as bytes.
+/// The named cases as bytes: narrowings, then streams.
 pub fn named() -> Vec<u8> {
     let mut writer = Writer::default();
     for case in named::named() {
         writer.narrowing(&Narrowing::from(&case.input));
+    }
+    for stream in named::streams() {
+        writer.stream(&Stream::from(&stream.case));
     }
     writer.bytes
 }

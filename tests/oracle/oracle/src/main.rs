@@ -28,7 +28,7 @@ const USAGE: &str = "usage: oracle COMMAND
                               one narrowing of standard input
   cases --seeds A..B [--narrowing N] [--streams 0]
                               the seeds' cases, each with at most N narrowings and its stream, or none
-  cases --named               the named narrowings: what the port's program answers stores
+  cases --named               the named cases: what the port's program answers stores
   answers [--by original|plain]
                               the answers to the cases on standard input
   theorems --seeds A..B [--narrowing N] [--longest N] [--most N]

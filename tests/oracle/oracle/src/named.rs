@@ -1,6 +1,6 @@
-//! `cases --named`: narrowings in a fixed order, each with a name to find it by: 01's examples, the readings of
-//! its open sentences, sizes at each limit, and damaged inputs. Beside each that was built by hand stands its
-//! answer; damaged ones are the original's to judge.
+//! `cases --named`: narrowings and after them streams, in a fixed order, each with a name to find it by: 01's
+//! examples, the readings of its open sentences, sizes at each limit, damaged inputs and small streams. Beside
+//! each that was built by hand stands its answer; the others are the original's to judge.
 
 use face::{Kind, Narrowed, Options};
 use maker::Input;
@@ -10,6 +10,9 @@ mod examples;
 mod packets;
 mod readings;
 mod sizes;
+mod streams;
+
+pub use streams::{Answer, NamedStream, streams};
 
 #[derive(Debug, Clone, PartialEq, Eq)]
 pub struct Named {
@@ -19,7 +22,7 @@ pub struct Named {
     pub answer: Option<Narrowed>,
 }
 
-/// All of them, in the order in which they are written.
+/// All narrowings, in the order in which they are written.
 pub fn named() -> Vec<Named> {
     [
         examples::examples(),

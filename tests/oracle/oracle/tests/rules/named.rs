@@ -5,8 +5,8 @@ use std::collections::BTreeSet;
 use std::process::Command;
 
 use face::{Kind, Narrowed, Options};
-use oracle::cases::{Case, Narrowing, Reader};
-use oracle::named::{Named, named};
+use oracle::cases::{Case, Narrowing, Reader, Stream};
+use oracle::named::{Answer, Named, NamedStream, named, streams};
 
 use crate::subject::Subject;
 
@@ -19,9 +19,10 @@ fn damaged() -> Vec<Named> {
 
 #[test]
 fn names_are_unique() {
-    let cases = named();
-    let names: BTreeSet<_> = cases.iter().map(|case| &case.name).collect();
-    assert_eq!(names.len(), cases.len());
+    let (cases, streams) = (named(), streams());
+    let names = cases.iter().map(|case| &case.name);
+    let names: BTreeSet<_> = names.chain(streams.iter().map(|case| &case.name)).collect();
+    assert_eq!(names.len(), cases.len() + streams.len());
 }
 
 /// The second filter answers as the original does, and both as is stated.
@@ -38,6 +39,50 @@ fn answers_are_those_that_stand_beside_the_cases() {
             None => assert!(case.name.starts_with("damaged "), "{}", case.name),
         }
     }
+}
+
+/// What a filter answers to a stream. After a refused call as much is held as before it.
+fn ran(filter: &Subject, stream: &NamedStream) -> Answer {
+    let case = &stream.case;
+    let mut run = match (filter.start)(case.limits, case.options) {
+        Ok(run) => run,
+        Err(number) => return Answer::Refused(number),
+    };
+    let mut calls = Vec::new();
+    for chunk in Stream::from(case).chunks {
+        let held = run.held();
+        let call = run.push(chunk, case.room);
+        assert!(call.is_ok() || run.held() == held, "{}", stream.name);
+        calls.push(call);
+    }
+    let dropped = run.dropped();
+    Answer::Ran { calls, dropped }
+}
+
+#[test]
+fn answers_are_those_that_stand_beside_the_streams() {
+    for stream in streams() {
+        let found = ran(&Subject::original(), &stream);
+        assert_eq!(found, ran(&Subject::plain(), &stream), "{}", stream.name);
+        match stream.answer {
+            Some(answer) => assert_eq!(found, answer, "{}", stream.name),
+            None => assert!(stream.name.starts_with("small "), "{}", stream.name),
+        }
+    }
+}
+
+/// Starts are refused by each number that one can have, and calls by each that one can have after a start.
+#[test]
+fn all_refusals_of_starts_and_calls_occur() {
+    let (mut starts, mut pushes) = (BTreeSet::new(), BTreeSet::new());
+    for stream in streams() {
+        match ran(&Subject::original(), &stream) {
+            Answer::Refused(number) => drop(starts.insert(number)),
+            Answer::Ran { calls, .. } => pushes.extend(calls.into_iter().filter_map(Result::err)),
+        }
+    }
+    assert_eq!(starts, BTreeSet::from([1, 2, 3]));
+    assert_eq!(pushes, BTreeSet::from([5, 6]));
 }
 
 /// The side of the original that the bench measures. EIT off would drop a packet there, before it is narrowed.
@@ -128,11 +173,14 @@ fn cases(words: &[&str]) -> Vec<u8> {
 
 #[test]
 fn the_command_writes_them_in_order() {
-    let named = named();
-    let expected: Vec<_> = named
+    let (named, streams) = (named(), streams());
+    let narrowings = named
         .iter()
-        .map(|case| Case::Narrowing(Narrowing::from(&case.input)))
-        .collect();
+        .map(|case| Case::Narrowing(Narrowing::from(&case.input)));
+    let streams = streams
+        .iter()
+        .map(|stream| Case::Stream(Stream::from(&stream.case)));
+    let expected: Vec<_> = narrowings.chain(streams).collect();
     let bytes = cases(&["--named"]);
     assert!(bytes.len() < 1_500_000, "{} bytes", bytes.len());
     assert_eq!(Reader::new(&bytes).collect::<Vec<_>>(), expected);
