@@ -3,7 +3,7 @@
 
 use face::Options;
 use oracle::builders::{ALL, NO_CAPTIONS, only};
-use original::Parts;
+use original::Untouched;
 
 use crate::measure::Row;
 
@@ -106,7 +106,7 @@ impl Rooms {
         }
     }
 
-    /// The proved side of `Parts::stream`.
+    /// The proved side of `Untouched::stream`, with a fresh filter.
     fn stream(&mut self, options: Options, stream: &[u8], size: usize, kept: bool) -> usize {
         // SAFETY: all are whole and apart, and the driver keeps none.
         unsafe {
@@ -134,14 +134,14 @@ impl Rooms {
 fn row(name: &str, options: Options, stream: Vec<u8>, size: usize, times: usize) -> Row {
     let mut rooms = Rooms::new(stream.len());
     let mut out = Vec::with_capacity(rooms.out.len());
-    Parts::stream(options, &stream, size, true, &mut out);
+    Untouched::new(options).stream(&stream, size, true, &mut out);
     let written = rooms.stream(options, &stream, size, true);
     assert!(rooms.out[..written] == out, "{name}");
     let given = stream.clone();
     Row {
         name: name.to_owned(),
         times,
-        original: Box::new(move || Parts::stream(options, &stream, size, false, &mut out)),
+        original: Box::new(move || Untouched::new(options).stream(&stream, size, false, &mut out)),
         proved: Box::new(move || rooms.stream(options, &given, size, false)),
     }
 }

@@ -83,6 +83,21 @@ impl Untouched {
         Self(untouched::Filter::new(options))
     }
 
+    /// A stream in chunks of `size` bytes; answers how many bytes were written. They stand one behind the other in the
+    /// output or, not kept, each chunk's at its start.
+    pub fn stream(&mut self, stream: &[u8], size: usize, kept: bool, out: &mut Vec<u8>) -> usize {
+        out.clear();
+        let pass = |chunk| {
+            if !kept {
+                out.clear();
+            }
+            let before = out.len();
+            self.0.push(chunk, out);
+            out.len() - before
+        };
+        stream.chunks(size).map(pass).sum()
+    }
+
     /// The bytes that are written for a chunk.
     pub fn push(&mut self, chunk: &[u8]) -> Vec<u8> {
         let mut out = Vec::new();

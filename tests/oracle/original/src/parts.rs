@@ -51,22 +51,6 @@ impl Parts {
         self.0.rewrite(identifier, payload)
     }
 
-    /// A stream through a fresh filter in chunks of `size` bytes; answers how many bytes it wrote. They stand one behind
-    /// the other in the output or, not kept, each chunk's at its start.
-    pub fn stream(options: Options, stream: &[u8], size: usize, kept: bool, out: &mut Vec<u8>) -> usize {
-        let mut filter = Filter::new(options);
-        out.clear();
-        let pass = |chunk| {
-            if !kept {
-                out.clear();
-            }
-            let before = out.len();
-            filter.push(chunk, out);
-            out.len() - before
-        };
-        stream.chunks(size).map(pass).sum()
-    }
-
     /// Learns from a payload. Answers whether the rules are to be worked out.
     pub fn observe(&mut self, identifier: u16, payload: &[u8]) -> bool {
         self.0.changed = false;
