@@ -2,22 +2,17 @@
 // (kinds 1 to 3). No contract can say which bytes are read or written, so the promises stop at what is read from and written to the
 // program's own arrays.
 ghost use mathlib.Core.Path.{_≡_};
-ghost use Prim.Native.Nat.{_+_, _/_, _%_, _≤_, _<_};
+ghost use Prim.Native.Nat.{_+_, _≤_};
 ghost use lib.ListN.{length};
 ghost use Rattle.meaning.specs.Writing.{Wrote};
-ghost use Rattle.meaning.specs.Programs.{serviceIf, optionsOf};
-ghost use Rattle.meaning.specs.Refusals.{numberOf, answerNumber, narrowingNumber, narrowingLength, narrowRefusal};
+ghost use Rattle.meaning.specs.Refusals.{narrowingNumber, narrowingLength, narrowRefusal};
 ghost use Rattle.narrowing.specs.Answers.{NarrowedAs};
 ghost use Rattle.answers.specs.Answers.{changedFlag, threeBytes, rowBytes, frontBytes, headBytes, changeAs};
 
 mod streams;
 
 use crate::streams::stream;
-use meaning::Answer;
 use meaning::Narrowing;
-use meaning::Options;
-use meaning::Refusal;
-use meaning::Service;
 use narrowing::narrow::Narrowed;
 use narrowing::narrow::narrow_packet;
 use narrowing::narrow::narrow_payload;
@@ -26,6 +21,8 @@ use octets::be32;
 use octets::id16;
 use octets::put8;
 use octets::put32;
+use programs::asked::number_of;
+use programs::asked::options_of;
 
 // The rooms: the longest chunk or narrowing input, the longest output, and the longest rooms of a stream's filter.
 pub const INPUT: usize = 131200;
@@ -37,52 +34,6 @@ pub const WORK: usize = 131200;
 pub const BODIES: usize = 1048576;
 
 pub const MAPS: usize = 33000;
-
-fn service_of(flags: u8, service: u16) -> Service
-    ensures { λ r. ⌜ r ≡ serviceIf (flags / 8 % 2) service ⌝ }
-{
-    if flags / 8 % 2 == 1 {
-        return Service::Only(service);
-    }
-    Service::Every
-}
-
-pub fn options_of(flags: u8, service: u16) -> Options
-    ensures { λ r. ⌜ r ≡ optionsOf flags service ⌝ }
-{
-    Options {
-        service: service_of(flags, service),
-        caption: flags % 2 == 1,
-        carousel: flags / 2 % 2 == 1,
-        eit: flags / 4 % 2 == 1,
-    }
-}
-
-// The number of a refusal.
-fn number_of(r: Refusal) -> u8
-    ensures { λ n. ⌜ n ≡ numberOf r ⌝ }
-{
-    match r {
-        Refusal::WorkRoom => 1,
-        Refusal::FragmentRoom => 2,
-        Refusal::MapRoom => 3,
-        Refusal::Unsound => 4,
-        Refusal::Long => 5,
-        Refusal::Short => 6,
-        Refusal::Tally => 7,
-        Refusal::Input => 8,
-    }
-}
-
-// The number of an answer, 0 where it is no refusal.
-pub fn answer_number(a: Answer) -> u8
-    ensures { λ n. ⌜ n ≡ answerNumber a ⌝ }
-{
-    match a {
-        Answer::Done => 0,
-        Answer::Refused(r) => number_of(r),
-    }
-}
 
 fn refused_number(n: Narrowing) -> u8
     ensures { λ r. ⌜ r ≡ narrowingNumber n ⌝ }

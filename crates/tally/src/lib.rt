@@ -39,7 +39,7 @@ fn fits(t: Counts, c: Counts) -> bool
 }
 
 // What a call of the tally answers.
-fn tally_answer(t: Counts, c: Counts) -> Answer
+pub fn tally_answer(t: Counts, c: Counts) -> Answer
     ensures { λ r. ⌜ answerNumber r ≡ tallyRefusal t c ⌝ }
 {
     if fits(t, c) {
@@ -49,7 +49,7 @@ fn tally_answer(t: Counts, c: Counts) -> Answer
 }
 
 // The tally after a call, by value.
-fn sum_of(t: Counts, c: Counts) -> Counts
+pub fn sum_of(t: Counts, c: Counts) -> Counts
     ensures { λ r. ⌜ r ≡ tallied t c ⌝ }
 {
     if !fits(t, c) {

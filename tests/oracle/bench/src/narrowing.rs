@@ -117,9 +117,7 @@ fn by_original(filter: &mut Parts, work: Work, packet: &[u8]) -> Vec<u8> {
                 .rewrite(identifier, &packet[BODY..])
                 .unwrap_or_default();
         }
-        Work::Written | Work::Counted => {
-            filter.packets(packet, packet.len(), &mut out);
-        }
+        Work::Written | Work::Counted => filter.packet(packet, &mut out),
     }
     out
 }

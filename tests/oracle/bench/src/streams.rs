@@ -61,7 +61,7 @@ pub fn rows() -> Vec<Row> {
         ),
         kib(
             "push, air, a KiB, a service of six",
-            only(1),
+            only(0x0401),
             air(STREAM),
             32_768,
         ),

@@ -18,6 +18,7 @@ use plain::Plain;
 const USAGE: &str = "usage: oracle COMMAND
   filter                      the filtered stream: flag byte, service and stream on standard input
   sums                        its line of sums
+  input [--seed N]            an input of these two: seed 0 is the example
   run [--flags N] [--service N] [--work W] [--total T] [--most M] [--maps N] [--room N]
       [--cuts A,B,C] [--by original|plain] [--out FILE]
                               a line for each call of the stream on standard input; W, T and M are
@@ -53,6 +54,7 @@ fn dispatch(command: &str, words: impl Iterator<Item = String>) -> Answer {
     match command {
         "filter" => read(&[], &[]).and_then(|_| program(programs::filter::<Original>)),
         "sums" => read(&[], &[]).and_then(|_| program(programs::sums::<Original>)),
+        "input" => input_command(&read(&["seed"], &[])?),
         "run" => run_command(&read(RUN, &[])?),
         "narrow" => narrow_command(&read(NARROW, &["hex"])?),
         "cases" => cases_command(&read(&["seeds", "narrowing", "streams"], &["named"])?),
@@ -75,6 +77,12 @@ fn program(
 ) -> Answer {
     let output = io::BufWriter::new(io::stdout().lock());
     program(io::stdin().lock(), output).map_err(text)?;
+    Ok(ExitCode::SUCCESS)
+}
+
+fn input_command(arguments: &Arguments) -> Answer {
+    let input = programs::input(arguments.number("seed", 0)?);
+    io::stdout().lock().write_all(&input).map_err(text)?;
     Ok(ExitCode::SUCCESS)
 }
 

@@ -13,6 +13,19 @@ const LIMITS: Limits = Limits {
     maps: 32_768,
 };
 
+/// An input of the two programs from a seed. The seeds take turns: a stream like a broadcast, one of tables, and one of
+/// the maker's, which may be damaged or hostile. Seed 0 is the example: a service of six, without captions and carousels.
+pub fn input(seed: u64) -> Vec<u8> {
+    let stream = match seed % 3 {
+        0 => maker::air(seed, 100_000),
+        1 => maker::dense(seed, 40_000),
+        _ => maker::plain_case(seed).bytes,
+    };
+    let flags = 0b1100 ^ (seed % 16) as u8;
+    let service = 0x0401 + (seed % 6) as u16;
+    [&[flags][..], &service.to_be_bytes(), &stream].concat()
+}
+
 /// Writes the filtered stream; "bytes held at the end are not written".
 pub fn filter<E: Engine>(input: impl Read, mut output: impl Write) -> io::Result<()> {
     let end = stream::<E>(input, |call| output.write_all(&call.out))?;

@@ -24,12 +24,16 @@ impl Parts {
         Self(Filter::new(options))
     }
 
-    /// Writes each signalling packet of `size` bytes to an output that is empty, narrowed or as it is, and answers how
-    /// many bytes that were. Nothing learned, nothing is dropped.
+    /// Appends a signalling packet, narrowed or as it is. Nothing learned, nothing is dropped.
+    pub fn packet(&mut self, packet: &[u8], out: &mut Vec<u8>) {
+        self.0.packet(packet, out);
+    }
+
+    /// Writes each packet of `size` bytes so to an output that is empty, and answers how many bytes that were.
     pub fn packets(&mut self, packets: &[u8], size: usize, out: &mut Vec<u8>) -> usize {
         let write = |packet| {
             out.clear();
-            self.0.packet(packet, out);
+            self.packet(packet, out);
             out.len()
         };
         packets.chunks_exact(size).map(write).sum()

@@ -1,4 +1,4 @@
-use Rattle.answers.proofs.Laws.{wrote-within}
+use Rattle.programs.proofs.LineLaws.{wrote-within}
 use borrow.Author.Needs.{needs}
 use Rattle.answers.proofs.streams.one_call.Statement.{statement}
 use Rattle.answers.proofs.streams.one_call.Tie as tie

@@ -95,3 +95,14 @@ fn r34_a_flag_that_is_on_is_wanted() {
     assert_eq!(written(&eit(0b100))[1], signalling(0x8000, &[]));
     assert_eq!(written(&eit(0b011))[1], b"");
 }
+
+#[test]
+fn inputs_of_seeds_are_filtered_and_the_example_is_narrowed() {
+    for seed in 0..12 {
+        written(&oracle::programs::input(seed));
+    }
+    let example = oracle::programs::input(0);
+    let [sums, filtered] = written(&example);
+    assert!(0 < filtered.len() && filtered.len() < example.len() - 3);
+    assert!(!String::from_utf8_lossy(&sums).contains("rewritten 0"));
+}

@@ -1,8 +1,8 @@
-use Rattle.answers.proofs.Laws.{service-named, service-every}
+use Rattle.programs.proofs.AskedLaws.{service-named, service-every}
 use Prim.Native.Nat.{_/_, _%_}
 use native.Mathlib.Omega.{arith}
-use Rattle.answers.proofs.service_of.Statement.{statement}
-use Rattle.answers.proofs.service_of.Tie as tie
+use Rattle.programs.proofs.asked.service_of.Statement.{statement}
+use Rattle.programs.proofs.asked.service_of.Tie as tie
 
 returns : tie.Need-returns
 returns c = let a = c .before .args in service-named (a .flags / 8 % 2) (a .service) (c .if1 .taken)

@@ -1,7 +1,7 @@
 use Rattle.meaning.specs.Refusals.{answerNumber}
 use borrow.Author.Needs.{needs}
-use Rattle.answers.proofs.answer_number.Statement.{statement}
-use Rattle.answers.proofs.answer_number.Tie as tie
+use Rattle.programs.proofs.asked.answer_number.Statement.{statement}
+use Rattle.programs.proofs.asked.answer_number.Tie as tie
 
 enum-told : tie.Need-enum-told
 enum-told c = search needs

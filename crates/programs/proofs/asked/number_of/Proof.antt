@@ -1,7 +1,7 @@
 use Rattle.meaning.specs.Refusals.{numberOf}
 use borrow.Author.Needs.{needs}
-use Rattle.answers.proofs.number_of.Statement.{statement}
-use Rattle.answers.proofs.number_of.Tie as tie
+use Rattle.programs.proofs.asked.number_of.Statement.{statement}
+use Rattle.programs.proofs.asked.number_of.Tie as tie
 
 enum-told : tie.Need-enum-told
 enum-told c = search needs

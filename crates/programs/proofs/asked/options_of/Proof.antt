@@ -1,7 +1,7 @@
-use Rattle.answers.proofs.Laws.{options-with}
+use Rattle.programs.proofs.AskedLaws.{options-with}
 use borrow.Author.Needs.{needs}
-use Rattle.answers.proofs.options_of.Statement.{statement}
-use Rattle.answers.proofs.options_of.Tie as tie
+use Rattle.programs.proofs.asked.options_of.Statement.{statement}
+use Rattle.programs.proofs.asked.options_of.Tie as tie
 
 service-of-requires : tie.Need-service-of-requires
 service-of-requires c κs = search needs

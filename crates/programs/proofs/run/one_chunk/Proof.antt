@@ -1,0 +1,61 @@
+use Rattle.programs.proofs.LineLaws.{wrote-within}
+use borrow.Author.Needs.{needs}
+use Rattle.programs.proofs.run.one_chunk.Statement.{statement}
+use Rattle.programs.proofs.run.one_chunk.Tie as tie
+
+push-requires : tie.Need-push-requires
+push-requires c κs = search needs
+
+sub-write-all : tie.Need-sub-write-all
+sub-write-all c = search needs
+
+part-write-all-start : tie.Need-part-write-all-start
+part-write-all-start c = search needs
+
+part-write-all-end : tie.Need-part-write-all-end
+part-write-all-end c = wrote-within (c .before .before .before .before .before .before .before .before .before .before .before .push .ensures .written)
+
+write-all-requires : tie.Need-write-all-requires
+write-all-requires c κs = search needs
+
+tally-answer-requires : tie.Need-tally-answer-requires
+tally-answer-requires c κs = search needs
+
+first-of-requires : tie.Need-first-of-requires
+first-of-requires c κs = search needs
+
+sum-of-requires : tie.Need-sum-of-requires
+sum-of-requires c κs = search needs
+
+same-length : tie.Need-same-length
+same-length c = search needs
+
+same-length-2 : tie.Need-same-length-2
+same-length-2 c = search needs
+
+same-length-3 : tie.Need-same-length-3
+same-length-3 c = search needs
+
+same-length-4 : tie.Need-same-length-4
+same-length-4 c = search needs
+
+returns : tie.Need-returns
+returns c = search needs
+
+pub one-chunk-spec : {M : Type 1} → statement M
+one-chunk-spec =
+    tie.close
+    (tie.spec
+    push-requires
+    sub-write-all
+    part-write-all-start
+    part-write-all-end
+    write-all-requires
+    tally-answer-requires
+    first-of-requires
+    sum-of-requires
+    same-length
+    same-length-2
+    same-length-3
+    same-length-4
+    returns)

@@ -1,0 +1,199 @@
+// A whole run: 01, the paragraph after the examples. Standard input has a flag byte, a service and a stream; the filtered stream is
+// written, or a line of sums, or the line of a refusal. No contract can say which bytes are read or written: these functions are
+// proved safe and ending, and what they call keeps its promises.
+ghost use mathlib.Core.Path.{_≡_};
+ghost use Prim.Native.Nat.{_≤_};
+ghost use lib.ListN.{length};
+use crate::asked::answer_number;
+use crate::asked::options_of;
+use crate::lines::put_refused;
+use crate::lines::put_sums;
+use meaning::Answer;
+use meaning::Counts;
+use meaning::Options;
+use meaning::Refusal;
+use octets::id16;
+use recorder::Filter;
+use recorder::start;
+use tally::sum_of;
+use tally::tally_answer;
+
+// The chunks, and the lengths of the rooms: W, T and M alike.
+const CHUNK: usize = 32768;
+
+const ROOM: usize = 65536;
+
+const MAPS: usize = 32768;
+
+// How far a run has come: what was answered last, the sums, and the record to go on with.
+pub struct Passed {
+    pub answer: Answer,
+    pub sums: Counts,
+    pub filter: Filter,
+}
+
+// What the head of the input asks for.
+enum Head {
+    Asks(Options),
+    Nothing,
+}
+
+fn read_head() -> Head {
+    let mut head = [0u8; 3];
+    if io::read_full(0, &mut head) != 3 {
+        return Head::Nothing;
+    }
+    if 15 < head[0] {
+        return Head::Nothing;
+    }
+    Head::Asks(options_of(head[0], id16(&head, 1)))
+}
+
+fn is_done(a: Answer) -> bool {
+    answer_number(a) == 0
+}
+
+fn print_refused(a: Answer) {
+    let mut line = [0u8; 29];
+    let n = put_refused(answer_number(a), &mut line);
+    io::write_all(1, &line[0..n]);
+}
+
+fn print_sums(sums: Counts, held: usize) {
+    let mut line = [0u8; 170];
+    let n = put_sums(sums, held, &mut line);
+    io::write_all(1, &line[0..n]);
+}
+
+// The first refusal of two answers.
+fn first_of(a: Answer, b: Answer) -> Answer {
+    if is_done(a) {
+        return b;
+    }
+    a
+}
+
+// One chunk: its bytes are written where that is asked for, and its counts are added. A refused call has neither.
+fn one_chunk(
+    f: Filter,
+    sums: Counts,
+    writes: bool,
+    chunk: &[u8],
+    work: &mut [u8],
+    bodies: &mut [u8],
+    room: &mut [u16],
+    out: &mut [u8],
+) -> Passed {
+    let p = f.push(chunk, work, bodies, room, out);
+    let c = p.counts;
+    let n = c.bytes;
+    if writes {
+        io::write_all(1, &out[0..n]);
+    }
+    let a = p.answer;
+    let answer = first_of(a, tally_answer(sums, c));
+    let filter = p.filter;
+    Passed {
+        answer,
+        sums: sum_of(sums, c),
+        filter,
+    }
+}
+
+// All chunks in turn, each with the record that the one before handed back. A refusal ends the run.
+fn pass(
+    first: Passed,
+    writes: bool,
+    chunk: &mut [u8],
+    work: &mut [u8],
+    bodies: &mut [u8],
+    room: &mut [u16],
+    out: &mut [u8],
+) -> Passed {
+    let mut x = first;
+    let mut turns = u64::MAX;
+    while 0 < turns {
+        turns -= 1;
+        let n = io::read_full(0, chunk);
+        if n == 0 {
+            return x;
+        }
+        let f = x.filter;
+        let sums = x.sums;
+        x = one_chunk(f, sums, writes, &chunk[0..n], work, bodies, room, out);
+        let a = x.answer;
+        if !is_done(a) {
+            return x;
+        }
+    }
+    x
+}
+
+// A start, then all chunks.
+fn started(
+    o: Options,
+    writes: bool,
+    chunk: &mut [u8; CHUNK],
+    work: &mut [u8; ROOM],
+    bodies: &mut [u8; ROOM],
+    room: &mut [u16; MAPS],
+    out: &mut [u8; ROOM],
+) -> Passed {
+    let s = start(work, bodies, room, ROOM, o);
+    let answer = s.answer;
+    let filter = s.filter;
+    let x = Passed {
+        answer,
+        sums: Counts {
+            bytes: 0,
+            accepted: 0,
+            written: 0,
+            rewritten: 0,
+            skipped: 0,
+            lost: 0,
+        },
+        filter,
+    };
+    if !is_done(answer) {
+        return x;
+    }
+    pass(x, writes, chunk, work, bodies, room, out)
+}
+
+// The end of a run: the line of a refusal, or that of the sums where the stream was not written.
+fn finish(x: Passed, writes: bool) {
+    let a = x.answer;
+    let f = x.filter;
+    if !is_done(a) {
+        print_refused(a);
+        return;
+    }
+    let sums = x.sums;
+    if !writes {
+        print_sums(sums, f.held);
+    }
+}
+
+// A run that writes the filtered stream, or else a line of sums.
+pub fn run(writes: bool) {
+    let mut chunk = [0u8; CHUNK];
+    let mut work = [0u8; ROOM];
+    let mut bodies = [0u8; ROOM];
+    let mut room = [0u16; MAPS];
+    let mut out = [0u8; ROOM];
+    let asked = read_head();
+    let Head::Asks(o) = asked else {
+        print_refused(Answer::Refused(Refusal::Input));
+        return;
+    };
+    let x = started(
+        o,
+        writes,
+        &mut chunk,
+        &mut work,
+        &mut bodies,
+        &mut room,
+        &mut out,
+    );
+    finish(x, writes);
+}
