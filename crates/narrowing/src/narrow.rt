@@ -211,7 +211,7 @@ fn narrowed_to(p: &[u8], body: usize, pid: u16, o: Options, out: &mut [u8], to: 
     End::At(last)
 }
 
-// The same. Most signalling packets hold no PA message, and cost no more than the test.
+// The same. A packet with no PA message costs no more than the test.
 pub fn rewrite(p: &[u8], body: usize, pid: u16, o: Options, out: &mut [u8], to: usize) -> End
     requires { ⌜ (4 ≤ body) × (body ≤ length (now p)) × (to + length (now p) ≤ length (now out)) ⌝ }
     ensures { λ r. ⌜ RewroteAs (Option·map (packetWith (now (p .entry)) body) (narrowPayload o pid (drop body (now (p .entry))))) (now (out .entry)) to (now (out .exit)) r ⌝ }
