@@ -5,7 +5,7 @@ use mathlib.Core.Path.{_≡_, refl, ap}
 use mathlib.Core.Bool.{Bool, true, false, cond}
 use mathlib.Core.List.{[], _∷_, _++_}
 use native.Mathlib.Omega.{arith}
-use lib.ListN.{length, take, length-take, length-append}
+use lib.ListN.{length, length-append}
 use lib.Dec.{ltb}
 use borrow.Author.Tests.{lt-ltb, le-ltb}
 use Rattle.meaning.specs.Bytes.{Bytes}
@@ -13,6 +13,7 @@ use Rattle.meaning.specs.Writing.{Wrote}
 use Rattle.meaning.specs.Programs.{digits, item, Sums, sumsLine}
 use Rattle.meaning.specs.declared.Counts.{Counts}
 use Rattle.meaning.proofs.Writes.{wrote-none, wrote-then}
+pub use Rattle.meaning.proofs.Writes.{wrote-within}
 
 pub no-digits : (most n : ℕ) → most ≡ 0 → digits most n ≡ []
 unfolding digits
@@ -63,11 +64,6 @@ item-ends word n w = omega (arith, w .end, item-long word n)
 
 pub next-ends : (word : Bytes) (n : ℕ) {d d′ : Bytes} {to r : ℕ} → Wrote (0x20 ∷ item word n) d to d′ r → r ≤ to + (length word + 22)
 next-ends word n w = omega (arith, w .end, item-long word n)
-
--- ---- what was written lies within the output
-
-pub wrote-within : {y d d′ : Bytes} {k : ℕ} → Wrote y d 0 d′ k → k ≤ length d′
-wrote-within {y} {d} {d′} {k} u = omega (arith, u .end, length-take k d′, length-append (take 0 d) y, ap length (u .front))
 
 -- ---- the line of the sums, from its parts
 

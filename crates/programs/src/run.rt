@@ -1,6 +1,6 @@
 // A whole run: 01, the paragraph after the examples. Standard input has a flag byte, a service and a stream; the filtered stream is
 // written, or a line of sums, or the line of a refusal. No contract can say which bytes are read or written: these functions are
-// proved safe and ending, and what they call keeps its promises.
+// proved safe and ending, and what they call keeps its promises. A read or a write that fails ends the run; `pipe` tells it.
 ghost use mathlib.Core.Path.{_≡_};
 ghost use Prim.Native.Nat.{_≤_};
 ghost use lib.ListN.{length};
@@ -8,6 +8,12 @@ use crate::asked::answer_number;
 use crate::asked::options_of;
 use crate::lines::put_refused;
 use crate::lines::put_sums;
+use crate::pipe::Filled;
+use crate::pipe::bytes_of;
+use crate::pipe::close_output;
+use crate::pipe::fill;
+use crate::pipe::write_all;
+use crate::pipe::write_last;
 use meaning::Answer;
 use meaning::Counts;
 use meaning::Options;
@@ -25,22 +31,28 @@ const ROOM: usize = 65536;
 
 const MAPS: usize = 32768;
 
-// How far a run has come: what was answered last, the sums, and the record to go on with.
+// How far a run has come: what was answered last, whether a read or a write failed, the sums, and the record to go on with.
 pub struct Passed {
     pub answer: Answer,
+    pub failed: bool,
     pub sums: Counts,
     pub filter: Filter,
 }
 
-// What the head of the input asks for.
+// What the head of the input asks for. Nothing: there is none, or none that can be asked for. Failed: a read failed.
 enum Head {
     Asks(Options),
     Nothing,
+    Failed,
 }
 
 fn read_head() -> Head {
     let mut head = [0u8; 3];
-    if io::read_full(0, &mut head) != 3 {
+    let came = fill(&mut head);
+    let Filled::Bytes(n) = came else {
+        return Head::Failed;
+    };
+    if n != 3 {
         return Head::Nothing;
     }
     if 15 < head[0] {
@@ -56,13 +68,13 @@ fn is_done(a: Answer) -> bool {
 fn print_refused(a: Answer) {
     let mut line = [0u8; 29];
     let n = put_refused(answer_number(a), &mut line);
-    io::write_all(1, &line[0..n]);
+    write_last(&line[0..n]);
 }
 
 fn print_sums(sums: Counts, held: usize) {
     let mut line = [0u8; 170];
     let n = put_sums(sums, held, &mut line);
-    io::write_all(1, &line[0..n]);
+    write_last(&line[0..n]);
 }
 
 // The first refusal of two answers.
@@ -71,6 +83,14 @@ fn first_of(a: Answer, b: Answer) -> Answer {
         return b;
     }
     a
+}
+
+// Writes the bytes where that is asked for; answers whether a write failed.
+fn unwritten(writes: bool, bytes: &[u8]) -> bool {
+    if !writes {
+        return false;
+    }
+    !write_all(bytes)
 }
 
 // One chunk: its bytes are written where that is asked for, and its counts are added. A refused call has neither.
@@ -87,20 +107,38 @@ fn one_chunk(
     let p = f.push(chunk, work, bodies, room, out);
     let c = p.counts;
     let n = c.bytes;
-    if writes {
-        io::write_all(1, &out[0..n]);
-    }
+    let failed = unwritten(writes, &out[0..n]);
     let a = p.answer;
     let answer = first_of(a, tally_answer(sums, c));
     let filter = p.filter;
     Passed {
         answer,
+        failed,
         sums: sum_of(sums, c),
         filter,
     }
 }
 
-// All chunks in turn, each with the record that the one before handed back. A refusal ends the run.
+// Whether nothing was refused and nothing failed.
+fn goes_on(x: Passed) -> bool {
+    if x.failed {
+        return false;
+    }
+    let a = x.answer;
+    is_done(a)
+}
+
+// A run whose input has no more to give: it ended, or a read failed.
+fn ended(x: Passed, came: Filled) -> Passed {
+    let Filled::Failed = came else {
+        return x;
+    };
+    let mut y = x;
+    y.failed = true;
+    y
+}
+
+// All chunks in turn, each with the record that the one before handed back. A refusal ends the run, and so does a failure.
 fn pass(
     first: Passed,
     writes: bool,
@@ -114,15 +152,15 @@ fn pass(
     let mut turns = u64::MAX;
     while 0 < turns {
         turns -= 1;
-        let n = io::read_full(0, chunk);
+        let came = fill(chunk);
+        let n = bytes_of(came);
         if n == 0 {
-            return x;
+            return ended(x, came);
         }
         let f = x.filter;
         let sums = x.sums;
         x = one_chunk(f, sums, writes, &chunk[0..n], work, bodies, room, out);
-        let a = x.answer;
-        if !is_done(a) {
+        if !goes_on(x) {
             return x;
         }
     }
@@ -144,6 +182,7 @@ fn started(
     let filter = s.filter;
     let x = Passed {
         answer,
+        failed: false,
         sums: Counts {
             bytes: 0,
             accepted: 0,
@@ -160,18 +199,31 @@ fn started(
     pass(x, writes, chunk, work, bodies, room, out)
 }
 
-// The end of a run: the line of a refusal, or that of the sums where the stream was not written.
+// The end of a run: the line of a refusal, or that of the sums where the stream was not written. Nothing more where something failed.
 fn finish(x: Passed, writes: bool) {
+    if x.failed {
+        return;
+    }
     let a = x.answer;
     let f = x.filter;
     if !is_done(a) {
         print_refused(a);
         return;
     }
-    let sums = x.sums;
-    if !writes {
-        print_sums(sums, f.held);
+    if writes {
+        close_output();
+        return;
     }
+    let sums = x.sums;
+    print_sums(sums, f.held);
+}
+
+// The end of a run whose head asks for nothing that can be done.
+fn finish_unasked(h: Head) {
+    let Head::Nothing = h else {
+        return;
+    };
+    print_refused(Answer::Refused(Refusal::Input));
 }
 
 // A run that writes the filtered stream, or else a line of sums.
@@ -183,7 +235,7 @@ pub fn run(writes: bool) {
     let mut out = [0u8; ROOM];
     let asked = read_head();
     let Head::Asks(o) = asked else {
-        print_refused(Answer::Refused(Refusal::Input));
+        finish_unasked(asked);
         return;
     };
     let x = started(

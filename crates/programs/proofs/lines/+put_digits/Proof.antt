@@ -24,136 +24,45 @@ abbrev put-digits-below : ℕ → In 1 put-digits-kinds.ps
 put-digits-below t =
     and 1 put-digits-kinds.ps (falls 1 put-digits-kinds.ps _<_ μ-put-digits t) put-digits.Pre
 
--- src/lines.rt:27:9
-put-digits-returns : (t : ℕ) → put-digits-lts.Need-returns (
-  digit-reads.Asked,
-  digit-reads.Learnt,
-  put8-reads.Asked,
-  put8-reads.Learnt,
-  put-digits-below t,
-  put-digits.Post,
-) (put-digits-at t) put-digits.Post
+-- what is asked of those that it calls, and learnt from them; itself only with fewer digits
+abbrev claims : ℕ → put-digits-lts.Claims
+claims t = (digit-reads.Asked, digit-reads.Learnt, put8-reads.Asked, put8-reads.Learnt, put-digits-below t, put-digits.Post)
+
+put-digits-returns : (t : ℕ) → put-digits-lts.Need-returns (claims t) (put-digits-at t) put-digits.Post
 put-digits-returns t c = put-none (c .before .before .args .most) (c .before .before .args .n) (c .if1 .taken)
 
--- src/lines.rt:30:30
-put-digits-digit-requires : (t : ℕ) → put-digits-lts.Need-digit-requires (
-  digit-reads.Asked,
-  digit-reads.Learnt,
-  put8-reads.Asked,
-  put8-reads.Learnt,
-  put-digits-below t,
-  put-digits.Post,
-) (put-digits-at t) put-digits.Post
+put-digits-digit-requires : (t : ℕ) → put-digits-lts.Need-digit-requires (claims t) (put-digits-at t) put-digits.Post
 put-digits-digit-requires t c κs = search needs
 
--- src/lines.rt:30:9
-put-digits-put8-requires : (t : ℕ) → put-digits-lts.Need-put8-requires (
-  digit-reads.Asked,
-  digit-reads.Learnt,
-  put8-reads.Asked,
-  put8-reads.Learnt,
-  put-digits-below t,
-  put-digits.Post,
-) (put-digits-at t) put-digits.Post
+put-digits-put8-requires : (t : ℕ) → put-digits-lts.Need-put8-requires (claims t) (put-digits-at t) put-digits.Post
 put-digits-put8-requires t c κs = let z = c .before .before .before .before .before in omega (arith, c .before .before .before .if1 .left, z .pre .1)
 
--- src/lines.rt:30:9
-put-digits-same-length : (t : ℕ) → put-digits-lts.Need-same-length (
-  digit-reads.Asked,
-  digit-reads.Learnt,
-  put8-reads.Asked,
-  put8-reads.Learnt,
-  put-digits-below t,
-  put-digits.Post,
-) (put-digits-at t) put-digits.Post
+put-digits-same-length : (t : ℕ) → put-digits-lts.Need-same-length (claims t) (put-digits-at t) put-digits.Post
 put-digits-same-length t c = search needs
 
--- src/lines.rt:30:9
-put-digits-returns-2 : (t : ℕ) → put-digits-lts.Need-returns-2 (
-  digit-reads.Asked,
-  digit-reads.Learnt,
-  put8-reads.Asked,
-  put8-reads.Learnt,
-  put-digits-below t,
-  put-digits.Post,
-) (put-digits-at t) put-digits.Post
+put-digits-returns-2 : (t : ℕ) → put-digits-lts.Need-returns-2 (claims t) (put-digits-at t) put-digits.Post
 put-digits-returns-2 t c = let a = c .before .before .before .before .before .before .before .before .args in put-alone (a .most) (a .n) (c .before .before .before .before .before .before .if1 .left) (c .before .before .before .before .before .if2 .taken) (c .before .before .before .digit .ensures) (c .before .before .put8 .ensures)
 
--- src/lines.rt:32:36
-put-digits-sub-put-digits : (t : ℕ) → put-digits-lts.Need-sub-put-digits (
-  digit-reads.Asked,
-  digit-reads.Learnt,
-  put8-reads.Asked,
-  put8-reads.Learnt,
-  put-digits-below t,
-  put-digits.Post,
-) (put-digits-at t) put-digits.Post
+put-digits-sub-put-digits : (t : ℕ) → put-digits-lts.Need-sub-put-digits (claims t) (put-digits-at t) put-digits.Post
 put-digits-sub-put-digits t c = omega (arith, c .before .before .if1 .left)
 
--- src/lines.rt:32:9
-put-digits-put-digits-requires : (t : ℕ) → put-digits-lts.Need-put-digits-requires (
-  digit-reads.Asked,
-  digit-reads.Learnt,
-  put8-reads.Asked,
-  put8-reads.Learnt,
-  put-digits-below t,
-  put-digits.Post,
-) (put-digits-at t) put-digits.Post
+put-digits-put-digits-requires : (t : ℕ) → put-digits-lts.Need-put-digits-requires (claims t) (put-digits-at t) put-digits.Post
 put-digits-put-digits-requires t c κs = let z = c .before .before .before .before in (omega (arith, c .before .before .if1 .left, z .pre .0), omega (arith, c .before .before .if1 .left, z .pre .1))
 
--- src/lines.rt:33:21
-put-digits-digit-requires-2 : (t : ℕ) → put-digits-lts.Need-digit-requires-2 (
-  digit-reads.Asked,
-  digit-reads.Learnt,
-  put8-reads.Asked,
-  put8-reads.Learnt,
-  put-digits-below t,
-  put-digits.Post,
-) (put-digits-at t) put-digits.Post
+put-digits-digit-requires-2 : (t : ℕ) → put-digits-lts.Need-digit-requires-2 (claims t) (put-digits-at t) put-digits.Post
 put-digits-digit-requires-2 t c κs = omega arith
 
--- src/lines.rt:33:5
-put-digits-put8-requires-2 : (t : ℕ) → put-digits-lts.Need-put8-requires-2 (
-  digit-reads.Asked,
-  digit-reads.Learnt,
-  put8-reads.Asked,
-  put8-reads.Learnt,
-  put-digits-below t,
-  put-digits.Post,
-) (put-digits-at t) put-digits.Post
+put-digits-put8-requires-2 : (t : ℕ) → put-digits-lts.Need-put8-requires-2 (claims t) (put-digits-at t) put-digits.Post
 put-digits-put8-requires-2 t c κs = let z = c .before .before .before .before .before .before .before .before .before in let a = z .args in let k = c .before .before .before .before .put-digits in omega (arith, c .before .before .before .before .before .before .before .if1 .left, z .pre .1, k .ensures .end, k .kept .0, digits-long (a .most - 1) (a .n / 10))
 
--- src/lines.rt:22:1
-put-digits-same-length-2 : (t : ℕ) → put-digits-lts.Need-same-length-2 (
-  digit-reads.Asked,
-  digit-reads.Learnt,
-  put8-reads.Asked,
-  put8-reads.Learnt,
-  put-digits-below t,
-  put-digits.Post,
-) (put-digits-at t) put-digits.Post
+put-digits-same-length-2 : (t : ℕ) → put-digits-lts.Need-same-length-2 (claims t) (put-digits-at t) put-digits.Post
 put-digits-same-length-2 t c = search needs
 
--- src/lines.rt:22:1
-put-digits-returns-3 : (t : ℕ) → put-digits-lts.Need-returns-3 (
-  digit-reads.Asked,
-  digit-reads.Learnt,
-  put8-reads.Asked,
-  put8-reads.Learnt,
-  put-digits-below t,
-  put-digits.Post,
-) (put-digits-at t) put-digits.Post
+put-digits-returns-3 : (t : ℕ) → put-digits-lts.Need-returns-3 (claims t) (put-digits-at t) put-digits.Post
 put-digits-returns-3 t c = let a = c .before .before .before .before .before .before .before .before .before .before .before .before .args in put-behind (a .most) (a .n) (c .before .before .before .before .before .before .before .before .before .before .if1 .left) (omega (arith, c .before .before .before .before .before .before .before .before .before .if2 .left)) (c .before .before .before .before .before .before .before .put-digits .ensures) (c .before .before .before .digit2 .ensures) (c .before .before .put82 .ensures)
 
 pub +put-digits-spec : {M : Type 1} → statement M
-+put-digits-spec = close μ-put-digits λ t. put-digits-lts.spec (
-  digit-reads.Asked,
-  digit-reads.Learnt,
-  put8-reads.Asked,
-  put8-reads.Learnt,
-  put-digits-below t,
-  put-digits.Post,
-)
++put-digits-spec = close μ-put-digits λ t. put-digits-lts.spec (claims t)
     (put-digits-at t)
     put-digits.Post
     (put-digits-returns t)

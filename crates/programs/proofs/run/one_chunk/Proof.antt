@@ -1,22 +1,23 @@
 use Rattle.programs.proofs.LineLaws.{wrote-within}
 use borrow.Author.Needs.{needs}
+use borrow.Author.Needs.{needs}
 use Rattle.programs.proofs.run.one_chunk.Statement.{statement}
 use Rattle.programs.proofs.run.one_chunk.Tie as tie
 
 push-requires : tie.Need-push-requires
 push-requires c κs = search needs
 
-sub-write-all : tie.Need-sub-write-all
-sub-write-all c = search needs
+sub-unwritten : tie.Need-sub-unwritten
+sub-unwritten c = search needs
 
-part-write-all-start : tie.Need-part-write-all-start
-part-write-all-start c = search needs
+part-unwritten-start : tie.Need-part-unwritten-start
+part-unwritten-start c = search needs
 
-part-write-all-end : tie.Need-part-write-all-end
-part-write-all-end c = wrote-within (c .before .before .before .before .before .before .before .before .before .before .before .push .ensures .written)
+part-unwritten-end : tie.Need-part-unwritten-end
+part-unwritten-end c = wrote-within (c .before .before .before .before .before .before .before .before .before .before .push .ensures .written)
 
-write-all-requires : tie.Need-write-all-requires
-write-all-requires c κs = search needs
+unwritten-requires : tie.Need-unwritten-requires
+unwritten-requires c κs = search needs
 
 tally-answer-requires : tie.Need-tally-answer-requires
 tally-answer-requires c κs = search needs
@@ -47,10 +48,10 @@ one-chunk-spec =
     tie.close
     (tie.spec
     push-requires
-    sub-write-all
-    part-write-all-start
-    part-write-all-end
-    write-all-requires
+    sub-unwritten
+    part-unwritten-start
+    part-unwritten-end
+    unwritten-requires
     tally-answer-requires
     first-of-requires
     sum-of-requires

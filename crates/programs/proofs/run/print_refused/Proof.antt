@@ -1,5 +1,6 @@
 use Rattle.programs.proofs.LineLaws.{wrote-within}
 use borrow.Author.Needs.{needs}
+use borrow.Author.Needs.{needs}
 use Rattle.programs.proofs.run.print_refused.Statement.{statement}
 use Rattle.programs.proofs.run.print_refused.Tie as tie
 
@@ -12,17 +13,17 @@ slice-aggregate-put-refused c = search needs
 put-refused-requires : tie.Need-put-refused-requires
 put-refused-requires c κs = search needs
 
-sub-write-all : tie.Need-sub-write-all
-sub-write-all c = search needs
+sub-write-last : tie.Need-sub-write-last
+sub-write-last c = search needs
 
-part-write-all-start : tie.Need-part-write-all-start
-part-write-all-start c = search needs
+part-write-last-start : tie.Need-part-write-last-start
+part-write-last-start c = search needs
 
-part-write-all-end : tie.Need-part-write-all-end
-part-write-all-end c = wrote-within (c .before .before .put-refused .ensures)
+part-write-last-end : tie.Need-part-write-last-end
+part-write-last-end c = wrote-within (c .before .before .put-refused .ensures)
 
-write-all-requires : tie.Need-write-all-requires
-write-all-requires c κs = search needs
+write-last-requires : tie.Need-write-last-requires
+write-last-requires c κs = search needs
 
 returns : tie.Need-returns
 returns c = search needs
@@ -34,8 +35,8 @@ print-refused-spec =
     answer-number-requires
     slice-aggregate-put-refused
     put-refused-requires
-    sub-write-all
-    part-write-all-start
-    part-write-all-end
-    write-all-requires
+    sub-write-last
+    part-write-last-start
+    part-write-last-end
+    write-last-requires
     returns)

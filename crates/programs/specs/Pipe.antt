@@ -1,0 +1,8 @@
+-- What can be said of bytes that come from outside: how many lie in the slice that was lent for them.
+use Prim.Native.Nat.{ℕ}
+use Rattle.programs.specs.declared.pipe.Filled.{Filled}
+
+-- The bytes that came; of a read that failed none counts.
+abbrev pub cameOf : Filled → ℕ
+cameOf (Filled.Bytes n) = n
+cameOf Filled.Failed = 0
