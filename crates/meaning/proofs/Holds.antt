@@ -22,7 +22,7 @@ use Rattle.meaning.specs.Record.{rising, distinct}
 use Rattle.meaning.specs.Sound.{services, identifiers, Below, SmallFlags, HoldsPackages, HoldsMaps, HoldsFragments, Holds}
 use Rattle.meaning.proofs.ListLaws.{and-both, and-true, or-neither, keep-length}
 use Rattle.meaning.proofs.Framed.{before, many-framed}
-use Rattle.meaning.proofs.TableLaws.{be16-small, u8-split, mpt-split, package-framed}
+use Rattle.meaning.proofs.TableLaws.{u16-below, u8-split, mpt-split, package-framed}
 
 -- ---- packages: a PLT names at most 255, and an insertion keeps them rising
 
@@ -96,12 +96,6 @@ packages-hold-in (x ∷ xs) ps h r b l =
     packages-hold-in xs (addPackage (serviceOf (x .name)) (x .place) ps) (h .1) (a .0) (a .1) (omega (arith, a .2))
 
 -- what a location gives
-u16-below : (s : Bytes) (n : ℕ) (r : Bytes) → u16 s ≡ some (n, r) → n < 65536
-unfolding u16 byte
-u16-below [] n r e = absurd (Option·none-ne-some _ e)
-u16-below (a ∷ []) n r e = absurd (Option·none-ne-some _ e)
-u16-below (a ∷ b ∷ s) n r e = subst (λ (m : ℕ). m < 65536) (ap (λ z. z .0) (Option·some-injective _ _ e)) (be16-small a b)
-
 abbrev Identifies : Option ℕ → Type 0
 Identifies o = (p : ℕ) → o ≡ some p → p < 65536
 

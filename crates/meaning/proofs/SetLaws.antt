@@ -7,12 +7,12 @@ use native.Mathlib.Omega.{arith}
 use native.Mathlib.Decide.{ℕ-discrete, decLt}
 use lib.Pow.{pow-lt, pow-pos, pow-add, field, mod-mod-pow, mod-pow-add, split, high, low, shl-exact, shr-shr}
 use lib.Arith.{lt-one, digits-mod, lt-of-le-ne}
-use lib.Bits.{bitOr, or-shr, or-step}
+use lib.Bits.{bitOr, or-shr, or-step, or-zero-r, or-block}
 use lib.Count.{ones, onesIn, ones-step}
 use lib.Dec.{eqb}
 use lib.ListN.{length, getD, set}
-use lib.Seq.{getD-set-same, getD-set-other}
-use borrow.Author.Tests.{eq-eqb}
+use lib.Seq.{getD-set-same, getD-set-other, set-getD}
+use borrow.Author.Tests.{eq-eqb, eqb-true}
 use Rattle.meaning.specs.Sets.{Words, bitAt, inSet, withId, withoutId, howMany}
 
 -- ---- one bit of a word
@@ -128,6 +128,26 @@ remove-other ws p q i h =
       | yes e ↦
           rw (e, getD-set-same ws (p / 64) _ 0 i) (ap (λ (b : ℕ). eqb b 1) (cleared-other w (p % 64) (q % 64) (λ m. h (omega arith))))
     ]
+
+-- ---- an identifier that is in the set
+
+or-one : (a : ℕ) → a % 2 ≡ 1 → bitOr a 1 ≡ a
+or-one a h = rw (or-step a 1, or-zero-r (a / 2)) (omega arith)
+
+-- a word with a bit that it has
+or-bit : (w k : ℕ) → bitAt w k ≡ 1 → bitOr w (2 ^ k) ≡ w
+or-bit w k h =
+    let one : 2 ^ k ≡ 1 * 2 ^ k + 0 = omega arith in
+    ap₂ bitOr (sym (split w k)) one
+    ∙ or-block k (w / 2 ^ k) 1 (w % 2 ^ k) 0 (mod-lt w (pow-pos k)) (pow-pos k)
+    ∙ ap₂ (λ (x y : ℕ). x * 2 ^ k + y) (or-one (w / 2 ^ k) h) (or-zero-r (w % 2 ^ k))
+    ∙ split w k
+
+-- the words stay as they are, however many there are and however long
+pub insert-there : (ws : Words) (p : ℕ) → inSet ws p ≡ true → withId ws p ≡ ws
+unfolding inSet withId
+insert-there ws p h =
+    ap (set ws (p / 64)) (or-bit (getD ws (p / 64) 0) (p % 64) (eqb-true _ _ h)) ∙ set-getD ws (p / 64) 0
 
 -- ---- counting by a test
 

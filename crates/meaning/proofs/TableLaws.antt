@@ -302,6 +302,12 @@ pub be16-small : (a b : ℕ) → be16 a b < 65536
 unfolding be16
 be16-small a b = omega arith
 
+pub u16-below : (s : Bytes) (n : ℕ) (r : Bytes) → u16 s ≡ some (n, r) → n < 65536
+unfolding u16 byte
+u16-below [] n r e = absurd (Option·none-ne-some _ e)
+u16-below (a ∷ []) n r e = absurd (Option·none-ne-some _ e)
+u16-below (a ∷ b ∷ s) n r e = subst (λ (m : ℕ). m < 65536) (ap (λ z. z .0) (Option·some-injective _ _ e)) (be16-small a b)
+
 -- the table with another body
 abbrev pub withBody : Table → Bytes → Table
 withBody t b = record { number = t .number; version = t .version; body = b }

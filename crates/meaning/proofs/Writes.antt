@@ -6,7 +6,7 @@ use mathlib.Core.List.{[], _∷_, _++_, append-assoc, append-nil}
 use native.Mathlib.Nat.{add-zero, add-assoc}
 use native.Mathlib.Numerals.{add-one}
 use native.Mathlib.Omega.{arith}
-use lib.ListN.{length, take, drop, getD, set, length-append, length-drop, take-append-drop, List·getD-append}
+use lib.ListN.{length, take, drop, getD, set, length-append, length-take, length-drop, take-append-drop, List·getD-append}
 use lib.Seq.{take-suc, take-suc-set, take-set-lt, drop-set-lt, set-append-left, drop-drop, drop-cons, getD-drop, getD-take, length-take-le, take-length, take-at, drop-at}
 use Rattle.meaning.specs.Bytes.{Bytes}
 use Rattle.meaning.specs.Writing.{Wrote}
@@ -42,6 +42,10 @@ wrote-one y d to d′ d″ r q u v =
           ∙ ap (λ (l : Bytes). l ++ drop q d″) (sym (v .front)) ∙ take-append-drop q d″,
       e,
     )
+
+-- What was written from the front on lies within.
+pub wrote-within : {y d d′ : Bytes} {k : ℕ} → Wrote y d 0 d′ k → k ≤ length d′
+wrote-within {y} {d} {d′} {k} u = omega (arith, u .end, length-take k d′, length-append (take 0 d) y, ap length (u .front))
 
 -- One more byte of a copy from the front of s.
 pub copy-turn : (s d₀ d : Bytes) (to i : ℕ) → i < length s → to + i < length d → Wrote (take i s) d₀ to d (to + i)

@@ -1,0 +1,71 @@
+-- Small cases of the relations that laws speak of: fewer wishes, thinned lists, and what a sound state holds to, at its limits.
+use Prim.Native.Nat.{ℕ, _+_, _≤_, _<_}
+use mathlib.Core.Path.{_≡_, refl}
+use mathlib.Core.Bool.{true, false}
+use mathlib.Core.List.{List, [], _∷_, Sublistᴰ·slnil, Sublistᴰ·cons, Sublistᴰ·cons-cons}
+use native.Mathlib.Omega.{arith}
+use lib.ListN.{length, drop}
+use Rattle.meaning.specs.Bytes.{Bytes}
+use Rattle.meaning.specs.Lists.{any, sum}
+use Rattle.meaning.specs.Learn.{Fragment, Known, heldBytes}
+use Rattle.meaning.specs.Record.{rising, distinct}
+use Rattle.meaning.specs.Less.{Fewer, Thinned}
+use Rattle.meaning.specs.Sound.{HoldsPackages, HoldsMaps, HoldsFragments, Holds}
+use Rattle.meaning.specs.declared.Service.the-variants.{Only}
+use Rattle.meaning.specs.declared.Options.{Options}
+use Rattle.meaning.proofs.ListLaws.{clash}
+
+abbrev wanting-one : Options
+wanting-one = record { service = Only 1; caption = false; carousel = true; eit = false }
+
+abbrev wanting-two : Options
+wanting-two = record { service = Only 1; caption = true; carousel = true; eit = false }
+
+-- the second wants captions too
+pub captions-too : Fewer wanting-one wanting-two
+captions-too = record { service-same = refl; caption-too = λ e. refl; carousel-too = λ e. refl; eit-too = λ e. e }
+
+-- the second of two, without its first byte
+pub one-of-two : Thinned (drop 1) ((8 ∷ []) ∷ []) ((9 ∷ []) ∷ (7 ∷ 8 ∷ []) ∷ [])
+one-of-two = record { from = (7 ∷ 8 ∷ []) ∷ []; some-of = Sublistᴰ·cons (Sublistᴰ·cons-cons refl Sublistᴰ·slnil); changed = refl }
+
+-- ---- identifiers and counts as large as they may be
+
+abbrev piece : Fragment
+piece = record { identifier = 7; flags = 255; body = 1 ∷ 2 ∷ [] }
+
+abbrev known : Known
+known = record { plt-seen = true; packages = (1, 65535) ∷ (2, 9) ∷ []; maps = (0x700, 9) ∷ (5, 255) ∷ []; room = []; carousels = []; fragments = piece ∷ [] }
+
+pub held-at-limits : Holds 2 known
+unfolding rising distinct heldBytes
+held-at-limits = record {
+  packages-hold = record { few = omega arith; rise = refl; small = (omega arith, (omega arith, tt)) };
+  maps-hold = record { few = omega arith; once = refl; small = (omega arith, (omega arith, tt)) };
+  fragments-hold = record { few = omega arith; once = refl; flags = (omega arith, tt); within = omega arith };
+}
+
+-- ---- one more is too many
+
+pub record TooMany : Type 0 where
+  pub packages : (ps : List (ℕ × ℕ)) → length ps ≡ 256 → HoldsPackages ps → ⊥
+  pub package-identifier : HoldsPackages ((1, 65536) ∷ []) → ⊥
+  pub maps : (ms : List (ℕ × ℕ)) → length ms ≡ 65 → HoldsMaps ms → ⊥
+  pub assets-of-a-map : HoldsMaps ((5, 256) ∷ []) → ⊥
+  pub fragments : (T : ℕ) (fs : List Fragment) → length fs ≡ 257 → HoldsFragments T fs → ⊥
+  pub fragment-bytes : (T : ℕ) (fs : List Fragment) → heldBytes fs ≡ T + 1 → HoldsFragments T fs → ⊥
+  pub fragment-flags : HoldsFragments 9 (record { identifier = 7; flags = 256; body = [] } ∷ []) → ⊥
+  -- the first wants EIT, the second does not
+  pub wishes : Fewer (record { service = Only 1; caption = true; carousel = true; eit = true }) (record { service = Only 1; caption = true; carousel = true; eit = false }) → ⊥
+
+pub too-many : TooMany
+too-many = record {
+  packages = λ ps e h. omega (arith, e, h .few);
+  package-identifier = λ h. omega (arith, h .small .0);
+  maps = λ ms e h. omega (arith, e, h .few);
+  assets-of-a-map = λ h. omega (arith, h .small .0);
+  fragments = λ T fs e h. omega (arith, e, h .few);
+  fragment-bytes = λ T fs e h. omega (arith, e, h .within);
+  fragment-flags = λ h. omega (arith, h .flags .0);
+  wishes = λ h. clash (cc (h .eit-too refl));
+}
