@@ -152,6 +152,13 @@ unread-stays o p e = rw e
 pub rest-whole : (p : Bytes) (body : ℕ) → take (length p - body) (drop body p) ≡ drop body p
 rest-whole p body = ap (λ (m : ℕ). take m (drop body p)) (sym (length-drop body p)) ∙ take-length (drop body p)
 
+-- a packet with another payload, by where its payload starts
+pub same-packets : (p : Bytes) (body q k : ℕ) (w : Bool) → body ≤ length p → (x : Option Bytes)
+    → Option·map (packetBytes p (record { identifier = q; kind = k; rewritable = w; payload = drop body p })) x ≡ Option·map (packetWith p body) x
+unfolding packetBytes packetWith
+same-packets p body q k w h none = refl
+same-packets p body q k w h (some y) = let z : length p - length (drop body p) ≡ body = omega (arith, length-drop body p, h) in rw z
+
 module _ (o : Options) (p : Bytes) (body q k : ℕ) (w : Bool) (h : MmtpIs (mmtpOf p) p (read.Mmtp.Read body q k w)) where
   abbrev there : Mmtp
   there = record { identifier = q; kind = k; rewritable = w; payload = drop body p }
@@ -169,18 +176,10 @@ module _ (o : Options) (p : Bytes) (body q k : ℕ) (w : Bool) (h : MmtpIs (mmtp
   pub not-rewritable : w ≡ false → changePacket o p ≡ none
   not-rewritable e = packet-off (and-off (eqb k 2) w e)
 
-  same-packet : (y : Bytes) → packetBytes p there y ≡ packetWith p body y
-  unfolding packetBytes packetWith
-  same-packet y = let z : length p - length (drop body p) ≡ body = omega (arith, length-drop body p, h .1) in rw z
-
   module _ (two : k ≡ 2) (on : w ≡ true) where
     packet-on : changePacket o p ≡ Option·map (changeOf o (partsOfMessage (paMessage (drop body p)))) (Option·map (packetWith p body) (narrowPayload o q (drop body p)))
     packet-on =
-        packet-is ∙ rw (ap₂ _&&_ (eq-eqb k 2 two) on) (ap (λ (x : Option Bytes). Option·map (changeOf o (partsOfMessage (paMessage (drop body p)))) x) (go (narrowPayload o q (drop body p))))
-      where
-        go : (x : Option Bytes) → Option·map (packetBytes p there) x ≡ Option·map (packetWith p body) x
-        go none = refl
-        go (some y) = ap some (same-packet y)
+        packet-is ∙ rw (ap₂ _&&_ (eq-eqb k 2 two) on) (ap (λ (x : Option Bytes). Option·map (changeOf o (partsOfMessage (paMessage (drop body p)))) x) (same-packets p body q k w (h .1) (narrowPayload o q (drop body p))))
 
     pub packet-stays : Option·map (packetWith p body) (narrowPayload o q (drop body p)) ≡ none → changePacket o p ≡ none
     packet-stays e = packet-on ∙ rw e

@@ -69,12 +69,7 @@ fn count_entries(
     let mut from = at;
     let mut left = count;
     while 0 < left {
-        let Asset::Entry {
-            end,
-            part,
-            carrier: _,
-        } = asset_at(b, from)
-        else {
+        let Asset::Entry { end, part, .. } = asset_at(b, from) else {
             return t;
         };
         from = end;

@@ -60,12 +60,7 @@ pub fn entries(b: &[u8], at: usize, count: usize, o: Options) -> Walk
     let mut size = 0;
     while 0 < left {
         let start = from;
-        let Asset::Entry {
-            end,
-            part,
-            carrier: _,
-        } = asset_at(b, start)
-        else {
+        let Asset::Entry { end, part, .. } = asset_at(b, start) else {
             return Walk::Broken;
         };
         from = end;
@@ -92,12 +87,7 @@ fn entries_to(b: &[u8], at: usize, count: usize, o: Options, out: &mut [u8], to:
     let mut put = to;
     while 0 < left {
         let start = from;
-        let Asset::Entry {
-            end,
-            part,
-            carrier: _,
-        } = asset_at(b, start)
-        else {
+        let Asset::Entry { end, part, .. } = asset_at(b, start) else {
             return put;
         };
         from = end;

@@ -44,12 +44,7 @@ pub fn plt_only(b: &[u8], service: u16) -> PltChange
     let mut end = 0;
     while 0 < left {
         let at = from;
-        let Package::Entry {
-            end: e,
-            name,
-            carrier: _,
-        } = package_at(b, at)
-        else {
+        let Package::Entry { end: e, name, .. } = package_at(b, at) else {
             return PltChange::Same;
         };
         from = e;

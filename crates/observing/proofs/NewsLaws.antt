@@ -1,21 +1,18 @@
 -- What no news means: where nothing is new, learning changes at most the held fragments, so what is dropped and whether it is ready stay
 -- as they are. Of every state, sound or not. Rests on specs/News, on FoldLaws, and on what the two tests of sameness prove (PairLaws of
 -- `learning`).
-use Prim.Native.Nat.{ℕ, zero, suc, _+_, _*_, _/_, _%_, _^_}
+use Prim.Native.Nat.{ℕ, zero, suc, _+_, _*_}
 use mathlib.Core.Path.{_≡_, refl, sym, ap, ap₂, _∙_}
 use mathlib.Core.Bool.{Bool, true, false, cond, not, _&&_}
 use mathlib.Core.List.{List, [], _∷_, _++_}
 use mathlib.Core.Option.{Option, none, some, Option·some-injective}
-use native.Mathlib.Nat.{mod-lt}
 use native.Mathlib.Omega.{arith}
-use lib.ListN.{length, take, drop, getD, set, take-append-drop}
-use lib.Seq.{drop-drop, set-getD}
+use lib.ListN.{length, take, drop, take-append-drop}
+use lib.Seq.{drop-drop}
 use lib.Dec.{ltb, eqb}
-use lib.Bits.{bitOr, or-step, or-zero-r, or-block}
-use lib.Pow.{pow-pos, split}
 use borrow.Author.Tests.{eqb-true, not-false}
 use Rattle.meaning.specs.Bytes.{Bytes}
-use Rattle.meaning.specs.Sets.{Words, bitAt, inSet, withId}
+use Rattle.meaning.specs.Sets.{Words, inSet}
 use Rattle.meaning.specs.Readers.{Out}
 use Rattle.meaning.specs.Messages.{Message, messages, indicator}
 use Rattle.meaning.specs.Tables.{Mpt, mpt, Package, plt, Table, isMpt, isPlt, pa}
@@ -23,6 +20,7 @@ use Rattle.meaning.specs.Learn.{Limits, Fragment, Known, Learnt, learnt, Listed
 use Rattle.meaning.specs.Rules.{inDropSet, drops, ready}
 use Rattle.meaning.specs.declared.Options.{Options}
 use Rattle.meaning.specs.declared.Service.{Service}
+use Rattle.meaning.proofs.SetLaws.{insert-there}
 use Rattle.meaning.proofs.ListLaws.{clash, and-both, or-neither}
 use Rattle.meaning.proofs.Holds.{putHead, put-is}
 use Rattle.meaning.proofs.SpareLaws.{numbers-length}
@@ -37,26 +35,6 @@ known-same : (k : Known) {seen : Bool} {ps ms : List (ℕ × ℕ)} {room : List 
     → seen ≡ k .plt-seen → ps ≡ k .packages → ms ≡ k .maps → room ≡ k .room → ws ≡ k .carousels
     → record { plt-seen = seen; packages = ps; maps = ms; room = room; carousels = ws; fragments = k .fragments } ≡ k
 known-same k a b c d e = λ i. record { plt-seen = a i; packages = b i; maps = c i; room = d i; carousels = e i; fragments = k .fragments }
-
--- ---- an identifier that is in the set
-
-or-one : (a : ℕ) → a % 2 ≡ 1 → bitOr a 1 ≡ a
-or-one a h = rw (or-step a 1, or-zero-r (a / 2)) (omega arith)
-
--- a word with a bit that it has
-or-bit : (w k : ℕ) → bitAt w k ≡ 1 → bitOr w (2 ^ k) ≡ w
-or-bit w k h =
-    let one : 2 ^ k ≡ 1 * 2 ^ k + 0 = omega arith in
-    ap₂ bitOr (sym (split w k)) one
-    ∙ or-block k (w / 2 ^ k) 1 (w % 2 ^ k) 0 (mod-lt w (pow-pos k)) (pow-pos k)
-    ∙ ap₂ (λ (x y : ℕ). x * 2 ^ k + y) (or-one (w / 2 ^ k) h) (or-zero-r (w % 2 ^ k))
-    ∙ split w k
-
--- the words stay as they are, however many there are and however long
-insert-there : (ws : Words) (p : ℕ) → inSet ws p ≡ true → withId ws p ≡ ws
-unfolding inSet withId
-insert-there ws p h =
-    ap (set ws (p / 64)) (or-bit (getD ws (p / 64) 0) (p % 64) (eqb-true _ _ h)) ∙ set-getD ws (p / 64) 0
 
 -- ---- a list that stands in its place
 

@@ -13,14 +13,14 @@ use Rattle.meaning.specs.Sets.{inSet}
 use Rattle.meaning.specs.Readers.{Out, byte, u16, walk}
 use Rattle.meaning.specs.Messages.{Message, indicator, aggregated, longLengths, message, messageBody, readEach, inBody, messages}
 use Rattle.meaning.specs.Tables.{Mpt, mpt, Package, plt, Table, isPlt, isMpt, pa}
-use Rattle.meaning.specs.Learn.{Limits, Fragment, Known, learnt, listed, placeFor, withList, mptFrom, learnMpt, pltFrom, learnPlt, learnTable, learnTables, paTables, withCarousel, learnMessage, learnMessages, withFragments, without, fragmentOf, growIn, holdFirst, middle, joined, last, observe}
+use Rattle.meaning.specs.Learn.{Limits, Fragment, Known, learnt, listed, placeFor, withList, mptFrom, learnMpt, pltFrom, learnPlt, learnTable, learnTables, paTables, withCarousel, learnMessage, learnMessages, withFragments, without, fragmentOf, growIn, holdFirst, middle, joined, last, byIndicator, observe}
 use Rattle.fragments.specs.Fragments.{KeptFragments, GrewAt, GaveUp}
 use Rattle.fragments.proofs.FragmentLaws.{without-grown}
 use Rattle.learning.specs.Kept.{Keeps}
 use Rattle.learning.specs.declared.Extent.{Extent}
-use Rattle.observing.specs.News.{newsMessages, newsLast, news}
+use Rattle.observing.specs.News.{newsMessages, newsLast, newsBy, news}
 use Rattle.observing.specs.Steps.{After}
-use Rattle.observing.specs.Observed.{Holding, Observed, withCount, wholeStep, wholeNew, lastStep, lastNew}
+use Rattle.observing.specs.Observed.{Holding, Observed, withCount, wholeStep, wholeNew, lastStep, lastNew, byStep, byNew}
 use Rattle.observing.proofs.StepLaws.{or-false}
 
 -- ---- tables and messages leave the fragments
@@ -162,26 +162,19 @@ unfolding messages
 whole-same flags [] h = rw h (sym (none-in (aggregated flags) (longLengths flags)))
 whole-same flags (c ∷ s) h = refl
 
--- the bytes from 2 on
-module _ (L : Limits) (q flags : ℕ) (s : Bytes) (k : Known) (e r : Extent) (c p m o heads : List ℕ) (bodies : Bytes) (fresh : inSet (k .carousels) q ≡ false) where
-  abbrev Sees : Type 0
-  Sees = Observed (L .total) (observe L q (flags ∷ s) k) (news L q (flags ∷ s) k) e r c p m o heads bodies
+-- nor is it by any other indicator
+module _ (L : Limits) (q flags : ℕ) (s : Bytes) (k : Known) where
+  by-same : (n : ℕ) → indicator flags ≡ n → byIndicator n L q flags s k ≡ byIndicator n L q flags (0 ∷ drop 1 s) k
+  by-same zero i = ap (λ (ms : List Message). learnMessages q ms (withFragments (without q (k .fragments)) k)) (whole-same flags s i)
+  by-same (suc zero) i = refl
+  by-same (suc (suc zero)) i = refl
+  by-same (suc (suc (suc n))) i = refl
 
-  pub see-whole : indicator flags ≡ 0 → Observed (L .total) (wholeStep q flags (drop 1 s) L k) (wholeNew q flags (drop 1 s) L k) e r c p m o heads bodies → Sees
-  unfolding observe news
-  see-whole i x = rw (fresh, i, whole-same flags s i) x
-
-  pub see-first : indicator flags ≡ 1 → Observed (L .total) (learnt (withFragments (holdFirst L q flags (drop 1 s) (k .fragments)) k)) false e r c p m o heads bodies → Sees
-  unfolding observe news
-  see-first i x = rw (fresh, i) x
-
-  pub see-middle : indicator flags ≡ 2 → Observed (L .total) (learnt (withFragments (middle L q (drop 1 s) (k .fragments)) k)) false e r c p m o heads bodies → Sees
-  unfolding observe news
-  see-middle i x = rw (fresh, i) x
-
-  pub see-last : indicator flags ≡ 3 → Observed (L .total) (lastStep q (drop 1 s) L k) (lastNew q (drop 1 s) L k) e r c p m o heads bodies → Sees
-  unfolding observe news
-  see-last i x = rw (fresh, i) x
+  new-same : (n : ℕ) → indicator flags ≡ n → newsBy n L q flags s k ≡ newsBy n L q flags (0 ∷ drop 1 s) k
+  new-same zero i = ap (λ (ms : List Message). newsMessages q ms (withFragments (without q (k .fragments)) k)) (whole-same flags s i)
+  new-same (suc zero) i = refl
+  new-same (suc (suc zero)) i = refl
+  new-same (suc (suc (suc n))) i = refl
 
 module _ (L : Limits) (q : ℕ) (k : Known) (e : Extent) (c p m o heads : List ℕ) (bodies : Bytes) (h : Holding (L .total) k e c p m o heads bodies) where
   pub see-nothing : (s : Bytes) → length s ≡ 0 → Observed (L .total) (observe L q s k) (news L q s k) e e c p m o heads bodies
@@ -196,33 +189,33 @@ module _ (L : Limits) (q : ℕ) (k : Known) (e : Extent) (c p m o heads : List �
 
 -- ---- the payload as the code has it
 
+-- the bytes from 2 on
+module _ (L : Limits) (q : ℕ) (k : Known) (e r : Extent) (c p m o heads : List ℕ) (bodies : Bytes) (fresh : inSet (k .carousels) q ≡ false) where
+  pub payload-by : (y : Bytes) → (length y ≡ 0 → ⊥) → (b : Bytes) → b ≡ drop 2 y → Observed (L .total) (byStep q (getD y 0 0) b L k) (byNew q (getD y 0 0) b L k) e r c p m o heads bodies
+      → Observed (L .total) (observe L q y k) (news L q y k) e r c p m o heads bodies
+  unfolding observe news
+  payload-by [] z b d x = absurd (z refl)
+  payload-by (f ∷ s) z b d x = rw (fresh, by-same L q f s k (indicator f) refl, new-same L q f s k (indicator f) refl) (rw d at x)
+
 top : (f n : ℕ) → f / 64 ≡ n → n < 4 → indicator f ≡ n
 unfolding indicator
 top f n e l = ap (λ (z : ℕ). z % 4) e ∙ mod-eq-of-lt l
 
-module _ (L : Limits) (q : ℕ) (k : Known) (e r : Extent) (c p m o heads : List ℕ) (bodies : Bytes) (fresh : inSet (k .carousels) q ≡ false) where
-  abbrev Seen : Bytes → Type 0
-  Seen y = Observed (L .total) (observe L q y k) (news L q y k) e r c p m o heads bodies
+module _ (L : Limits) (q flags : ℕ) (b : Bytes) (k : Known) (e r : Extent) (c p m o heads : List ℕ) (bodies : Bytes) where
+  abbrev By : Type 0
+  By = Observed (L .total) (byStep q flags b L k) (byNew q flags b L k) e r c p m o heads bodies
 
-  pub payload-whole : (y : Bytes) → (length y ≡ 0 → ⊥) → getD y 0 0 / 64 ≡ 0 → (b : Bytes) → b ≡ drop 2 y
-      → Observed (L .total) (wholeStep q (getD y 0 0) b L k) (wholeNew q (getD y 0 0) b L k) e r c p m o heads bodies → Seen y
-  payload-whole [] z i b d x = absurd (z refl)
-  payload-whole (f ∷ s) z i b d x = see-whole L q f s k e r c p m o heads bodies fresh (top f 0 i (omega arith)) (rw d at x)
+  pub by-whole : flags / 64 ≡ 0 → Observed (L .total) (wholeStep q flags b L k) (wholeNew q flags b L k) e r c p m o heads bodies → By
+  by-whole i x = rw (top flags 0 i (omega arith)) x
 
-  pub payload-first : (y : Bytes) → (length y ≡ 0 → ⊥) → getD y 0 0 / 64 ≡ 1 → (b : Bytes) → b ≡ drop 2 y
-      → Observed (L .total) (learnt (withFragments (holdFirst L q (getD y 0 0) b (k .fragments)) k)) false e r c p m o heads bodies → Seen y
-  payload-first [] z i b d x = absurd (z refl)
-  payload-first (f ∷ s) z i b d x = see-first L q f s k e r c p m o heads bodies fresh (top f 1 i (omega arith)) (rw d at x)
+  pub by-first : flags / 64 ≡ 1 → Observed (L .total) (learnt (withFragments (holdFirst L q flags b (k .fragments)) k)) false e r c p m o heads bodies → By
+  by-first i x = rw (top flags 1 i (omega arith)) x
 
-  pub payload-middle : (y : Bytes) → (length y ≡ 0 → ⊥) → getD y 0 0 / 64 ≡ 2 → (b : Bytes) → b ≡ drop 2 y
-      → Observed (L .total) (learnt (withFragments (middle L q b (k .fragments)) k)) false e r c p m o heads bodies → Seen y
-  payload-middle [] z i b d x = absurd (z refl)
-  payload-middle (f ∷ s) z i b d x = see-middle L q f s k e r c p m o heads bodies fresh (top f 2 i (omega arith)) (rw d at x)
+  pub by-middle : flags / 64 ≡ 2 → Observed (L .total) (learnt (withFragments (middle L q b (k .fragments)) k)) false e r c p m o heads bodies → By
+  by-middle i x = rw (top flags 2 i (omega arith)) x
 
-  pub payload-last : (y : Bytes) → (length y ≡ 0 → ⊥) → getD y 0 0 / 64 ≡ 3 → (b : Bytes) → b ≡ drop 2 y
-      → Observed (L .total) (lastStep q b L k) (lastNew q b L k) e r c p m o heads bodies → Seen y
-  payload-last [] z i b d x = absurd (z refl)
-  payload-last (f ∷ s) z i b d x = see-last L q f s k e r c p m o heads bodies fresh (top f 3 i (omega arith)) (rw d at x)
+  pub by-last : flags / 64 ≡ 3 → Observed (L .total) (lastStep q b L k) (lastNew q b L k) e r c p m o heads bodies → By
+  by-last i x = rw (top flags 3 i (omega arith)) x
 
 -- a byte's top bits are the last value where they are no other
 pub top-three : (f : ℕ) → f < 256 → (f / 64 ≡ 0 → ⊥) → (f / 64 ≡ 1 → ⊥) → (f / 64 ≡ 2 → ⊥) → f / 64 ≡ 3

@@ -1,6 +1,6 @@
 -- Steps of learning: one after the other, and what a table adds by what `plt` and `mpt` promise. Rests on specs/Steps, specs/News and
 -- Learnt of `learning`.
-use Prim.Native.Nat.{ℕ, _*_}
+use Prim.Native.Nat.{ℕ, _+_, _*_}
 use mathlib.Core.Path.{_≡_, refl, sym, ap, _∙_, subst}
 use mathlib.Core.Bool.{Bool, true, false, cond, _&&_, _||_}
 use mathlib.Core.List.{List}
@@ -88,6 +88,28 @@ unfolding listNew
 lost-not-new q as′ ms room f = rw f
 
 module _ (q : ℕ) (k : Known) (e r : Extent) (c p m o : List ℕ) (h : Keeps k e c p m o) (m′ o′ : List ℕ) (same : length o′ ≡ length o) where
+  -- the lists as they were, and so many more lost
+  none-after : (n l : ℕ) (new : Bool) → l ≡ e .lost + n → new ≡ false
+      → KeptMaps (k .maps) (e .maps) m′ × (o′ ≡ o)
+      × (r ≡ record { seen = e .seen; packages = e .packages; maps = e .maps; fragments = e .fragments; lost = l; changed = e .changed })
+      → After (record { known = k; lost = n }) new e r c p m′ o′
+  none-after n l new s f x =
+      record {
+        keeps =
+            record {
+              seen = ap (λ z. z .seen) (x .2) ∙ h .seen;
+              packages-kept = subst (λ (n : ℕ). KeptPackages (k .packages) n p) (sym (ap (λ z. z .packages) (x .2))) (h .packages-kept);
+              maps-kept = subst (λ (n : ℕ). KeptMaps (k .maps) n m′) (sym (ap (λ z. z .maps) (x .2))) (x .0);
+              carousels-are = h .carousels-are;
+              carousels-all = h .carousels-all;
+              room-is = x .1 ∙ h .room-is;
+              room-all = ap length (x .1) ∙ h .room-all;
+            };
+        lost-is = ap (λ z. z .lost) (x .2) ∙ s;
+        changed-is = ap (λ z. z .changed) (x .2) ∙ or-false (e .changed) ∙ ap (λ (z : Bool). e .changed || z) (sym f);
+        fragments-same = ap (λ z. z .fragments) (x .2);
+      }
+
   list-after : (as′ : Listed) (there : Bool) → ltb (placeFor q (k .maps)) 64 ≡ there → ListLearnt there q as′ (k .maps) e o r m′ o′
       → After (cond there (learnt (withList q as′ k (placeFor q (k .maps)))) (record { known = k; lost = 1 })) (listNew q as′ (k .maps) (k .room)) e r c p m′ o′
   unfolding withList
@@ -107,40 +129,10 @@ module _ (q : ℕ) (k : Known) (e r : Extent) (c p m o : List ℕ) (h : Keeps k 
         changed-is = ap (λ z. z .changed) (x .2) ∙ ap (λ (z : List ℕ). e .changed || listNew q as′ (k .maps) z) (h .room-is);
         fragments-same = ap (λ z. z .fragments) (x .2);
       }
-  list-after as′ false t x =
-      record {
-        keeps =
-            record {
-              seen = ap (λ z. z .seen) (x .2) ∙ h .seen;
-              packages-kept = subst (λ (n : ℕ). KeptPackages (k .packages) n p) (sym (ap (λ z. z .packages) (x .2))) (h .packages-kept);
-              maps-kept = subst (λ (n : ℕ). KeptMaps (k .maps) n m′) (sym (ap (λ z. z .maps) (x .2))) (x .0);
-              carousels-are = h .carousels-are;
-              carousels-all = h .carousels-all;
-              room-is = x .1 ∙ h .room-is;
-              room-all = ap length (x .1) ∙ h .room-all;
-            };
-        lost-is = omega (arith, ap (λ z. z .lost) (x .2));
-        changed-is = ap (λ z. z .changed) (x .2) ∙ or-false (e .changed) ∙ ap (λ (z : Bool). e .changed || z) (sym (lost-not-new q as′ (k .maps) (k .room) t));
-        fragments-same = ap (λ z. z .fragments) (x .2);
-      }
+  list-after as′ false t x = none-after 1 (e .lost + 1) _ refl (lost-not-new q as′ (k .maps) (k .room) t) x
 
   mpt-after : (x : Out Mpt) → MptLearnt q x (k .maps) e o r m′ o′ → After (mptFrom q x k) (mptNew q x (k .maps) (k .room)) e r c p m′ o′
-  mpt-after none x =
-      record {
-        keeps =
-            record {
-              seen = ap (λ z. z .seen) (x .2) ∙ h .seen;
-              packages-kept = subst (λ (n : ℕ). KeptPackages (k .packages) n p) (sym (ap (λ z. z .packages) (x .2))) (h .packages-kept);
-              maps-kept = subst (λ (n : ℕ). KeptMaps (k .maps) n m′) (sym (ap (λ z. z .maps) (x .2))) (x .0);
-              carousels-are = h .carousels-are;
-              carousels-all = h .carousels-all;
-              room-is = x .1 ∙ h .room-is;
-              room-all = ap length (x .1) ∙ h .room-all;
-            };
-        lost-is = omega (arith, ap (λ z. z .lost) (x .2));
-        changed-is = ap (λ z. z .changed) (x .2) ∙ or-false (e .changed);
-        fragments-same = ap (λ z. z .fragments) (x .2);
-      }
+  mpt-after none x = none-after 0 (e .lost) false (omega arith) refl x
   mpt-after (some (y, more)) x = list-after (listed (y .entries)) (ltb (placeFor q (k .maps)) 64) refl x
 
 -- ---- a table, by its number

@@ -4,12 +4,12 @@ use mathlib.Core.Path.{_≡_}
 use mathlib.Core.Bool.{Bool, _||_}
 use mathlib.Core.List.{List, _∷_}
 use Rattle.meaning.specs.Bytes.{Bytes}
-use Rattle.meaning.specs.Messages.{messages}
-use Rattle.meaning.specs.Learn.{Limits, Known, Learnt, learnMessages, withFragments, without, fragmentOf, last}
+use Rattle.meaning.specs.Messages.{messages, indicator}
+use Rattle.meaning.specs.Learn.{Limits, Known, Learnt, learnMessages, withFragments, without, fragmentOf, last, byIndicator}
 use Rattle.fragments.specs.Fragments.{KeptFragments}
 use Rattle.learning.specs.Kept.{Keeps}
 use Rattle.learning.specs.declared.Extent.{Extent}
-use Rattle.observing.specs.News.{newsMessages, newsLast}
+use Rattle.observing.specs.News.{newsMessages, newsLast, newsBy}
 
 -- All that is known, in arrays and both rooms.
 pub record Holding (T : ℕ) (k : Known) (e : Extent) (carousels packages maps room heads : List ℕ) (bodies : Bytes) : Type 0 where
@@ -48,3 +48,10 @@ lastStep p b L k = last L p b k
 
 abbrev pub lastNew : ℕ → Bytes → Limits → Known → Bool
 lastNew p b L k = newsLast (fragmentOf p (k .fragments)) L p b k
+
+-- A payload by the top two bits of its first byte; the byte behind that one is not read.
+abbrev pub byStep : ℕ → ℕ → Bytes → Limits → Known → Learnt
+byStep p flags b L k = byIndicator (indicator flags) L p flags (0 ∷ b) k
+
+abbrev pub byNew : ℕ → ℕ → Bytes → Limits → Known → Bool
+byNew p flags b L k = newsBy (indicator flags) L p flags (0 ∷ b) k

@@ -4,7 +4,7 @@ ghost use Prim.Native.Nat.{_+_, _-_, _≤_, _<_};
 ghost use lib.ListN.{length, drop};
 ghost use Rattle.meaning.specs.Learn.{last, observe};
 ghost use Rattle.observing.specs.News.{news};
-ghost use Rattle.observing.specs.Observed.{HoldingSome, Observes, withCount, wholeStep, wholeNew, lastStep, lastNew};
+ghost use Rattle.observing.specs.Observed.{HoldingSome, Observes, withCount, wholeStep, wholeNew, lastStep, lastNew, byStep, byNew};
 use crate::messages::learn;
 use fragments::Grown;
 use fragments::drop_fragment;
@@ -38,12 +38,17 @@ fn with_count(e: Extent, n: usize) -> Extent
     }
 }
 
+// What comes with a payload's bytes from 2 on: its first byte, its identifier, and the most bytes of one message.
+pub struct Piece {
+    pub head: u8,
+    pub id: u16,
+    pub most: usize,
+}
+
 // A whole payload drops what was held of its identifier; its messages are learned.
 fn whole(
-    head: u8,
     body: &[u8],
-    id: u16,
-    most: usize,
+    p: Piece,
     e: Extent,
     carousels: &mut [u64; 1024],
     packages: &mut [u32; 255],
@@ -53,27 +58,19 @@ fn whole(
     bodies: &mut [u8],
 ) -> Extent
     requires { ⌜ (e .lost + length (now body) + length (now bodies) ≤ 18446744073709551615) × HoldingSome e (now carousels) (now packages) (now maps) (now room) (now heads) (now bodies) ⌝ }
-    ensures { λ r. ⌜ Observes (wholeStep id head (now (body .entry))) (wholeNew id head (now (body .entry))) most e (now (carousels .entry)) (now (packages .entry)) (now (maps .entry)) (now (room .entry)) (now (heads .entry)) (now (bodies .entry)) r (now (carousels .exit)) (now (packages .exit)) (now (maps .exit)) (now (room .exit)) (now (heads .exit)) (now (bodies .exit)) × (r .lost ≤ e .lost + length (now (body .entry))) ⌝ }
+    ensures { λ r. ⌜ Observes (wholeStep (p .id) (p .head) (now (body .entry))) (wholeNew (p .id) (p .head) (now (body .entry))) (p .most) e (now (carousels .entry)) (now (packages .entry)) (now (maps .entry)) (now (room .entry)) (now (heads .entry)) (now (bodies .entry)) r (now (carousels .exit)) (now (packages .exit)) (now (maps .exit)) (now (room .exit)) (now (heads .exit)) (now (bodies .exit)) × (r .lost ≤ e .lost + length (now (body .entry))) ⌝ }
 {
-    let n = drop_fragment(id, e.fragments, heads, bodies);
-    learn(
-        head,
-        body,
-        id,
-        with_count(e, n),
-        carousels,
-        packages,
-        maps,
-        room,
-    )
+    let n = drop_fragment(p.id, e.fragments, heads, bodies);
+    let known = with_count(e, n);
+    learn(p.head, body, p.id, known, carousels, packages, maps, room)
 }
 
 // A last fragment: joined, its message is learned, and its room is given back.
 fn last(
     body: &[u8],
+    e: Extent,
     id: u16,
     most: usize,
-    e: Extent,
     carousels: &mut [u64; 1024],
     packages: &mut [u32; 255],
     maps: &mut [u32; 64],
@@ -104,6 +101,42 @@ fn last(
     }
 }
 
+// A payload by the top two bits of its first byte.
+fn by_indicator(
+    body: &[u8],
+    e: Extent,
+    p: Piece,
+    carousels: &mut [u64; 1024],
+    packages: &mut [u32; 255],
+    maps: &mut [u32; 64],
+    room: &mut [u16],
+    heads: &mut [u64; 256],
+    bodies: &mut [u8],
+) -> Extent
+    requires { ⌜ (e .lost + length (now body) + length (now bodies) ≤ 18446744073709551615) × HoldingSome e (now carousels) (now packages) (now maps) (now room) (now heads) (now bodies) ⌝ }
+    ensures { λ r. ⌜ Observes (byStep (p .id) (p .head) (now (body .entry))) (byNew (p .id) (p .head) (now (body .entry))) (p .most) e (now (carousels .entry)) (now (packages .entry)) (now (maps .entry)) (now (room .entry)) (now (heads .entry)) (now (bodies .entry)) r (now (carousels .exit)) (now (packages .exit)) (now (maps .exit)) (now (room .exit)) (now (heads .exit)) (now (bodies .exit)) × (r .lost ≤ e .lost + length (now (body .entry)) + length (now (bodies .entry))) ⌝ }
+{
+    let head = p.head;
+    let id = p.id;
+    match head >> 6 {
+        0 => whole(body, p, e, carousels, packages, maps, room, heads, bodies),
+        1 => with_count(e, hold_first(id, head, body, e.fragments, heads, bodies)),
+        2 => with_count(e, middle(id, body, p.most, e.fragments, heads, bodies)),
+        _ => last(
+            body,
+            e,
+            id,
+            p.most,
+            carousels,
+            packages,
+            maps,
+            room,
+            heads,
+            bodies,
+        ),
+    }
+}
+
 // What a signalling payload adds to what is known; nothing on a data-carousel identifier.
 pub fn observe(
     payload: &[u8],
@@ -128,33 +161,6 @@ pub fn observe(
     }
     let head = payload[0];
     let body = body_of(payload);
-    match head >> 6 {
-        0 => whole(
-            head,
-            body,
-            id,
-            most,
-            e,
-            carousels,
-            packages,
-            maps,
-            room,
-            heads,
-            bodies,
-        ),
-        1 => with_count(e, hold_first(id, head, body, e.fragments, heads, bodies)),
-        2 => with_count(e, middle(id, body, most, e.fragments, heads, bodies)),
-        _ => last(
-            body,
-            id,
-            most,
-            e,
-            carousels,
-            packages,
-            maps,
-            room,
-            heads,
-            bodies,
-        ),
-    }
+    let p = Piece { head, id, most };
+    by_indicator(body, e, p, carousels, packages, maps, room, heads, bodies)
 }

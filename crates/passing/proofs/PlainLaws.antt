@@ -16,18 +16,12 @@ use Rattle.meaning.specs.Learn.{Limits, Known, learnFrom, learnt, learn}
 use Rattle.meaning.specs.Rules.{drops, ready}
 use Rattle.meaning.specs.Push.{passOne, pass, withheld}
 use Rattle.meaning.specs.declared.Options.{Options}
-use Rattle.meaning.proofs.TableLaws.{be16-small}
+use Rattle.meaning.proofs.TableLaws.{u16-below}
 use Rattle.meaning.proofs.Framed.{before}
 use Rattle.rules.specs.Changes.{SetIs}
 use Rattle.passing.specs.Verdicts.{signals, stopped, Plain, AllPass}
 
 -- ---- an identifier has 16 bits
-
-u16-below : (s : Bytes) (n : ℕ) (r : Bytes) → u16 s ≡ some (n, r) → n < 65536
-unfolding u16 byte
-u16-below [] n r e = absurd (Option·none-ne-some _ e)
-u16-below (a ∷ []) n r e = absurd (Option·none-ne-some _ e)
-u16-below (a ∷ b ∷ s) n r e = subst (λ (m : ℕ). m < 65536) (ap (λ z. z .0) (Option·some-injective _ _ e)) (be16-small a b)
 
 -- the head's reader from its third field on
 abbrev fromNumber : ℕ → ℕ → ℕ → Reader Head

@@ -17,7 +17,7 @@ use Rattle.meaning.specs.declared.Step.{Step}
 use Rattle.meaning.specs.declared.Step.the-variants.{Packet}
 use Rattle.meaning.proofs.ListLaws.{clash, or-left, or-right}
 use Rattle.meaning.proofs.CutLaws.{View, view, size-four, cut-packet}
-use Rattle.passing.specs.Verdicts.{Plain, Signals, AllPass, ahead, PacketTo, packetAt, StopIs, RowIs}
+use Rattle.passing.specs.Verdicts.{Plain, Signals, AllPass, ahead, PacketTo, packetAt, StopIs, Rowing, RowIs}
 use Rattle.passing.specs.declared.Stop.{Stop}
 use Rattle.passing.proofs.PassLaws.{flatten-append}
 
@@ -66,17 +66,6 @@ packet-to P run at n e =
     record { forth = omega (arith, f .0); inside = omega (arith, f .0, f .1, length-drop at run); step = e ∙ ap Packet z }
 
 -- ---- a row
-
--- A row so far.
-pub record Rowing (limit : ℕ) (ws : Words) (ready : Bool) (run : Bytes) (from at count : ℕ) : Type 0 where
-  pub packets : List Bytes
-  pub forth : from ≤ at
-  pub inside : at ≤ length run
-  pub many : count ≡ length packets
-  pub few : from + count ≤ at
-  pub all-pass : AllPass ws ready packets
-  pub bytes-are : flatten packets ≡ packetAt run from at
-  pub cut-is : cut limit (drop from run) ≡ ahead packets 0 (cut limit (drop at run))
 
 all-and-one : (ws : Words) (ready : Bool) (ps : List Bytes) (p : Bytes) → AllPass ws ready ps → Plain p ws ready false
     → AllPass ws ready (ps ++ (p ∷ []))
@@ -143,14 +132,4 @@ module _ (limit : ℕ) (ws : Words) (ready : Bool) (run : Bytes) (from : ℕ) wh
 
   pub row-stops : (at count : ℕ) (s : Stop) → StopIs limit ws ready run from at s → Rowing limit ws ready run from at count
       → RowIs limit ws ready run from (record { end = at; count = count; stop = s })
-  row-stops at count s h r = record {
-    packets = r .packets;
-    forth = r .forth;
-    inside = r .inside;
-    many = r .many;
-    few = r .few;
-    all-pass = r .all-pass;
-    bytes-are = r .bytes-are;
-    cut-is = r .cut-is;
-    stop-is = h;
-  }
+  row-stops at count s h r = record { row = r; stop-is = h }

@@ -41,6 +41,24 @@ Moves qs m t x y =
     SofarAfter qs m t (x .progress) (x .carousels) (x .packages) (x .maps) (x .room) (x .heads) (x .bodies) (x .set) (x .out)
     (y .progress) (y .carousels) (y .packages) (y .maps) (y .room) (y .heads) (y .bodies) (y .set) (y .out)
 
+abbrev pub machine : Progress → List ℕ → List ℕ → List ℕ → List ℕ → List ℕ → Bytes → Words → Bytes → Machine
+machine s carousels packages maps room heads bodies set out =
+    record { progress = s; carousels = carousels; packages = packages; maps = maps; room = room; heads = heads; bodies = bodies; set = set; out = out }
+
+-- ---- moves, one after the other
+
+module _ (t : Terms) (x y z : Machine) (ps qs : List Bytes) (n m : ℕ) where
+  pub moves-then : Moves ps n t x y → Moves qs m t y z → Moves (ps ++ qs) (n + m) t x z
+  moves-then u v L k d rs i e f =
+      let a : i + n + m ≡ i + (n + m) = omega arith in
+      subst (λ (l : List Bytes). Stands L (t .options) k d l (i + (n + m)) z) (append-assoc rs ps qs)
+      (subst (λ (j : ℕ). Stands L (t .options) k d ((rs ++ ps) ++ qs) j z) a (v L k d (rs ++ ps) (i + n) e (u L k d rs i e f)))
+
+pub moves-none : (t : Terms) (x : Machine) → Moves [] 0 t x x
+moves-none t x L k d ps n e s =
+    let z : n ≡ n + 0 = omega arith in
+    subst (λ (l : List Bytes). Stands L (t .options) k d l (n + 0) x) (sym (append-nil ps)) (subst (λ (m : ℕ). Stands L (t .options) k d ps m x) z s)
+
 -- Lent slices keep their length.
 pub record SameRooms (x y : Machine) : Type 0 where
   pub room-same : length (y .room) ≡ length (x .room)
@@ -59,10 +77,10 @@ pub record Going (run : Bytes) (from : ℕ) (t : Terms) (first now′ : Machine)
   pub begun : StandsSome t first
   pub same : SameRooms first now′
 
-ahead-none : (c : Cut) → c ≡ ahead [] 0 c
+pub ahead-none : (c : Cut) → c ≡ ahead [] 0 c
 ahead-none c = let z : c .skipped ≡ 0 + c .skipped = omega arith in λ i. record { packets = c .packets; skipped = z i; held = c .held }
 
-ahead-ahead : (ps qs : List Bytes) (n m : ℕ) (c : Cut) → ahead ps n (ahead qs m c) ≡ ahead (ps ++ qs) (n + m) c
+pub ahead-ahead : (ps qs : List Bytes) (n m : ℕ) (c : Cut) → ahead ps n (ahead qs m c) ≡ ahead (ps ++ qs) (n + m) c
 ahead-ahead ps qs n m c =
     let p : ps ++ (qs ++ c .packets) ≡ (ps ++ qs) ++ c .packets = sym (append-assoc ps qs (c .packets)) in
     let z : n + (m + c .skipped) ≡ n + m + c .skipped = omega arith in
@@ -75,9 +93,7 @@ module _ (run : Bytes) (from : ℕ) (t : Terms) (x : Machine) where
     skipped = 0;
     inside = h;
     cut-is = ahead-none (cut (t .limit) (drop from run));
-    moved = λ L k d ps n e s.
-        let z : n ≡ n + 0 = omega arith in
-        subst (λ (l : List Bytes). Stands L (t .options) k d l (n + 0) x) (sym (append-nil ps)) (subst (λ (m : ℕ). Stands L (t .options) k d ps m x) z s);
+    moved = moves-none t x;
     fits = f;
     begun = b;
     same = record { room-same = refl; bodies-same = refl; out-same = refl };
@@ -91,10 +107,7 @@ module _ (run : Bytes) (from : ℕ) (t : Terms) (x : Machine) where
       skipped = g .skipped + m;
       inside = h;
       cut-is = g .cut-is ∙ ap (ahead (g .packets) (g .skipped)) c ∙ ahead-ahead (g .packets) qs (g .skipped) m (cut (t .limit) (drop to run));
-      moved = λ L k d ps n e u.
-          let a : n + g .skipped + m ≡ n + (g .skipped + m) = omega arith in
-          subst (λ (l : List Bytes). Stands L (t .options) k d l (n + (g .skipped + m)) z) (append-assoc ps (g .packets) qs)
-          (subst (λ (i : ℕ). Stands L (t .options) k d ((ps ++ g .packets) ++ qs) i z) a (v L k d (ps ++ g .packets) (n + g .skipped) e (g .moved L k d ps n e u)));
+      moved = moves-then t x y z (g .packets) qs (g .skipped) m (g .moved) v;
       fits = f;
       begun = g .begun;
       same = record {

@@ -20,6 +20,7 @@ use Rattle.meaning.specs.declared.Counts.{Counts}
 use Rattle.meaning.proofs.Writes.{wrote-none}
 use Rattle.meaning.proofs.Statements.{packet-shorter}
 use Rattle.narrowing.specs.Answers.{packetWith}
+use Rattle.narrowing.proofs.AnswerLaws.{same-packets}
 use Rattle.learning.specs.Kept.{Keeps}
 use Rattle.learning.specs.declared.Extent.{Extent}
 use Rattle.observing.specs.News.{news}
@@ -56,20 +57,9 @@ module _ (y : Option Bytes) (p : Bytes) (c : Counts) (d d′ : Bytes) (r : Count
 -- ---- narrowing a packet of signalling
 
 module _ (o : Options) {p : Bytes} {body id : ℕ} {w : Bool} (h : Signals p body id w) where
-  abbrev there : Mmtp
-  there = record { identifier = id; kind = 2; rewritable = w; payload = drop body p }
-
-  same-packet : (y : Bytes) → packetBytes p there y ≡ packetWith p body y
-  unfolding packetBytes packetWith
-  same-packet y = let z : length p - length (drop body p) ≡ body = omega (arith, length-drop body p, h .inside) in rw z
-
   narrows-as : narrowPacket o p ≡ cond w (Option·map (packetWith p body) (narrowPayload o id (drop body p))) none
   unfolding narrowPacket
-  narrows-as = ap (packetFor o p) (h .read) ∙ ap (λ (x : Option Bytes). cond w x none) (go (narrowPayload o id (drop body p)))
-    where
-      go : (x : Option Bytes) → Option·map (packetBytes p there) x ≡ Option·map (packetWith p body) x
-      go none = refl
-      go (some y) = ap some (same-packet y)
+  narrows-as = ap (packetFor o p) (h .read) ∙ ap (λ (x : Option Bytes). cond w x none) (same-packets p body id 2 w (h .inside) (narrowPayload o id (drop body p)))
 
   pub narrows-on : w ≡ true → narrowPacket o p ≡ Option·map (packetWith p body) (narrowPayload o id (drop body p))
   narrows-on e = narrows-as ∙ rw e

@@ -2,13 +2,14 @@
 use Prim.Native.Nat.{ℕ, _+_, _-_, _≤_, _<_}
 use mathlib.Core.Path.{_≡_, refl, sym, ap, _∙_, subst}
 use mathlib.Core.Bool.{Bool, true, false}
-use mathlib.Core.List.{List, [], _∷_, flatten}
+use mathlib.Core.List.{List, [], _∷_, _++_, flatten}
 use native.Mathlib.Omega.{arith}
 use lib.ListN.{length, drop, length-drop}
 use lib.Seq.{drop-drop, length-take-le}
 use lib.Dec.{leb}
 use borrow.Author.Tests.{leb-true, leb-false}
 use Rattle.meaning.specs.Bytes.{Bytes}
+use Rattle.meaning.specs.Sets.{Words}
 use Rattle.meaning.specs.Writing.{Wrote}
 use Rattle.meaning.specs.Packets.{stepOf, Cut, cut, accept}
 use Rattle.meaning.specs.Push.{pass}
@@ -20,10 +21,10 @@ use Rattle.passing.specs.declared.Terms.{Terms}
 use Rattle.passing.specs.declared.Progress.{Progress}
 use Rattle.passing.specs.declared.Row.{Row}
 use Rattle.passing.specs.Verdicts.{Plain, AllPass, ahead, PacketTo, packetAt, RowIs}
-use Rattle.passing.specs.Passing.{Fits, withSkipped, withWithheld, withRow}
+use Rattle.passing.specs.Passing.{Fits, Along, withSkipped, withWithheld, withRow}
 use Rattle.passing.proofs.PassLaws.{further}
 use Rattle.passing.proofs.PlainLaws.{pass-withheld, pass-row}
-use Rattle.passing.proofs.RunLaws.{Machine, Moves, SameRooms, Going, going-on}
+use Rattle.passing.proofs.RunLaws.{Machine, machine, Moves, moves-then, moves-none, ahead-none, ahead-ahead, SameRooms, Going, going-on}
 
 -- Another progress, another output.
 abbrev pub withOut : Machine → Progress → Bytes → Machine
@@ -86,7 +87,7 @@ module _ (t : Terms) (y : Machine) where
       (rw q (λ i. record { bytes = s .counts .bytes; accepted = s .counts .accepted + 1; written = w i; rewritten = u i; skipped = v i; lost = s .counts .lost }))
       (rw q (wrote-none (y .out) (s .counts .bytes)))
 
--- ---- the loop goes on
+-- ---- places in a run
 
 pub packet-length : (run : Bytes) (at end : ℕ) → at ≤ end → end ≤ length run → length (packetAt run at end) ≡ end - at
 packet-length run at end a b = length-take-le (end - at) (drop at run) (omega (arith, length-drop at run))
@@ -108,74 +109,108 @@ gap-forth P run at to g e = go (leb to at) refl
     go true q = absurd (g .ends (ap (λ (n : ℕ). stepOf P (drop n run)) (let z : to ≡ at = omega (arith, leb-true to at q, g .forth) in z) ∙ e))
     go false q = leb-false to at q
 
+-- ---- packets that teach nothing
+
+module _ (run : Bytes) (from : ℕ) (t : Terms) (set : Words) where
+  pub along-begin : (s : Progress) (out : Bytes) → from ≤ length run → Fits s (length run - from) (length out) → Along run from t s set out s from out
+  along-begin s out h f = record {
+    packets = [];
+    skipped = 0;
+    forth = omega arith;
+    inside = h;
+    cut-is = ahead-none (cut (t .limit) (drop from run));
+    moved = λ carousels packages maps room heads bodies. moves-none t (machine s carousels packages maps room heads bodies set out);
+    fits = f;
+  }
+
+  module _ {s₀ s : Progress} {out₀ out : Bytes} {at : ℕ} (g : Along run from t s₀ set out₀ s at out) where
+    along-on : (r : Progress) (to : ℕ) (out′ : Bytes) (qs : List Bytes) (m : ℕ) → at ≤ to → to ≤ length run → cut (t .limit) (drop at run) ≡ ahead qs m (cut (t .limit) (drop to run))
+        → ((carousels packages maps room heads : List ℕ) (bodies : Bytes)
+        → Moves qs m t (machine s carousels packages maps room heads bodies set out) (machine r carousels packages maps room heads bodies set out′))
+        → Fits r (length run - to) (length out′) → Along run from t s₀ set out₀ r to out′
+    along-on r to out′ qs m b h c v f = record {
+      packets = g .packets ++ qs;
+      skipped = g .skipped + m;
+      forth = omega (arith, g .forth, b);
+      inside = h;
+      cut-is = g .cut-is ∙ ap (ahead (g .packets) (g .skipped)) c ∙ ahead-ahead (g .packets) qs (g .skipped) m (cut (t .limit) (drop to run));
+      moved = λ carousels packages maps room heads bodies.
+          moves-then t (machine s₀ carousels packages maps room heads bodies set out₀) (machine s carousels packages maps room heads bodies set out)
+          (machine r carousels packages maps room heads bodies set out′) (g .packets) qs (g .skipped) m (g .moved carousels packages maps room heads bodies) (v carousels packages maps room heads bodies);
+      fits = f;
+    }
+
+    row-done : (row : Row) (b : ℕ) (out′ : Bytes) → RowIs (t .limit) set (s .ready) run at row → Wrote (packetAt run at (row .end)) out (s .counts .bytes) out′ b → length out′ ≡ length out
+        → Along run from t s₀ set out₀ (withRow s (row .count) b) (row .end) out′
+    row-done row b out′ i w l =
+        let h = i .row in
+        let f = g .fits in
+        let len = packet-length run at (row .end) (h .forth) (h .inside) in
+        along-on (withRow s (row .count) b) (row .end) out′ (h .packets) 0 (h .forth) (h .inside) (h .cut-is)
+        (λ carousels packages maps room heads bodies.
+        let y : Machine = machine s carousels packages maps room heads bodies set out in
+        subst (λ (n : ℕ). Moves (h .packets) 0 t y (withOut y (withRow s n b) out′)) (sym (h .many))
+        (row-moves t y (h .packets) (packetAt run at (row .end)) out′ b (h .all-pass) (h .bytes-are) w))
+        (record {
+          bytes-fit = omega (arith, f .bytes-fit, w .end, len, h .forth, h .inside, l);
+          accepted-fit = omega (arith, f .accepted-fit, h .few, h .inside);
+          written-fit = omega (arith, f .written-fit, h .few, h .inside);
+          rewritten-fit = omega (arith, f .rewritten-fit, h .forth);
+          skipped-fit = omega (arith, f .skipped-fit, h .forth);
+          lost-fit = omega (arith, f .lost-fit, h .forth);
+        })
+
+    pub along-row : (row : Row) (b to : ℕ) (out′ : Bytes) (r : Progress) → RowIs (t .limit) set (s .ready) run at row → to ≡ s .counts .bytes
+        → Wrote (packetAt run at (row .end)) out to out′ b → length out′ ≡ length out → r ≡ withRow s (row .count) b → Along run from t s₀ set out₀ r (row .end) out′
+    along-row row b to out′ r h e w l q =
+        subst (λ (z : Progress). Along run from t s₀ set out₀ z (row .end) out′) (sym q)
+        (row-done row b out′ h (subst (λ (i : ℕ). Wrote (packetAt run at (row .end)) out i out′ b) e w) l)
+
+    gap-done : (to : ℕ) → GapTo (t .limit) run at to → Along run from t s₀ set out₀ (withSkipped s (to - at)) to out
+    gap-done to h =
+        let f = g .fits in
+        along-on (withSkipped s (to - at)) to out [] (to - at) (h .forth) (h .inside) (h .skips)
+        (λ carousels packages maps room heads bodies. gap-moves t (machine s carousels packages maps room heads bodies set out) (to - at))
+        (record {
+          bytes-fit = omega (arith, f .bytes-fit, h .forth);
+          accepted-fit = omega (arith, f .accepted-fit, h .forth);
+          written-fit = omega (arith, f .written-fit, h .forth);
+          rewritten-fit = omega (arith, f .rewritten-fit, h .forth);
+          skipped-fit = omega (arith, f .skipped-fit, h .forth, h .inside);
+          lost-fit = omega (arith, f .lost-fit, h .forth);
+        })
+
+    pub along-gap : (to : ℕ) (r : Progress) → GapTo (t .limit) run at to → r ≡ withSkipped s (to - at) → Along run from t s₀ set out₀ r to out
+    along-gap to r h q = subst (λ (z : Progress). Along run from t s₀ set out₀ z to out) (sym q) (gap-done to h)
+
+    withheld-done : (end : ℕ) → PacketTo (t .limit) run at end → Plain (packetAt run at end) set (s .ready) true → Along run from t s₀ set out₀ (withWithheld s) end out
+    withheld-done end p h =
+        let f = g .fits in
+        along-on (withWithheld s) end out (packetAt run at end ∷ []) 0 (omega (arith, p .forth)) (p .inside) (packet-cut (t .limit) run at end p)
+        (λ carousels packages maps room heads bodies. withheld-moves t (machine s carousels packages maps room heads bodies set out) (packetAt run at end) h)
+        (record {
+          bytes-fit = omega (arith, f .bytes-fit, p .forth);
+          accepted-fit = omega (arith, f .accepted-fit, p .forth, p .inside);
+          written-fit = omega (arith, f .written-fit, p .forth);
+          rewritten-fit = omega (arith, f .rewritten-fit, p .forth);
+          skipped-fit = omega (arith, f .skipped-fit, p .forth);
+          lost-fit = omega (arith, f .lost-fit, p .forth);
+        })
+
+    pub along-withheld : (end : ℕ) (is : Bool) (r : Progress) → s .ready ≡ is → PacketTo (t .limit) run at end × Plain (packetAt run at end) set is true → r ≡ withWithheld s
+        → Along run from t s₀ set out₀ r end out
+    along-withheld end is r e h q =
+        subst (λ (z : Progress). Along run from t s₀ set out₀ z end out) (sym q)
+        (withheld-done end (h .0) (subst (λ (b : Bool). Plain (packetAt run at end) set b true) (sym e) (h .1)))
+
+-- ---- the run goes on
+
 module _ (run : Bytes) (from : ℕ) (t : Terms) (x y : Machine) (at : ℕ) (g : Going run from t x y at) where
-  still : {r : Progress} → SameRooms y (withOut y r (y .out))
-  still = record { room-same = refl; bodies-same = refl; out-same = refl }
-
-  row-done : (row : Row) (b : ℕ) (out′ : Bytes) → RowIs (t .limit) (y .set) (y .progress .ready) run at row
-      → Wrote (packetAt run at (row .end)) (y .out) (y .progress .counts .bytes) out′ b → length out′ ≡ length (y .out)
-      → Going run from t x (withOut y (withRow (y .progress) (row .count) b) out′) (row .end)
-  row-done row b out′ h w l =
-      let f = g .fits in
-      let len = packet-length run at (row .end) (h .forth) (h .inside) in
-      going-on run from t x y (withOut y (withRow (y .progress) (row .count) b) out′) at (row .end) (h .packets) 0 g (h .inside) (h .cut-is)
-      (subst (λ (n : ℕ). Moves (h .packets) 0 t y (withOut y (withRow (y .progress) n b) out′)) (sym (h .many))
-      (row-moves t y (h .packets) (packetAt run at (row .end)) out′ b (h .all-pass) (h .bytes-are) w))
-      (record {
-        bytes-fit = omega (arith, f .bytes-fit, w .end, len, h .forth, h .inside, l);
-        accepted-fit = omega (arith, f .accepted-fit, h .few, h .inside);
-        written-fit = omega (arith, f .written-fit, h .few, h .inside);
-        rewritten-fit = omega (arith, f .rewritten-fit, h .forth);
-        skipped-fit = omega (arith, f .skipped-fit, h .forth);
-        lost-fit = omega (arith, f .lost-fit, h .forth);
-      })
-      (record { room-same = refl; bodies-same = refl; out-same = l })
-
-  pub going-row : (row : Row) (b to : ℕ) (out′ : Bytes) (r : Progress) → RowIs (t .limit) (y .set) (y .progress .ready) run at row → to ≡ y .progress .counts .bytes
-      → Wrote (packetAt run at (row .end)) (y .out) to out′ b → length out′ ≡ length (y .out) → r ≡ withRow (y .progress) (row .count) b
-      → Going run from t x (withOut y r out′) (row .end)
-  going-row row b to out′ r h e w l q =
-      subst (λ (z : Progress). Going run from t x (withOut y z out′) (row .end)) (sym q)
-      (row-done row b out′ h (subst (λ (i : ℕ). Wrote (packetAt run at (row .end)) (y .out) i out′ b) e w) l)
-
-  gap-done : (to : ℕ) → GapTo (t .limit) run at to → Going run from t x (withOut y (withSkipped (y .progress) (to - at)) (y .out)) to
-  gap-done to h =
-      let f = g .fits in
-      going-on run from t x y (withOut y (withSkipped (y .progress) (to - at)) (y .out)) at to [] (to - at) g (h .inside) (h .skips) (gap-moves t y (to - at))
-      (record {
-        bytes-fit = omega (arith, f .bytes-fit, h .forth);
-        accepted-fit = omega (arith, f .accepted-fit, h .forth);
-        written-fit = omega (arith, f .written-fit, h .forth);
-        rewritten-fit = omega (arith, f .rewritten-fit, h .forth);
-        skipped-fit = omega (arith, f .skipped-fit, h .forth, h .inside);
-        lost-fit = omega (arith, f .lost-fit, h .forth);
-      })
-      still
-
-  pub going-gap : (to : ℕ) (r : Progress) → GapTo (t .limit) run at to → r ≡ withSkipped (y .progress) (to - at) → Going run from t x (withOut y r (y .out)) to
-  going-gap to r h q = subst (λ (z : Progress). Going run from t x (withOut y z (y .out)) to) (sym q) (gap-done to h)
-
-  withheld-done : (end : ℕ) → PacketTo (t .limit) run at end → Plain (packetAt run at end) (y .set) (y .progress .ready) true
-      → Going run from t x (withOut y (withWithheld (y .progress)) (y .out)) end
-  withheld-done end p h =
-      let f = g .fits in
-      going-on run from t x y (withOut y (withWithheld (y .progress)) (y .out)) at end (packetAt run at end ∷ []) 0 g (p .inside) (packet-cut (t .limit) run at end p)
-      (withheld-moves t y (packetAt run at end) h)
-      (record {
-        bytes-fit = omega (arith, f .bytes-fit, p .forth);
-        accepted-fit = omega (arith, f .accepted-fit, p .forth, p .inside);
-        written-fit = omega (arith, f .written-fit, p .forth);
-        rewritten-fit = omega (arith, f .rewritten-fit, p .forth);
-        skipped-fit = omega (arith, f .skipped-fit, p .forth);
-        lost-fit = omega (arith, f .lost-fit, p .forth);
-      })
-      still
-
-  pub going-withheld : (end : ℕ) (is : Bool) (r : Progress) → y .progress .ready ≡ is → PacketTo (t .limit) run at end × Plain (packetAt run at end) (y .set) is true
-      → r ≡ withWithheld (y .progress) → Going run from t x (withOut y r (y .out)) end
-  going-withheld end is r e h q =
-      subst (λ (z : Progress). Going run from t x (withOut y z (y .out)) end) (sym q)
-      (withheld-done end (h .0) (subst (λ (b : Bool). Plain (packetAt run at end) (y .set) b true) (sym e) (h .1)))
+  pub going-along : (r : Progress) (to : ℕ) (out′ : Bytes) → Along run at t (y .progress) (y .set) (y .out) r to out′ → length out′ ≡ length (y .out)
+      → Going run from t x (withOut y r out′) to
+  going-along r to out′ h l =
+      going-on run from t x y (withOut y r out′) at to (h .packets) (h .skipped) g (h .inside) (h .cut-is)
+      (h .moved (y .carousels) (y .packages) (y .maps) (y .room) (y .heads) (y .bodies)) (h .fits) (record { room-same = refl; bodies-same = refl; out-same = l })
 
   signal-fits : (end : ℕ) → PacketTo (t .limit) run at end → Fits (y .progress) (length (packetAt run at end) + (length run - end)) (length (y .out))
   signal-fits end p =

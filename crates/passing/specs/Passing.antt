@@ -1,5 +1,5 @@
 -- How far a run has come: arrays, rooms, set, counts and output are those of the definition's `pass` over the packets so far.
-use Prim.Native.Nat.{ℕ, _+_, _*_, _≤_}
+use Prim.Native.Nat.{ℕ, _+_, _-_, _*_, _≤_}
 use mathlib.Core.Path.{_≡_}
 use mathlib.Core.Bool.{Bool, true, false, cond}
 use mathlib.Core.List.{List, _++_, flatten}
@@ -8,12 +8,13 @@ use lib.ListN.{length, drop}
 use Rattle.meaning.specs.Bytes.{Bytes}
 use Rattle.meaning.specs.Sets.{Words}
 use Rattle.meaning.specs.Writing.{Wrote}
-use Rattle.meaning.specs.Packets.{cut}
+use Rattle.meaning.specs.Packets.{stepOf, cut}
 use Rattle.meaning.specs.Narrow.{isSome}
 use Rattle.meaning.specs.Learn.{Limits, Known}
 use Rattle.meaning.specs.Rules.{drops, ready}
 use Rattle.meaning.specs.Push.{Passed, pass}
 use Rattle.meaning.specs.declared.Options.{Options}
+use Rattle.meaning.specs.declared.Step.the-variants.{Keep}
 use Rattle.meaning.specs.declared.Counts.{Counts}
 use Rattle.learning.specs.Kept.{Keeps}
 use Rattle.learning.specs.declared.Extent.{Extent}
@@ -22,6 +23,8 @@ use Rattle.rules.specs.Changes.{SetIs}
 use Rattle.passing.specs.declared.Terms.{Terms}
 use Rattle.passing.specs.declared.Progress.{Progress}
 use Rattle.passing.specs.declared.Scanned.{Scanned}
+use Rattle.passing.specs.declared.Ahead.{Ahead}
+use Rattle.passing.specs.Verdicts.{Signals, ahead, PacketTo, packetAt}
 
 -- ---- one signalling packet
 
@@ -101,6 +104,25 @@ withRow s count bytes = record {
   counts = record { bytes = bytes; accepted = s .counts .accepted + count; written = s .counts .written + count; rewritten = s .counts .rewritten; skipped = s .counts .skipped; lost = s .counts .lost };
   ready = s .ready;
 }
+
+-- ---- packets that teach nothing
+
+-- What stands behind them.
+abbrev pub AheadIs : ℕ → Bytes → ℕ → Ahead → Type 0
+AheadIs limit run at Ahead.Rest = stepOf limit (drop at run) ≡ Keep
+AheadIs limit run at (Ahead.Signalling here end s) =
+    (here ≡ at) × PacketTo limit run here end × Signals (packetAt run here end) (s .body) (s .id) (s .rewritable)
+
+-- From one place of a run to another: whatever was learned before stays, and whatever run it was has come further.
+pub record Along (run : Bytes) (from : ℕ) (t : Terms) (s : Progress) (set : Words) (out : Bytes) (r : Progress) (at : ℕ) (out′ : Bytes) : Type 0 where
+  pub packets : List Bytes
+  pub skipped : ℕ
+  pub forth : from ≤ at
+  pub inside : at ≤ length run
+  pub cut-is : cut (t .limit) (drop from run) ≡ ahead packets skipped (cut (t .limit) (drop at run))
+  pub moved : (carousels packages maps room heads : List ℕ) (bodies : Bytes)
+      → SofarAfter packets skipped t s carousels packages maps room heads bodies set out r carousels packages maps room heads bodies set out′
+  pub fits : Fits r (length run - at) (length out′)
 
 -- ---- a run
 

@@ -69,13 +69,17 @@ StopIs limit ws ready run from at (Stop.Withhold end) = PacketTo limit run at en
 StopIs limit ws ready run from at (Stop.Signalling end s) =
     PacketTo limit run at end × Signals (packetAt run at end) (s .body) (s .id) (s .rewritable)
 
-pub record RowIs (limit : ℕ) (ws : Words) (ready : Bool) (run : Bytes) (from : ℕ) (r : Row) : Type 0 where
+-- `count` packets that go out as they are, from one place to another.
+pub record Rowing (limit : ℕ) (ws : Words) (ready : Bool) (run : Bytes) (from at count : ℕ) : Type 0 where
   pub packets : List Bytes
-  pub forth : from ≤ r .end
-  pub inside : r .end ≤ length run
-  pub many : r .count ≡ length packets
-  pub few : from + r .count ≤ r .end
+  pub forth : from ≤ at
+  pub inside : at ≤ length run
+  pub many : count ≡ length packets
+  pub few : from + count ≤ at
   pub all-pass : AllPass ws ready packets
-  pub bytes-are : flatten packets ≡ packetAt run from (r .end)
-  pub cut-is : cut limit (drop from run) ≡ ahead packets 0 (cut limit (drop (r .end) run))
+  pub bytes-are : flatten packets ≡ packetAt run from at
+  pub cut-is : cut limit (drop from run) ≡ ahead packets 0 (cut limit (drop at run))
+
+pub record RowIs (limit : ℕ) (ws : Words) (ready : Bool) (run : Bytes) (from : ℕ) (r : Row) : Type 0 where
+  pub row : Rowing limit ws ready run from (r .end) (r .count)
   pub stop-is : StopIs limit ws ready run from (r .end) (r .stop)

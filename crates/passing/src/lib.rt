@@ -12,7 +12,7 @@ ghost use Rattle.meaning.specs.Learn.{Known};
 ghost use Rattle.narrowing.specs.Answers.{packetWith};
 ghost use Rattle.learning.specs.Kept.{Keeps};
 ghost use Rattle.passing.specs.Verdicts.{VerdictIs, Signals, RowIs};
-ghost use Rattle.passing.specs.Passing.{Emitted, Refreshed, Fits, SofarSome, SofarAfter, ScannedAs, withSkipped, withWithheld, withRow};
+ghost use Rattle.passing.specs.Passing.{Emitted, Refreshed, Fits, SofarSome, SofarAfter, AheadIs, Along, ScannedAs, withSkipped, withWithheld, withRow};
 use learning::Extent;
 use meaning::Counts;
 use meaning::Options;
@@ -231,6 +231,12 @@ pub struct Row {
     pub stop: Stop,
 }
 
+fn row_to(end: usize, count: usize, stop: Stop) -> Row
+    ensures { λ r. ⌜ r ≡ record { end = end; count = count; stop = stop } ⌝ }
+{
+    Row { end, count, stop }
+}
+
 // A row is cut where it has 2,048 bytes: a longer one is read too far ahead of its copying.
 fn row_at(run: &[u8], from: usize, limit: usize, set: &[u64; 1024], is_ready: bool) -> Row
     requires { ⌜ from ≤ length (now run) ⌝ }
@@ -247,46 +253,18 @@ fn row_at(run: &[u8], from: usize, limit: usize, set: &[u64; 1024], is_ready: bo
                     Verdict::Pass => {
                         count += 1;
                     }
-                    Verdict::Withhold => {
-                        return Row {
-                            end: here,
-                            count,
-                            stop: Stop::Withhold(at),
-                        };
-                    }
-                    Verdict::Signalling(s) => {
-                        return Row {
-                            end: here,
-                            count,
-                            stop: Stop::Signalling(at, s),
-                        };
-                    }
+                    Verdict::Withhold => return row_to(here, count, Stop::Withhold(at)),
+                    Verdict::Signalling(s) => return row_to(here, count, Stop::Signalling(at, s)),
                 }
             }
-            Step::Skip => {
-                return Row {
-                    end: here,
-                    count,
-                    stop: Stop::Skip,
-                };
-            }
-            Step::Keep => {
-                return Row {
-                    end: here,
-                    count,
-                    stop: Stop::Keep,
-                };
-            }
+            Step::Skip => return row_to(here, count, Stop::Skip),
+            Step::Keep => return row_to(here, count, Stop::Keep),
         }
     }
-    Row {
-        end: at,
-        count,
-        stop: Stop::More,
-    }
+    row_to(at, count, Stop::More)
 }
 
-// ---- a run
+// ---- the steps by number
 
 fn with_skipped(s: Progress, n: usize) -> Progress
     requires { ⌜ s .counts .skipped + n ≤ 18446744073709551615 ⌝ }
@@ -356,10 +334,87 @@ fn bytes_so_far(s: Progress) -> usize
     c.bytes
 }
 
+// ---- packets that teach nothing
+
+// What stands behind them: bytes to keep, or a signalling packet from one place to another.
+pub enum Ahead {
+    Rest,
+    Signalling(usize, usize, Signal),
+}
+
+// How far they go.
+pub struct Stretch {
+    pub progress: Progress,
+    pub at: usize,
+    pub ahead: Ahead,
+}
+
+fn stretch_to(progress: Progress, at: usize, ahead: Ahead) -> Stretch
+    ensures { λ r. ⌜ r ≡ record { progress = progress; at = at; ahead = ahead } ⌝ }
+{
+    Stretch {
+        progress,
+        at,
+        ahead,
+    }
+}
+
+// Rows, gaps and withheld packets from `from` on, up to a signalling packet or to the bytes to keep.
+fn plain_packets(
+    run: &[u8],
+    from: usize,
+    first: Progress,
+    t: Terms,
+    set: &[u64; 1024],
+    out: &mut [u8],
+) -> Stretch
+    requires { ⌜ (from ≤ length (now run)) × Fits first (length (now run) - from) (length (now out)) ⌝ }
+    ensures { λ r. ⌜ Along (now (run .entry)) from t first (now (set .entry)) (now (out .entry)) (r .progress) (r .at) (now (out .exit)) × AheadIs (t .limit) (now (run .entry)) (r .at) (r .ahead) ⌝ }
+{
+    let mut s = first;
+    let mut at = from;
+    loop {
+        let x = row_at(run, at, t.limit, set, s.ready);
+        let here = x.end;
+        let bytes = copy(&run[at..here], out, bytes_so_far(s));
+        s = with_row(s, x.count, bytes);
+        let stop = x.stop;
+        match stop {
+            Stop::Keep => return stretch_to(s, here, Ahead::Rest),
+            Stop::More => {
+                at = here;
+            }
+            Stop::Skip => {
+                at = gap_end(run, here, t.limit);
+                s = with_skipped(s, at - here);
+            }
+            Stop::Withhold(end) => {
+                at = end;
+                s = with_withheld(s);
+            }
+            Stop::Signalling(end, signal) => {
+                return stretch_to(s, here, Ahead::Signalling(here, end, signal));
+            }
+        }
+    }
+}
+
+// ---- all packets
+
 // How far a run was taken in, and where the bytes to keep begin.
 pub struct Scanned {
     pub progress: Progress,
     pub at: usize,
+}
+
+fn scanned_to(x: Stretch) -> Scanned
+    ensures { λ r. ⌜ r ≡ record { progress = x .progress; at = x .at } ⌝ }
+{
+    let s = x.progress;
+    Scanned {
+        progress: s,
+        at: x.at,
+    }
 }
 
 // The packets of a run from `from` on.
@@ -383,46 +438,25 @@ pub fn packets(
     let mut s = first;
     let mut at = from;
     loop {
-        let x = row_at(run, at, t.limit, set, s.ready);
-        let here = x.end;
-        let bytes = copy(&run[at..here], out, bytes_so_far(s));
-        s = with_row(s, x.count, bytes);
-        let stop = x.stop;
-        match stop {
-            Stop::Keep => {
-                return Scanned {
-                    progress: s,
-                    at: here,
-                };
-            }
-            Stop::More => {
-                at = here;
-            }
-            Stop::Skip => {
-                at = gap_end(run, here, t.limit);
-                s = with_skipped(s, at - here);
-            }
-            Stop::Withhold(end) => {
-                at = end;
-                s = with_withheld(s);
-            }
-            Stop::Signalling(end, signal) => {
-                at = end;
-                s = signalling(
-                    &run[here..end],
-                    signal,
-                    s,
-                    t,
-                    carousels,
-                    packages,
-                    maps,
-                    room,
-                    heads,
-                    bodies,
-                    set,
-                    out,
-                );
-            }
-        }
+        let x = plain_packets(run, at, s, t, set, out);
+        let ahead = x.ahead;
+        let Ahead::Signalling(here, end, signal) = ahead else {
+            return scanned_to(x);
+        };
+        at = end;
+        s = signalling(
+            &run[here..end],
+            signal,
+            x.progress,
+            t,
+            carousels,
+            packages,
+            maps,
+            room,
+            heads,
+            bodies,
+            set,
+            out,
+        );
     }
 }

@@ -62,15 +62,12 @@ module _ (held : ℕ) (chunk work work₁ : Bytes) (n : ℕ) (w : Wrote chunk wo
 
 -- ---- a call begins
 
-module _ (t : Terms) (e : Extent) (is : Bool) (c : Counts) (carousels packages maps room heads : List ℕ) (bodies : Bytes) (set : Words) (out : Bytes) (zero-counts : c ≡ countsOf 0) (lost : e .lost ≡ 0)
+module _ (t : Terms) (e : Extent) (is : Bool) (first : Progress) (carousels packages maps room heads : List ℕ) (bodies : Bytes) (set : Words) (out : Bytes) (begun : first ≡ record { extent = e; counts = countsOf 0; ready = is }) (lost : e .lost ≡ 0)
     (decided : (k : Known) → Keeps k e carousels packages maps room → SetIs (drops (t .options) k) set)
     (told : (k : Known) (cs r : List ℕ) → Keeps k e cs packages maps r → is ≡ ready (t .options .service) k) where
-  abbrev first : Progress
-  first = record { extent = e; counts = c; ready = is }
-
   pub call-begins : (L : Limits) (k : Known) → Holding (L .total) k e carousels packages maps room heads bodies → Sofar L (t .options) k out [] 0 first carousels packages maps room heads bodies set out
   call-begins L k h =
-      subst (λ (x : Counts). Sofar L (t .options) k out [] 0 (record { extent = e; counts = x; ready = is }) carousels packages maps room heads bodies set out) (sym zero-counts)
+      subst (λ (x : Progress). Sofar L (t .options) k out [] 0 x carousels packages maps room heads bodies set out) (sym begun)
       (begins L (t .options) k out e is carousels packages maps room heads bodies set h (decided k (h .tables-kept)) (told k carousels room (h .tables-kept)) lost)
 
   pub some-begins : HoldingSome e carousels packages maps room heads bodies → SofarSome t first carousels packages maps room heads bodies set out
@@ -80,7 +77,7 @@ module _ (t : Terms) (e : Extent) (is : Bool) (c : Counts) (carousels packages m
 
   pub call-fits : (n m : ℕ) → n ≤ m → m ≤ 131078 → m ≤ length out → Fits first n (length out)
   call-fits n m l few h =
-      subst (λ (x : Counts). Fits (record { extent = e; counts = x; ready = is }) n (length out)) (sym zero-counts) (begins-fit e is n (length out) lost (omega arith) (omega arith))
+      subst (λ (x : Progress). Fits x n (length out)) (sym begun) (begins-fit e is n (length out) lost (omega arith) (omega arith))
 
 -- ---- a call ends
 

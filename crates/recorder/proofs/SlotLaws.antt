@@ -17,7 +17,7 @@ pub record Clearing (n : ℕ) (xs₀ xs : List ℕ) (i : ℕ) : Type 0 where
 pub clearing-begin : (n : ℕ) (xs : List ℕ) → Clearing n xs xs n
 clearing-begin n xs = record { same-length = refl; are = refl }
 
-module _ (n : ℕ) (xs₀ xs : List ℕ) (i : ℕ) (k : Clearing n xs₀ xs i) where
+module _ {n : ℕ} {xs₀ xs : List ℕ} {i : ℕ} (k : Clearing n xs₀ xs i) where
   pub clearing-next : i < length xs → Clearing n xs₀ (set xs i 0) (i + 1)
   clearing-next h =
       let e : length xs - i ≡ suc (length (set xs i 0) - (i + 1)) = omega (arith, length-set xs i 0) in

@@ -8,18 +8,16 @@ use lib.Dec.{eqb}
 use Rattle.meaning.specs.Bytes.{Bytes}
 use Rattle.meaning.specs.Writing.{Wrote}
 use Rattle.meaning.specs.Learn.{Limits, Known}
-use Rattle.meaning.specs.Rules.{copiesAll}
 use Rattle.meaning.specs.Record.{State, Record, stateOf}
-use Rattle.meaning.specs.Push.{Pushed, push, started, soundRefusal, called, droppedNow, countsOf}
+use Rattle.meaning.specs.Push.{Pushed, push, started, soundRefusal, called, droppedNow}
 use Rattle.meaning.specs.Refusals.{answerNumber}
 use Rattle.meaning.specs.declared.Options.{Options}
-use Rattle.observing.specs.Observed.{Holding, HoldingSome}
+use Rattle.observing.specs.Observed.{Holding}
 use Rattle.learning.specs.declared.Extent.{Extent}
 use Rattle.recorder.specs.declared.call.Ran.{Ran}
 use Rattle.recorder.specs.declared.Pushed as code
 use Rattle.recorder.specs.declared.Started as code′
 use Rattle.recorder.specs.declared.Dropped as code″
-use Rattle.recorder.specs.Slots.{cleared}
 use Rattle.recorder.specs.Filter.{recordIn}
 
 -- ---- a call that is not refused
@@ -45,23 +43,6 @@ abbrev pub RunsAs : (Limits → State → Pushed) → ℕ → ℕ → Extent →
 RunsAs call most held e carousels packages maps room heads bodies work out r carousels′ packages′ maps′ room′ heads′ bodies′ work′ out′ =
     (L : Limits) (k : Known) → L .most ≡ most → L .work ≡ length work → Holding (L .total) k e carousels packages maps room heads bodies
     → RanAs L (call L (record { held = take held work; known = k })) out r carousels′ packages′ maps′ room′ heads′ bodies′ work′ out′
-
--- A call by its answer: refused, it leaves everything; else unused slots are cleared first.
-abbrev pub AnsweredAs : Bool → Options → Bytes → ℕ → ℕ → Extent → List ℕ → List ℕ → List ℕ → List ℕ → List ℕ → Bytes → Bytes → Bytes
-    → Ran → List ℕ → List ℕ → List ℕ → List ℕ → List ℕ → Bytes → Bytes → Bytes → Type 0
-AnsweredAs true o chunk most held e carousels packages maps room heads bodies work out r carousels′ packages′ maps′ room′ heads′ bodies′ work′ out′ =
-    RunsAs (λ L st. push L o st chunk) most held e carousels (cleared (e .packages) packages) (cleared (e .maps) maps) room (cleared (e .fragments) heads) bodies work out
-    r carousels′ packages′ maps′ room′ heads′ bodies′ work′ out′
-AnsweredAs false o chunk most held e carousels packages maps room heads bodies work out r carousels′ packages′ maps′ room′ heads′ bodies′ work′ out′ =
-    (r ≡ record { extent = e; counts = countsOf 0; held = held }) × (carousels′ ≡ carousels) × (packages′ ≡ packages) × (maps′ ≡ maps) × (room′ ≡ room) × (heads′ ≡ heads)
-    × (bodies′ ≡ bodies) × (work′ ≡ work) × (out′ ≡ out)
-
--- What is asked of a call that is answered: nothing where it is refused.
-abbrev pub Answerable : Bool → Options → ℕ → Extent → Bytes → List ℕ → List ℕ → List ℕ → List ℕ → List ℕ → Bytes → Bytes → Bytes → Type 0
-Answerable true o held e chunk carousels packages maps room heads bodies work out =
-    RoomFor e held chunk work out × (copiesAll o ≡ true → held ≡ 0)
-    × HoldingSome e carousels (cleared (e .packages) packages) (cleared (e .maps) maps) room (cleared (e .fragments) heads) bodies
-Answerable false o held e chunk carousels packages maps room heads bodies work out = Unit {0}
 
 -- ---- a push
 

@@ -11,9 +11,7 @@ ghost use Rattle.meaning.specs.Refusals.{packetLimit, answerNumber};
 ghost use Rattle.meaning.specs.Push.{countsOf, filtered, push, lengthRefusal};
 ghost use Rattle.observing.specs.Observed.{HoldingSome};
 ghost use Rattle.soundness.specs.Parts.{limitsOf, partsSound};
-ghost use Rattle.recorder.specs.Calls.{RoomFor, RunsAs, Answerable, AnsweredAs};
-use crate::slots::clear32;
-use crate::slots::clear64;
+ghost use Rattle.recorder.specs.Calls.{RoomFor, RunsAs};
 use learning::Extent;
 use meaning::Answer;
 use meaning::Counts;
@@ -71,6 +69,17 @@ fn ended(p: Progress, held: usize) -> Ran
     }
 }
 
+// Nothing is counted yet.
+fn begins(e: Extent, is_ready: bool) -> Progress
+    ensures { λ r. ⌜ r ≡ record { extent = e; counts = countsOf 0; ready = «is_ready» } ⌝ }
+{
+    Progress {
+        extent: e,
+        counts: counts_of(0),
+        ready: is_ready,
+    }
+}
+
 // The packets of held bytes and chunk.
 fn filtered(
     held: usize,
@@ -95,11 +104,7 @@ fn filtered(
     let service = o.service;
     let is_ready = ready(service, e, packages, maps);
     let n = copy(chunk, work, held);
-    let first = Progress {
-        extent: e,
-        counts: counts_of(0),
-        ready: is_ready,
-    };
+    let first = begins(e, is_ready);
     let x = packets(
         &work[0..n],
         0,
@@ -131,13 +136,18 @@ fn copied(chunk: &[u8], e: Extent, out: &mut [u8]) -> Ran
     }
 }
 
+// What a call begins with beside the arrays: its record's limits and wishes, how many bytes are held, and how much is known.
+pub struct Begun {
+    pub limits: Limits,
+    pub options: Options,
+    pub held: usize,
+    pub extent: Extent,
+}
+
 // A call that is not refused.
 pub fn run_call(
-    held: usize,
+    b: Begun,
     chunk: &[u8],
-    e: Extent,
-    o: Options,
-    most: usize,
     carousels: &mut [u64; 1024],
     packages: &mut [u32; 255],
     maps: &mut [u32; 64],
@@ -147,19 +157,22 @@ pub fn run_call(
     work: &mut [u8],
     out: &mut [u8],
 ) -> Ran
-    requires { ⌜ RoomFor e held (now chunk) (now work) (now out) × (copiesAll o ≡ true → held ≡ 0) × HoldingSome e (now carousels) (now packages) (now maps) (now room) (now heads) (now bodies) ⌝ }
-    ensures { λ r. ⌜ RunsAs (λ L st. push L o st (now (chunk .entry))) most held e (now (carousels .entry)) (now (packages .entry)) (now (maps .entry)) (now (room .entry)) (now (heads .entry)) (now (bodies .entry)) (now (work .entry)) (now (out .entry)) r (now (carousels .exit)) (now (packages .exit)) (now (maps .exit)) (now (room .exit)) (now (heads .exit)) (now (bodies .exit)) (now (work .exit)) (now (out .exit)) ⌝ }
+    requires { ⌜ RoomFor (b .extent) (b .held) (now chunk) (now work) (now out) × (copiesAll (b .options) ≡ true → b .held ≡ 0) × HoldingSome (b .extent) (now carousels) (now packages) (now maps) (now room) (now heads) (now bodies) ⌝ }
+    ensures { λ r. ⌜ RunsAs (λ L st. push L (b .options) st (now (chunk .entry))) (b .limits .most) (b .held) (b .extent) (now (carousels .entry)) (now (packages .entry)) (now (maps .entry)) (now (room .entry)) (now (heads .entry)) (now (bodies .entry)) (now (work .entry)) (now (out .entry)) r (now (carousels .exit)) (now (packages .exit)) (now (maps .exit)) (now (room .exit)) (now (heads .exit)) (now (bodies .exit)) (now (work .exit)) (now (out .exit)) ⌝ }
 {
+    let o = b.options;
+    let e = b.extent;
     if copies_all(o) {
         return copied(chunk, e, out);
     }
+    let l = b.limits;
     let t = Terms {
         options: o,
         limit: packet_limit(work.len()),
-        most,
+        most: l.most,
     };
     filtered(
-        held,
+        b.held,
         chunk,
         e,
         t,
@@ -174,6 +187,8 @@ pub fn run_call(
     )
 }
 
+// ---- its answer
+
 pub fn is_done(a: Answer) -> bool
     ensures { λ r. ⌜ r ≡ eqb (answerNumber a) 0 ⌝ }
 {
@@ -183,78 +198,37 @@ pub fn is_done(a: Answer) -> bool
     }
 }
 
-// A call by its answer: refused, nothing is touched.
-pub fn answered(
-    a: Answer,
-    held: usize,
-    chunk: &[u8],
-    e: Extent,
-    o: Options,
-    most: usize,
-    carousels: &mut [u64; 1024],
-    packages: &mut [u32; 255],
-    maps: &mut [u32; 64],
-    room: &mut [u16],
-    heads: &mut [u64; 256],
-    bodies: &mut [u8],
-    work: &mut [u8],
-    out: &mut [u8],
-) -> Ran
-    requires { ⌜ Answerable (eqb (answerNumber a) 0) o held e (now chunk) (now carousels) (now packages) (now maps) (now room) (now heads) (now bodies) (now work) (now out) ⌝ }
-    ensures { λ r. ⌜ AnsweredAs (eqb (answerNumber a) 0) o (now (chunk .entry)) most held e (now (carousels .entry)) (now (packages .entry)) (now (maps .entry)) (now (room .entry)) (now (heads .entry)) (now (bodies .entry)) (now (work .entry)) (now (out .entry)) r (now (carousels .exit)) (now (packages .exit)) (now (maps .exit)) (now (room .exit)) (now (heads .exit)) (now (bodies .exit)) (now (work .exit)) (now (out .exit)) ⌝ }
-{
-    if !is_done(a) {
-        return Ran {
-            extent: e,
-            counts: counts_of(0),
-            held,
-        };
-    }
-    clear32(packages, e.packages);
-    clear32(maps, e.maps);
-    clear64(heads, e.fragments);
-    run_call(
-        held,
-        chunk,
-        e,
-        o,
-        most,
-        carousels,
-        packages,
-        maps,
-        room,
-        heads,
-        bodies,
-        work,
-        out,
-    )
+// The lengths of what a call is lent.
+pub struct Lengths {
+    pub work: usize,
+    pub bodies: usize,
+    pub room: usize,
+    pub chunk: usize,
+    pub out: usize,
 }
 
 // Why a call is refused: its record, then the chunk's length, then the output's.
 pub fn call_answer(
-    l: Limits,
-    o: Options,
-    held: usize,
-    e: Extent,
+    b: Begun,
     packages: &[u32; 255],
     maps: &[u32; 64],
     heads: &[u64; 256],
-    w: usize,
-    t: usize,
-    m: usize,
-    chunk: usize,
-    out: usize,
+    n: Lengths,
 ) -> Answer
     requires { ⌜ (length (now packages) ≡ 255) × (length (now maps) ≡ 64) × (length (now heads) ≡ 256) ⌝ }
-    ensures { λ r. ⌜ answerNumber r ≡ cond (partsSound (limitsOf (l .work) (l .total) (l .most)) o held e (now (packages .entry)) (now (maps .entry)) (now (heads .entry)) w t m) (lengthRefusal w held chunk out) 4 ⌝ }
+    ensures { λ r. ⌜ answerNumber r ≡ cond (partsSound (limitsOf (b .limits .work) (b .limits .total) (b .limits .most)) (b .options) (b .held) (b .extent) (now (packages .entry)) (now (maps .entry)) (now (heads .entry)) (n .work) (n .bodies) (n .room)) (lengthRefusal (n .work) (b .held) (n .chunk) (n .out)) 4 ⌝ }
 {
-    if !parts_sound(l, o, held, e, packages, maps, heads, w, t, m) {
+    let l = b.limits;
+    let o = b.options;
+    let e = b.extent;
+    let w = n.work;
+    if !parts_sound(l, o, b.held, e, packages, maps, heads, w, n.bodies, n.room) {
         return Answer::Refused(Refusal::Unsound);
     }
-    if w - packet_limit(w) < chunk {
+    if w - packet_limit(w) < n.chunk {
         return Answer::Refused(Refusal::Long);
     }
-    if out < held + chunk {
+    if n.out < b.held + n.chunk {
         return Answer::Refused(Refusal::Short);
     }
     Answer::Done

@@ -7,13 +7,20 @@ pub mod sound;
 ghost use mathlib.Core.Path.{_≡_};
 ghost use lib.ListN.{length};
 ghost use Rattle.meaning.specs.Refusals.{numberOf, answerNumber};
-ghost use Rattle.meaning.specs.Push.{blank};
+ghost use Rattle.meaning.specs.Push.{blank, countsOf};
 ghost use Rattle.soundness.specs.Parts.{limitsOf};
-ghost use Rattle.recorder.specs.Filter.{recordIn, freshRecord};
+ghost use Rattle.recorder.specs.Filter.{recordIn, freshRecord, limitsIn, extentOf, begunOf, handedOf};
+ghost use Rattle.recorder.specs.Slots.{cleared};
 ghost use Rattle.recorder.specs.Calls.{StartedAs, PushedAs, DroppedAs};
-use crate::call::answered;
+use crate::call::Begun;
+use crate::call::Lengths;
+use crate::call::Ran;
 use crate::call::call_answer;
+use crate::call::counts_of;
+use crate::call::is_done;
+use crate::call::run_call;
 use crate::slots::clear32;
+use crate::slots::clear64;
 use crate::sound::is_sound;
 use learning::Extent;
 use meaning::Answer;
@@ -125,6 +132,109 @@ pub struct Dropped {
     pub count: u32,
 }
 
+// ---- a record taken apart
+
+fn limits_of(f: Filter) -> Limits
+    ensures { λ r. ⌜ r ≡ limitsIn f ⌝ }
+{
+    Limits {
+        work: f.work,
+        total: f.total,
+        most: f.most,
+    }
+}
+
+// How much is known as a call begins: no map is lost yet, and nothing has changed.
+fn extent_of(f: Filter) -> Extent
+    ensures { λ r. ⌜ r ≡ extentOf f ⌝ }
+{
+    Extent {
+        seen: f.seen,
+        packages: f.package_count,
+        maps: f.map_count,
+        fragments: f.fragment_count,
+        lost: 0,
+        changed: false,
+    }
+}
+
+fn begun(f: Filter) -> Begun
+    ensures { λ r. ⌜ r ≡ begunOf f ⌝ }
+{
+    let o = f.options;
+    Begun {
+        limits: limits_of(f),
+        options: o,
+        held: f.held,
+        extent: extent_of(f),
+    }
+}
+
+fn lengths(work: usize, bodies: usize, room: usize, chunk: usize, out: usize) -> Lengths
+    ensures { λ r. ⌜ r ≡ record { work = work; bodies = bodies; room = room; chunk = chunk; out = out } ⌝ }
+{
+    Lengths {
+        work,
+        bodies,
+        room,
+        chunk,
+        out,
+    }
+}
+
+// Unused slots set to zero.
+fn clear_unused(e: Extent, packages: &mut [u32; 255], maps: &mut [u32; 64], heads: &mut [u64; 256])
+    ensures { λ _. ⌜ (now (packages .exit) ≡ cleared (e .packages) (now (packages .entry))) × (now (maps .exit) ≡ cleared (e .maps) (now (maps .entry))) × (now (heads .exit) ≡ cleared (e .fragments) (now (heads .entry))) ⌝ }
+{
+    clear32(packages, e.packages);
+    clear32(maps, e.maps);
+    clear64(heads, e.fragments);
+}
+
+// ---- and put together
+
+// The record after a call.
+fn handed(
+    b: Begun,
+    r: Ran,
+    carousels: [u64; 1024],
+    packages: [u32; 255],
+    maps: [u32; 64],
+    heads: [u64; 256],
+) -> Filter
+    ensures { λ x. ⌜ x ≡ handedOf b r carousels packages maps heads ⌝ }
+{
+    let l = b.limits;
+    let o = b.options;
+    let e = r.extent;
+    Filter {
+        work: l.work,
+        total: l.total,
+        most: l.most,
+        options: o,
+        held: r.held,
+        seen: e.seen,
+        package_count: e.packages,
+        map_count: e.maps,
+        fragment_count: e.fragments,
+        carousels,
+        packages,
+        maps,
+        fragments: heads,
+    }
+}
+
+// Refused: nothing is counted, and the record is handed back as it came.
+fn not_pushed(why: Answer, f: Filter) -> Pushed
+    ensures { λ r. ⌜ r ≡ record { answer = why; counts = countsOf 0; filter = f } ⌝ }
+{
+    Pushed {
+        answer: why,
+        counts: counts_of(0),
+        filter: f,
+    }
+}
+
 impl Filter {
     // Takes in a chunk; what goes on is written to the output. The arrays are taken out once and put back once: the record is large.
     pub fn push(
@@ -137,45 +247,21 @@ impl Filter {
     ) -> Pushed
         ensures { λ r. ⌜ PushedAs (recordIn self) (now (work .entry)) (now (bodies .entry)) (now (room .entry)) (now (chunk .entry)) (now (out .entry)) r (now (work .exit)) (now (bodies .exit)) (now (room .exit)) (now (out .exit)) ⌝ }
     {
-        let l = Limits {
-            work: self.work,
-            total: self.total,
-            most: self.most,
-        };
-        let o = self.options;
-        let e = Extent {
-            seen: self.seen,
-            packages: self.package_count,
-            maps: self.map_count,
-            fragments: self.fragment_count,
-            lost: 0,
-            changed: false,
-        };
-        let mut carousels = self.carousels;
+        let b = begun(self);
+        let n = lengths(work.len(), bodies.len(), room.len(), chunk.len(), out.len());
         let mut packages = self.packages;
         let mut maps = self.maps;
         let mut heads = self.fragments;
-        let a = call_answer(
-            l,
-            o,
-            self.held,
-            e,
-            &packages,
-            &maps,
-            &heads,
-            work.len(),
-            bodies.len(),
-            room.len(),
-            chunk.len(),
-            out.len(),
-        );
-        let r = answered(
-            a,
-            self.held,
+        let a = call_answer(b, &packages, &maps, &heads, n);
+        if !is_done(a) {
+            return not_pushed(a, self);
+        }
+        let e = b.extent;
+        clear_unused(e, &mut packages, &mut maps, &mut heads);
+        let mut carousels = self.carousels;
+        let r = run_call(
+            b,
             chunk,
-            e,
-            o,
-            self.most,
             &mut carousels,
             &mut packages,
             &mut maps,
@@ -185,27 +271,11 @@ impl Filter {
             work,
             out,
         );
-        let after = r.extent;
         let c = r.counts;
-        let f = Filter {
-            work: self.work,
-            total: self.total,
-            most: self.most,
-            options: o,
-            held: r.held,
-            seen: after.seen,
-            package_count: after.packages,
-            map_count: after.maps,
-            fragment_count: after.fragments,
-            carousels,
-            packages,
-            maps,
-            fragments: heads,
-        };
         Pushed {
             answer: a,
             counts: c,
-            filter: f,
+            filter: handed(b, r, carousels, packages, maps, heads),
         }
     }
 
@@ -220,19 +290,12 @@ impl Filter {
             };
         }
         let o = self.options;
-        let e = Extent {
-            seen: self.seen,
-            packages: self.package_count,
-            maps: self.map_count,
-            fragments: self.fragment_count,
-            lost: 0,
-            changed: false,
-        };
         let carousels = self.carousels;
         let mut packages = self.packages;
         let mut maps = self.maps;
         clear32(&mut packages, self.package_count);
         clear32(&mut maps, self.map_count);
+        let e = extent_of(self);
         Dropped {
             answer: Answer::Done,
             count: dropped(o, e, &carousels, &packages, &maps, room),

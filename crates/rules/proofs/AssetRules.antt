@@ -1,7 +1,7 @@
 -- The assets of a list in the map room, one after the other: what the first of them put into a set or take out of it.
 -- Rests on the definition of a list, `assetsIn`, and on MemberLaws.
 use Prim.Native.Nat.{ℕ, zero, suc, _+_, _*_, _≤_, _<_}
-use mathlib.Core.Path.{_≡_, refl, sym, ap, _∙_}
+use mathlib.Core.Path.{_≡_, refl, sym, ap, _∙_, subst}
 use mathlib.Core.Bool.{Bool, true, false, _&&_, _||_}
 use mathlib.Core.List.{List, [], _∷_, _++_}
 use mathlib.Core.Option.{some}
@@ -10,14 +10,14 @@ use native.Mathlib.Numerals.{add-one}
 use lib.Dec.{eqb}
 use lib.ListN.{length, drop, getD, length-drop}
 use lib.Seq.{getD-drop}
-use Rattle.meaning.specs.Sets.{Words, withId, withoutId}
+use Rattle.meaning.specs.Sets.{Words}
 use Rattle.meaning.specs.Lists.{any}
 use Rattle.meaning.specs.Learn.{Listed, kindOf, assetsIn}
 use Rattle.meaning.specs.Rules.{listsIt}
 use Rattle.meaning.specs.declared.Part.{Part}
 use Rattle.meaning.specs.declared.Part.the-variants.{Other}
-use Rattle.rules.specs.Changes.{Inserts, Removes}
-use Rattle.rules.proofs.MemberLaws.{or-false, or-assoc, and-true, and-false, inserts-same, removes-same, inserts-one, removes-one, inserts-none, removes-none, inserts-then, removes-then}
+use Rattle.rules.specs.Changes.{Changed}
+use Rattle.rules.proofs.MemberLaws.{or-false, or-assoc, and-true, and-false, Way, changed-same, changed-none, changed-then}
 
 -- a kind's number past the two
 pub kind-other : (n : ℕ) → (n ≡ 0 → ⊥) → (n ≡ 1 → ⊥) → kindOf n ≡ Other
@@ -77,25 +77,23 @@ module _ (test : Part → Bool) (room : List ℕ) (base : ℕ) where
     failing t q =
         sym (named-more q ∙ ap (λ (b : Bool). named i q || (eqb identifier q && b)) t ∙ ap (λ (b : Bool). named i q || b) (and-false (eqb identifier q)) ∙ or-false (named i q))
 
-    module _ (ws now-set : Words) where
-      pub insert-next : identifier < 65536 → passes ≡ true → Inserts (named i) ws now-set → Inserts (named (i + 1)) ws (withId now-set identifier)
-      insert-next s t x =
-          inserts-same (passing t)
-          (inserts-then x (inserts-one now-set identifier (x .all-words) s))
+-- ---- the loop over a list, whichever way it changes the set
 
-      pub insert-pass : passes ≡ false → Inserts (named i) ws now-set → Inserts (named (i + 1)) ws now-set
-      insert-pass t = inserts-same (failing t)
+-- What the first i of n assets do.
+pub record ByAssets (way : Bool → Bool → Bool) (test : Part → Bool) (room : List ℕ) (base n : ℕ) (ws now-set : Words) (i : ℕ) : Type 0 where
+  pub within : i ≤ n
+  pub are : Changed way (named test room base i) ws now-set
 
-      pub remove-next : identifier < 65536 → passes ≡ true → Removes (named i) ws now-set → Removes (named (i + 1)) ws (withoutId now-set identifier)
-      remove-next s t x =
-          removes-same (passing t)
-          (removes-then x (removes-one now-set identifier (x .all-words) s))
+pub assets-begin : {way : Bool → Bool → Bool} → Way way → (test : Part → Bool) (room : List ℕ) (base n : ℕ) (ws : Words) → length ws ≡ 1024 → ByAssets way test room base n ws ws 0
+assets-begin w test room base n ws l = record { within = omega arith; are = changed-none w ws l (named-none test room base) }
 
-      pub remove-pass : passes ≡ false → Removes (named i) ws now-set → Removes (named (i + 1)) ws now-set
-      remove-pass t = removes-same (failing t)
+module _ {way : Bool → Bool → Bool} {test : Part → Bool} {room : List ℕ} {base n : ℕ} {ws now-set : Words} {i : ℕ} (k : ByAssets way test room base n ws now-set i) where
+  pub assets-next : Way way → i < n → base + 2 * n ≤ length room → test (kindOf (getD room (base + 2 * i + 1) 0)) ≡ true → {next : Words} → Changed way (eqb (getD room (base + 2 * i) 0)) now-set next
+      → ByAssets way test room base n ws next (i + 1)
+  assets-next w l h t y = record { within = omega arith; are = changed-same (passing test room base i (omega arith) t) (changed-then w (k .are) y) }
 
-  pub insert-begin : (ws : Words) → length ws ≡ 1024 → Inserts (named 0) ws ws
-  insert-begin ws l = inserts-none ws l named-none
+  pub assets-pass : i < n → base + 2 * n ≤ length room → test (kindOf (getD room (base + 2 * i + 1) 0)) ≡ false → ByAssets way test room base n ws now-set (i + 1)
+  assets-pass l h t = record { within = omega arith; are = changed-same (failing test room base i (omega arith) t) (k .are) }
 
-  pub remove-begin : (ws : Words) → length ws ≡ 1024 → Removes (named 0) ws ws
-  remove-begin ws l = removes-none ws l named-none
+  pub assets-end : n ≤ i → Changed way (named test room base n) ws now-set
+  assets-end h = let e : i ≡ n = omega (arith, k .within) in subst (λ (m : ℕ). Changed way (named test room base m) ws now-set) e (k .are)

@@ -1,4 +1,4 @@
--- Sets identifier by identifier: one put in or taken out, nothing changed, and one change after another.
+-- Sets identifier by identifier: one put in or taken out; and of either way, nothing changed, and one change after another.
 -- Rests on SetLaws of `meaning` and on specs/Changes.
 use Prim.Native.Nat.{ℕ, zero, suc, _/_, _<_}
 use mathlib.Core.Path.{_≡_, refl, sym, ap, _∙_}
@@ -10,7 +10,7 @@ use lib.ListN.{length, getD, replicate, length-set}
 use borrow.Author.Tests.{eqb-true, eqb-false}
 use Rattle.meaning.specs.Sets.{Words, inSet, withId, withoutId}
 use Rattle.meaning.proofs.SetLaws.{insert-same, insert-other, remove-same, remove-other}
-use Rattle.rules.specs.Changes.{Inserts, Removes}
+use Rattle.rules.specs.Changes.{Changed, comes, goes, Inserts, Removes}
 
 -- ---- Bool
 
@@ -39,14 +39,35 @@ and-not-or true true c = refl
 and-not-or true false c = refl
 and-not-or false b c = refl
 
--- ---- tests that agree
+-- ---- either way of changing a set
 
-module _ {f g : ℕ → Bool} {ws ws′ : Words} (h : (q : ℕ) → f q ≡ g q) where
-  pub inserts-same : Inserts f ws ws′ → Inserts g ws ws′
-  inserts-same x = record { all-words = x .all-words; member = λ q b. x .member q b ∙ ap (λ (b : Bool). inSet ws q || b) (h q) }
+-- What does not pass stays; two tests one after the other are one.
+pub record Way (way : Bool → Bool → Bool) : Type 0 where
+  pub stays : (a : Bool) → way a false ≡ a
+  pub both : (a b c : Bool) → way (way a b) c ≡ way a (b || c)
 
-  pub removes-same : Removes f ws ws′ → Removes g ws ws′
-  removes-same x = record { all-words = x .all-words; member = λ q b. x .member q b ∙ ap (λ (b : Bool). inSet ws q && not b) (h q) }
+pub inserting : Way comes
+inserting = record { stays = or-false; both = or-assoc }
+
+pub removing : Way goes
+removing = record { stays = and-true; both = and-not-or }
+
+-- tests that agree
+pub changed-same : {way : Bool → Bool → Bool} {f g : ℕ → Bool} {ws ws′ : Words} → ((q : ℕ) → f q ≡ g q) → Changed way f ws ws′ → Changed way g ws ws′
+changed-same {way} {f} {g} {ws} h x = record { all-words = x .all-words; member = λ q b. x .member q b ∙ ap (way (inSet ws q)) (h q) }
+
+module _ {way : Bool → Bool → Bool} (w : Way way) where
+  -- nothing
+  pub changed-none : {f : ℕ → Bool} (ws : Words) → length ws ≡ 1024 → ((q : ℕ) → f q ≡ false) → Changed way f ws ws
+  changed-none ws l h = record { all-words = l; member = λ q b. sym (ap (way (inSet ws q)) (h q) ∙ w .stays (inSet ws q)) }
+
+  -- one change after another
+  pub changed-then : {f g : ℕ → Bool} {a b c : Words} → Changed way f a b → Changed way g b c → Changed way (λ q. f q || g q) a c
+  changed-then {f} {g} {a} x y =
+      record {
+        all-words = y .all-words;
+        member = λ q l. y .member q l ∙ ap (λ (t : Bool). way t (g q)) (x .member q l) ∙ w .both (inSet a q) (f q) (g q);
+      }
 
 -- ---- one identifier
 
@@ -70,14 +91,7 @@ module _ (ws : Words) (p : ℕ) (l : length ws ≡ 1024) (s : p < 65536) where
       go q true e = ap (inSet (withoutId ws p)) (sym (eqb-true p q e)) ∙ remove-same ws p within ∙ sym (and-false (inSet ws q))
       go q false e = remove-other ws p q within (eqb-false p q e) ∙ sym (and-true (inSet ws q))
 
--- ---- nothing
-
-module _ {f : ℕ → Bool} (ws : Words) (l : length ws ≡ 1024) (h : (q : ℕ) → f q ≡ false) where
-  pub inserts-none : Inserts f ws ws
-  inserts-none = record { all-words = l; member = λ q b. sym (ap (λ (t : Bool). inSet ws q || t) (h q) ∙ or-false (inSet ws q)) }
-
-  pub removes-none : Removes f ws ws
-  removes-none = record { all-words = l; member = λ q b. sym (ap (λ (t : Bool). inSet ws q && not t) (h q) ∙ and-true (inSet ws q)) }
+-- ---- no identifier
 
 -- no identifier in words of zeros
 zeros-at : (n i : ℕ) → _≡_ {A = ℕ} (getD (replicate n 0) i 0) 0
@@ -88,20 +102,3 @@ zeros-at (suc n) (suc i) = zeros-at n i
 pub empty : (n q : ℕ) → inSet (replicate n 0) q ≡ false
 unfolding inSet
 empty n q = rw (zeros-at n (q / 64), zero-div)
-
--- ---- one change after another
-
-module _ {f g : ℕ → Bool} {a b c : Words} where
-  pub inserts-then : Inserts f a b → Inserts g b c → Inserts (λ q. f q || g q) a c
-  inserts-then x y =
-      record {
-        all-words = y .all-words;
-        member = λ q l. y .member q l ∙ ap (λ (t : Bool). t || g q) (x .member q l) ∙ or-assoc (inSet a q) (f q) (g q);
-      }
-
-  pub removes-then : Removes f a b → Removes g b c → Removes (λ q. f q || g q) a c
-  removes-then x y =
-      record {
-        all-words = y .all-words;
-        member = λ q l. y .member q l ∙ ap (λ (t : Bool). t && not (g q)) (x .member q l) ∙ and-not-or (inSet a q) (f q) (g q);
-      }

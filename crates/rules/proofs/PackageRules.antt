@@ -1,7 +1,7 @@
 -- What packages drop and keep: the list of a package's MPT by its place among the heads, and the packages one after the other.
 -- Rests on the definitions of lists and rules, on AssetRules and on MemberLaws.
 use Prim.Native.Nat.{ℕ, zero, suc, _+_, _*_, _/_, _%_, _≤_, _<_}
-use mathlib.Core.Path.{_≡_, refl, sym, ap, _∙_}
+use mathlib.Core.Path.{_≡_, refl, sym, ap, _∙_, subst}
 use mathlib.Core.Bool.{Bool, true, false, cond, not, _&&_, _||_}
 use mathlib.Core.List.{List, [], _∷_, _++_}
 use mathlib.Core.Option.{Option, none, some}
@@ -20,8 +20,8 @@ use Rattle.meaning.specs.Rules.{ours, listOf, listsIt, keptBy, droppedBy}
 use Rattle.meaning.specs.declared.Part.{Part}
 use Rattle.meaning.specs.declared.Options.{Options}
 use Rattle.learning.specs.Kept.{pairsIn}
-use Rattle.rules.specs.Changes.{Inserts, Removes, Rooms, listsAt}
-use Rattle.rules.proofs.MemberLaws.{inserts-same, removes-same, inserts-one, inserts-none, removes-none, inserts-then, removes-then}
+use Rattle.rules.specs.Changes.{Changed, Inserts, Removes, Packages, Rooms, listsAt}
+use Rattle.rules.proofs.MemberLaws.{Way, inserting, removing, changed-same, changed-none, changed-then, inserts-one}
 use Rattle.rules.proofs.AssetRules.{any-more}
 
 -- ---- the list of an MPT
@@ -106,36 +106,43 @@ module _ (o : Options) (n p : ℕ) (maps room : List ℕ) (r : Rooms n maps room
     unfolding any
     missing t q h = ap (listsIt t q) (list-none (p % 65536) n maps room (omega arith))
 
-    module _ {a b c : Words} where
-      pub drop-found : (mine : Bool) → ours (o .service) (p / 65536) ≡ mine → i < n → Inserts (λ q. not mine && eqb (p % 65536) q) a b
-          → Inserts (λ q. listsIt (test mine) q (some (assetsIn (getD maps i 0 % 65536) (drop (512 * i) room)))) b c
-          → Inserts (λ q. droppedBy o (listsAt n maps room) q (pairOf p)) a c
-      drop-found mine m h x y = inserts-same (dropped-is mine m) (inserts-then x (inserts-same (λ q. found (test mine) q h) y))
+    -- after another change, what the list names comes in or goes out, if there is one
+    module _ {way : Bool → Bool → Bool} (w : Way way) (t : Part → Bool) {g : ℕ → Bool} {a b : Words} (x : Changed way g a b) where
+      list-then : i < n → {c : Words} → Changed way (λ q. listsIt t q (some (assetsIn (getD maps i 0 % 65536) (drop (512 * i) room)))) b c → Changed way (λ q. g q || listsIt t q list) a c
+      list-then h y = changed-then w x (changed-same (λ q. found t q h) y)
 
-      pub keep-found : ours (o .service) (p / 65536) ≡ true → i < n → Removes (eqb (p % 65536)) a b
-          → Removes (λ q. listsIt (wanted o) q (some (assetsIn (getD maps i 0 % 65536) (drop (512 * i) room)))) b c
-          → Removes (λ q. keptBy o (listsAt n maps room) q (pairOf p)) a c
-      keep-found m h x y = removes-same (kept-is m) (removes-then x (removes-same (λ q. found (wanted o) q h) y))
+      list-missing : n ≤ i → Changed way (λ q. g q || listsIt t q list) a b
+      list-missing h = changed-then w x (changed-none w b (x .all-words) (λ q. missing t q h))
 
     module _ {a b : Words} where
+      pub drop-found : (mine : Bool) → ours (o .service) (p / 65536) ≡ mine → i < n → Inserts (λ q. not mine && eqb (p % 65536) q) a b
+          → {c : Words} → Inserts (λ q. listsIt (test mine) q (some (assetsIn (getD maps i 0 % 65536) (drop (512 * i) room)))) b c
+          → Inserts (λ q. droppedBy o (listsAt n maps room) q (pairOf p)) a c
+      drop-found mine m h x y = changed-same (dropped-is mine m) (list-then inserting (test mine) x h y)
+
       pub drop-missing : (mine : Bool) → ours (o .service) (p / 65536) ≡ mine → n ≤ i → Inserts (λ q. not mine && eqb (p % 65536) q) a b
           → Inserts (λ q. droppedBy o (listsAt n maps room) q (pairOf p)) a b
-      drop-missing mine m h x = inserts-same (dropped-is mine m) (inserts-then x (inserts-none b (x .all-words) (λ q. missing (test mine) q h)))
+      drop-missing mine m h x = changed-same (dropped-is mine m) (list-missing inserting (test mine) x h)
+
+      pub keep-found : ours (o .service) (p / 65536) ≡ true → i < n → Removes (eqb (p % 65536)) a b
+          → {c : Words} → Removes (λ q. listsIt (wanted o) q (some (assetsIn (getD maps i 0 % 65536) (drop (512 * i) room)))) b c
+          → Removes (λ q. keptBy o (listsAt n maps room) q (pairOf p)) a c
+      keep-found m h x y = changed-same (kept-is m) (list-then removing (wanted o) x h y)
 
       pub keep-missing : ours (o .service) (p / 65536) ≡ true → n ≤ i → Removes (eqb (p % 65536)) a b → Removes (λ q. keptBy o (listsAt n maps room) q (pairOf p)) a b
-      keep-missing m h x = removes-same (kept-is m) (removes-then x (removes-none b (x .all-words) (λ q. missing (wanted o) q h)))
+      keep-missing m h x = changed-same (kept-is m) (list-missing removing (wanted o) x h)
 
   -- not ours: nothing of it is kept
   pub keep-other : (ws : Words) → length ws ≡ 1024 → ours (o .service) (p / 65536) ≡ false → Removes (λ q. keptBy o (listsAt n maps room) q (pairOf p)) ws ws
   unfolding keptBy pairOf
-  keep-other ws l e = removes-none ws l (λ q. rw e)
+  keep-other ws l e = changed-none removing ws l (λ q. rw e)
 
 -- the MPT's identifier, dropped where the service is not ours
 pub own-dropped : (mine : Bool) (ws : Words) (id : ℕ) → length ws ≡ 1024 → id < 65536 → mine ≡ false → Inserts (λ q. not mine && eqb id q) ws (withId ws id)
-own-dropped mine ws id l s e = inserts-same (λ q. rw e) (inserts-one ws id l s)
+own-dropped mine ws id l s e = changed-same (λ q. rw e) (inserts-one ws id l s)
 
 pub own-left : (mine : Bool) (ws : Words) (id : ℕ) → length ws ≡ 1024 → mine ≡ true → Inserts (λ q. not mine && eqb id q) ws ws
-own-left mine ws id l e = inserts-none ws l (λ q. rw e)
+own-left mine ws id l e = changed-none inserting ws l (λ q. rw e)
 
 -- ---- one package after the other
 
@@ -155,16 +162,18 @@ module _ (f : ℕ → ℕ × ℕ → Bool) (xs : List ℕ) where
   by-more : (i : ℕ) → i < length xs → (q : ℕ) → (byFirst i q || f q (pairOf (getD xs i 0))) ≡ byFirst (i + 1) q
   by-more i h q = sym (rw (add-one i) (ap (any (f q)) (pairs-more i xs h) ∙ any-more (f q) (pairsIn i xs) (pairOf (getD xs i 0))))
 
-  module _ (ws : Words) (l : length ws ≡ 1024) where
-    pub drops-begin : Inserts (byFirst 0) ws ws
-    drops-begin = inserts-none ws l by-none
+-- What the first i of n packages do, whichever way they change the set.
+pub record ByPackages (way : Bool → Bool → Bool) (f : ℕ → ℕ × ℕ → Bool) (n : ℕ) (xs : List ℕ) (ws now-set : Words) (i : ℕ) : Type 0 where
+  pub within : i ≤ n
+  pub are : Changed way (byFirst f xs i) ws now-set
 
-    pub keeps-begin : Removes (byFirst 0) ws ws
-    keeps-begin = removes-none ws l by-none
+pub packages-begin : {way : Bool → Bool → Bool} → Way way → (f : ℕ → ℕ × ℕ → Bool) (n : ℕ) (xs : List ℕ) (ws : Words) → length ws ≡ 1024 → ByPackages way f n xs ws ws 0
+packages-begin w f n xs ws l = record { within = omega arith; are = changed-none w ws l (by-none f xs) }
 
-  module _ (i : ℕ) (h : i < length xs) {a b c : Words} where
-    pub drops-next : Inserts (byFirst i) a b → Inserts (λ q. f q (pairOf (getD xs i 0))) b c → Inserts (byFirst (i + 1)) a c
-    drops-next x y = inserts-same (by-more i h) (inserts-then x y)
+module _ {way : Bool → Bool → Bool} {f : ℕ → ℕ × ℕ → Bool} {n : ℕ} {xs : List ℕ} {ws now-set : Words} {i : ℕ} (k : ByPackages way f n xs ws now-set i) where
+  pub packages-next : Way way → i < n → Packages n xs → {next : Words} → Changed way (λ q. f q (pairOf (getD xs i 0))) now-set next → ByPackages way f n xs ws next (i + 1)
+  packages-next w h s y =
+      record { within = omega arith; are = changed-same (by-more f xs i (omega (arith, s .few, s .slots-all))) (changed-then w (k .are) y) }
 
-    pub keeps-next : Removes (byFirst i) a b → Removes (λ q. f q (pairOf (getD xs i 0))) b c → Removes (byFirst (i + 1)) a c
-    keeps-next x y = removes-same (by-more i h) (removes-then x y)
+  pub packages-end : n ≤ i → Changed way (byFirst f xs n) ws now-set
+  packages-end h = let e : i ≡ n = omega (arith, k .within) in subst (λ (m : ℕ). Changed way (byFirst f xs m) ws now-set) e (k .are)

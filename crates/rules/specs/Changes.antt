@@ -17,14 +17,23 @@ pub record SetIs (f : ℕ → Bool) (ws : Words) : Type 0 where
   pub all-words : length ws ≡ 1024
   pub member : (q : ℕ) → q < 65536 → inSet ws q ≡ f q
 
--- From one set to another: those that pass a test come in, or go out; the others stay as they were.
-pub record Inserts (f : ℕ → Bool) (ws ws′ : Words) : Type 0 where
+-- From one set to another: what a test says of each identifier decides, in one way or another, whether it is in afterwards.
+pub record Changed (way : Bool → Bool → Bool) (f : ℕ → Bool) (ws ws′ : Words) : Type 0 where
   pub all-words : length ws′ ≡ 1024
-  pub member : (q : ℕ) → q < 65536 → inSet ws′ q ≡ (inSet ws q || f q)
+  pub member : (q : ℕ) → q < 65536 → inSet ws′ q ≡ way (inSet ws q) (f q)
 
-pub record Removes (f : ℕ → Bool) (ws ws′ : Words) : Type 0 where
-  pub all-words : length ws′ ≡ 1024
-  pub member : (q : ℕ) → q < 65536 → inSet ws′ q ≡ (inSet ws q && not (f q))
+-- Those that pass come in, or go out; the others stay as they were.
+abbrev pub comes : Bool → Bool → Bool
+comes was passes = was || passes
+
+abbrev pub goes : Bool → Bool → Bool
+goes was passes = was && not passes
+
+abbrev pub Inserts : (ℕ → Bool) → Words → Words → Type 0
+Inserts f ws ws′ = Changed comes f ws ws′
+
+abbrev pub Removes : (ℕ → Bool) → Words → Words → Type 0
+Removes f ws ws′ = Changed goes f ws ws′
 
 -- ---- the arrays
 

@@ -44,6 +44,16 @@ fn wants(o: Options, kind: u16) -> bool
     }
 }
 
+// Whether an asset of a service, ours or not, stays.
+fn is_kept(o: Options, ours: bool, kind: u16) -> bool
+    ensures { λ r. ⌜ r ≡ (ours && wanted o (kindOf kind)) ⌝ }
+{
+    if !ours {
+        return false;
+    }
+    wants(o, kind)
+}
+
 // Puts the assets of a list of `n` at `base` into the set: those not wanted, or all where the service is not ours.
 fn drop_assets(o: Options, ours: bool, room: &[u16], base: usize, n: usize, set: &mut [u64; 1024])
     requires { ⌜ (base + 2 * n ≤ length (now room)) × (length (now set) ≡ 1024) ⌝ }
@@ -52,7 +62,7 @@ fn drop_assets(o: Options, ours: bool, room: &[u16], base: usize, n: usize, set:
     let mut i: usize = 0;
     while i < n {
         let id = room[base + 2 * i];
-        let kept = ours && wants(o, room[base + 2 * i + 1]);
+        let kept = is_kept(o, ours, room[base + 2 * i + 1]);
         i += 1;
         if !kept {
             insert(set, id);
@@ -135,10 +145,8 @@ fn drop_packages(
     requires { ⌜ Packages (e .packages) (now packages) × Rooms (e .maps) (now maps) (now room) × (length (now set) ≡ 1024) ⌝ }
     ensures { λ _. ⌜ Inserts (λ q. any (droppedBy o (listsAt (e .maps) (now (maps .entry)) (now (room .entry))) q) (pairsIn (e .packages) (now (packages .entry)))) (now (set .entry)) (now (set .exit)) ⌝ }
 {
-    let mut i: usize = 0;
-    while i < e.packages {
+    for i in 0..e.packages {
         drop_package(o, packages[i], maps, e.maps, room, set);
-        i += 1;
     }
 }
 
@@ -153,10 +161,8 @@ fn keep_packages(
     requires { ⌜ Packages (e .packages) (now packages) × Rooms (e .maps) (now maps) (now room) × (length (now set) ≡ 1024) ⌝ }
     ensures { λ _. ⌜ Removes (λ q. any (keptBy o (listsAt (e .maps) (now (maps .entry)) (now (room .entry))) q) (pairsIn (e .packages) (now (packages .entry)))) (now (set .entry)) (now (set .exit)) ⌝ }
 {
-    let mut i: usize = 0;
-    while i < e.packages {
+    for i in 0..e.packages {
         keep_package(o, packages[i], maps, e.maps, room, set);
-        i += 1;
     }
 }
 

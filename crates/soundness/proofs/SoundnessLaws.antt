@@ -149,43 +149,42 @@ pub record Once (f : ℕ → ℕ) (n : ℕ) (xs : List ℕ) (ws : Words) (i : �
   pub all-words : length ws ≡ 1024
   pub are : distinct (map f (take n xs)) ≡ (avoids ws (map f (rest n i xs)) && distinct (map f (rest n i xs)))
 
-module _ (f : ℕ → ℕ) (n : ℕ) (xs : List ℕ) where
-  pub once-begin : Once f n xs (replicate 1024 0) 0
-  once-begin =
-      record {
-        within = omega arith;
-        all-words = refl;
-        are = rw (rest-all n xs) (sym (ap (λ (b : Bool). b && distinct (map f (take n xs))) (avoids-empty 1024 (map f (take n xs)))));
-      }
+pub once-begin : (f : ℕ → ℕ) (n : ℕ) (xs : List ℕ) → Once f n xs (replicate 1024 0) 0
+once-begin f n xs =
+    record {
+      within = omega arith;
+      all-words = refl;
+      are = rw (rest-all n xs) (sym (ap (λ (b : Bool). b && distinct (map f (take n xs))) (avoids-empty 1024 (map f (take n xs)))));
+    }
 
-  module _ (ws : Words) (i : ℕ) (k : Once f n xs ws i) where
-    -- p is the identifier at place i
-    module _ (h : i < n) (l : n ≤ length xs) (p : ℕ) (e : p ≡ f (getD xs i 0)) where
-      here : distinct (map f (take n xs)) ≡ (avoids ws (p ∷ map f (rest n (i + 1) xs)) && distinct (p ∷ map f (rest n (i + 1) xs)))
-      here =
-          k .are
-          ∙ ap (λ (ys : List ℕ). avoids ws ys && distinct ys) (ap (map f) (rest-next n i xs h l) ∙ ap (λ (q : ℕ). q ∷ map f (rest n (i + 1) xs)) (sym e))
+module _ {f : ℕ → ℕ} {n : ℕ} {xs : List ℕ} {ws : Words} {i : ℕ} (k : Once f n xs ws i) where
+  -- p is the identifier at place i
+  module _ (h : i < n) (l : n ≤ length xs) {p : ℕ} (e : p ≡ f (getD xs i 0)) where
+    here : distinct (map f (take n xs)) ≡ (avoids ws (p ∷ map f (rest n (i + 1) xs)) && distinct (p ∷ map f (rest n (i + 1) xs)))
+    here =
+        k .are
+        ∙ ap (λ (ys : List ℕ). avoids ws ys && distinct ys) (ap (map f) (rest-next n i xs h l) ∙ ap (λ (q : ℕ). q ∷ map f (rest n (i + 1) xs)) (sym e))
 
-      pub once-next : p < 65536 → inSet ws p ≡ false → (ws′ : Words) → ws′ ≡ withId ws p → Once f n xs ws′ (i + 1)
-      unfolding withId
-      once-next b t ws′ w =
-          let s : p / 64 < length ws = omega (arith, k .all-words) in
-          let g : length (withId ws p) ≡ 1024 = simp length-set (k .all-words) in
-          record {
-            within = omega arith;
-            all-words = ap length w ∙ g;
-            are =
-                here
-                ∙ once-cons ws p s (map f (rest n (i + 1) xs)) t
-                ∙ ap (λ (v : Words). avoids v (map f (rest n (i + 1) xs)) && distinct (map f (rest n (i + 1) xs))) (sym w);
-          }
+    pub once-next : p < 65536 → inSet ws p ≡ false → {ws′ : Words} → ws′ ≡ withId ws p → Once f n xs ws′ (i + 1)
+    unfolding withId
+    once-next b t w =
+        let s : p / 64 < length ws = omega (arith, k .all-words) in
+        let g : length (withId ws p) ≡ 1024 = simp length-set (k .all-words) in
+        record {
+          within = omega arith;
+          all-words = ap length w ∙ g;
+          are =
+              here
+              ∙ once-cons ws p s (map f (rest n (i + 1) xs)) t
+              ∙ ap (λ (v : Words). avoids v (map f (rest n (i + 1) xs)) && distinct (map f (rest n (i + 1) xs))) (sym w);
+        }
 
-      pub once-twice : inSet ws p ≡ true → distinct (map f (take n xs)) ≡ false
-      once-twice t = here ∙ twice-cons ws p (map f (rest n (i + 1) xs)) t
+    pub once-twice : inSet ws p ≡ true → distinct (map f (take n xs)) ≡ false
+    once-twice t = here ∙ twice-cons ws p (map f (rest n (i + 1) xs)) t
 
-    pub once-done : n ≤ i → distinct (map f (take n xs)) ≡ true
-    unfolding all distinct
-    once-done h = k .are ∙ ap (λ (ys : List ℕ). avoids ws (map f ys) && distinct (map f ys)) (rest-none n i xs h)
+  pub once-done : n ≤ i → distinct (map f (take n xs)) ≡ true
+  unfolding all distinct
+  once-done h = k .are ∙ ap (λ (ys : List ℕ). avoids ws (map f ys) && distinct (map f ys)) (rest-none n i xs h)
 
 -- ---- the sum, as f reads the numbers
 

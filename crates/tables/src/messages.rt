@@ -1,8 +1,9 @@
 // The messages of a signalling payload: one by itself, and the parts of an aggregate one after the other.
 ghost use mathlib.Core.Path.{_≡_};
-ghost use Prim.Native.Nat.{_+_, _-_, _*_, _%_, _≤_, _<_};
+ghost use Prim.Native.Nat.{ℕ, _+_, _-_, _*_, _%_, _≤_, _<_};
 ghost use lib.ListN.{length, take, drop, getD};
-ghost use Rattle.meaning.specs.Readers.{counted16, counted32};
+ghost use Rattle.meaning.specs.Bytes.{Bytes};
+ghost use Rattle.meaning.specs.Readers.{Out, bytes, counted16, counted32};
 ghost use Rattle.meaning.specs.Messages.{isLong, messageBody, message};
 ghost use Rattle.tables.specs.Answers.{FrameIs, MessageIs};
 use octets::be16;
@@ -42,6 +43,18 @@ fn is_long(number: u16) -> bool
     number <= 0x7FFF
 }
 
+// A part of `n` bytes from `start` on, whatever stands before it.
+fn part_from(s: &[u8], start: usize, n: usize) -> Frame
+    requires { ⌜ start ≤ length (now s) ⌝ }
+    ensures { λ r. ⌜ ((o : Out Bytes) (at : ℕ) → at < start → o ≡ bytes n (drop start (now (s .entry))) → FrameIs o (now (s .entry)) at r) ⌝ }
+{
+    if s.len() - start < n {
+        return Frame::Done;
+    }
+    let end = start + n;
+    Frame::Part(start, end)
+}
+
 // A part behind a 16-bit length at `at`.
 fn short_frame(s: &[u8], at: usize) -> Frame
     ensures { λ r. ⌜ FrameIs (counted16 (drop at (now (s .entry)))) (now (s .entry)) at r ⌝ }
@@ -55,10 +68,7 @@ fn short_frame(s: &[u8], at: usize) -> Frame
     }
     let n = be16(s, at);
     let start = at + 2;
-    if len - start < n {
-        return Frame::Done;
-    }
-    Frame::Part(start, start + n)
+    part_from(s, start, n)
 }
 
 // A part behind a 32-bit length at `at`.
@@ -74,10 +84,7 @@ fn long_frame(s: &[u8], at: usize) -> Frame
     }
     let n = be32(s, at);
     let start = at + 4;
-    if len - start < n {
-        return Frame::Done;
-    }
-    Frame::Part(start, start + n)
+    part_from(s, start, n)
 }
 
 // The part of an aggregate at `at`.

@@ -54,16 +54,4 @@ returns-2 c =
     (omega (arith, t), omega arith)
 
 pub find-fragment-spec : {M : Type 1} → statement M
-find-fragment-spec =
-    tie.close
-    (tie.spec
-    Inv-loop
-    μ-loop
-    loop-holds
-    mul-if1
-    element-copy-out-if1
-    returns
-    add-i
-    loop-less
-    loop-again
-    returns-2)
+find-fragment-spec = tie.close (tie.spec Inv-loop μ-loop loop-holds mul-if1 element-copy-out-if1 returns add-i loop-less loop-again returns-2)

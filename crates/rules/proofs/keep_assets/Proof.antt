@@ -1,21 +1,21 @@
-use mathlib.Core.Path.{_≡_}
 use borrow.Author.Needs.{needs}
 use Rattle.meaning.specs.Narrow.{wanted}
-use Rattle.rules.specs.Changes.{Removes}
-use Rattle.rules.proofs.AssetRules.{named, remove-begin, remove-next, remove-pass}
+use Rattle.rules.specs.Changes.{goes}
+use Rattle.rules.proofs.AssetRules.{ByAssets, assets-begin, assets-next, assets-pass, assets-end}
+use Rattle.rules.proofs.MemberLaws.{removing, removes-one}
 use native.Mathlib.Omega.{arith}
-use Prim.Native.Nat.{_+_, _-_, _*_, _≤_}
+use Prim.Native.Nat.{_+_, _-_, _*_}
 use Rattle.rules.proofs.keep_assets.Statement.{statement}
 use Rattle.rules.proofs.keep_assets.Tie as tie
 
 abbrev Inv-loop : tie.InvT-loop
-Inv-loop o room base n set₀ i₀ set i = (i ≤ n) × Removes (named (wanted o) room base i) set₀ set
+Inv-loop o room base n set₀ i₀ set i = ByAssets goes (wanted o) room base n set₀ set i
 
 abbrev μ-loop : tie.MeasureT-loop
 μ-loop o room base n set₀ i₀ set i = n - i
 
 loop-holds : tie.Need-loop-holds Inv-loop μ-loop
-loop-holds c = (omega arith, remove-begin (wanted (c .before .args .o)) (c .before .args .room .now) (c .before .args .base) (c .before .args .set .now) (c .before .pre .1))
+loop-holds c = assets-begin removing _ _ _ _ _ (c .before .pre .1)
 
 mul-id : tie.Need-mul-id Inv-loop μ-loop
 mul-id c = search needs
@@ -58,49 +58,19 @@ loop-less c = search needs
 
 loop-again : tie.Need-loop-again Inv-loop μ-loop
 loop-again c =
-    let l = c .before .before .before .before .before .before .before .loop in
-    let a = c .before .before .before .before .before .before .before .before .before .args in (
-      omega arith,
-      rw (c .remove .ensures) (remove-next (wanted (a .o)) (a .room .now) (a .base) (l .i) (omega arith) (a .set .now) (l .set)
-          (omega (arith, c .before .before .before .before .before .before .before .before .shared-slice-known .given (a .base + 2 * l .i)))
-          (rw (c .before .before .before .wants .ensures) at (c .before .before .if1 .taken)) (l .inv .1)),
-    )
+    let z = c .before .before .before .before .before .before .before .before .before in
+    let k = c .before .before .before .before .before .before .before .loop .inv in
+    assets-next k removing (omega arith) (z .pre .0) (rw (c .before .before .before .wants .ensures) at (c .before .before .if1 .taken))
+    (rw (c .remove .ensures) (removes-one _ _ (k .are .all-words) (omega (arith, c .before .before .before .before .before .before .before .before .shared-slice-known .given (z .args .base + 2 * c .before .before .before .before .before .before .before .loop .i)))))
 
 loop-less-2 : tie.Need-loop-less-2 Inv-loop μ-loop
 loop-less-2 c = search needs
 
 loop-again-2 : tie.Need-loop-again-2 Inv-loop μ-loop
-loop-again-2 c =
-    let l = c .before .before .before .before .before .loop in
-    let a = c .before .before .before .before .before .before .before .args in
-    (omega arith, remove-pass (wanted (a .o)) (a .room .now) (a .base) (l .i) (omega arith) (a .set .now) (l .set) (rw (c .before .wants .ensures) at (c .if1 .left)) (l .inv .1))
+loop-again-2 c = assets-pass (c .before .before .before .before .before .loop .inv) (omega arith) (c .before .before .before .before .before .before .before .pre .0) (rw (c .before .wants .ensures) at (c .if1 .left))
 
 returns : tie.Need-returns Inv-loop μ-loop
-returns c =
-    let e : c .before .loop .i ≡ c .before .before .before .args .n = omega arith in
-    rw (← e) (c .before .loop .inv .1)
+returns c = assets-end (c .before .loop .inv) (omega arith)
 
 pub keep-assets-spec : {M : Type 1} → statement M
-keep-assets-spec =
-    tie.close
-    (tie.spec
-    Inv-loop
-    μ-loop
-    loop-holds
-    mul-id
-    add-id
-    mul-id-2
-    shared-slice-read-id
-    mul-wants
-    add-wants
-    add-wants-2
-    mul-wants-2
-    shared-slice-read-wants
-    wants-requires
-    add-i
-    remove-requires
-    loop-less
-    loop-again
-    loop-less-2
-    loop-again-2
-    returns)
+keep-assets-spec = tie.close (tie.spec Inv-loop μ-loop loop-holds mul-id add-id mul-id-2 shared-slice-read-id mul-wants add-wants add-wants-2 mul-wants-2 shared-slice-read-wants wants-requires add-i remove-requires loop-less loop-again loop-less-2 loop-again-2 returns)

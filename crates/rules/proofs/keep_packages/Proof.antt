@@ -1,23 +1,21 @@
-use borrow.Author.Needs.{needs}
+use Rattle.rules.proofs.PackageRules.{ByPackages, packages-begin, packages-next, packages-end}
+use Rattle.rules.proofs.MemberLaws.{removing}
+use Rattle.rules.specs.Changes.{goes, listsAt}
 use Rattle.meaning.specs.Rules.{keptBy}
-use Rattle.rules.specs.Changes.{Removes, listsAt}
-use Rattle.rules.proofs.PackageRules.{byFirst, keeps-begin, keeps-next}
 use native.Mathlib.Omega.{arith}
-use mathlib.Core.Path.{_≡_}
-use Prim.Native.Nat.{_-_, _≤_}
+use Prim.Native.Nat.{_-_}
+use borrow.Author.Needs.{needs}
 use Rattle.rules.proofs.keep_packages.Statement.{statement}
 use Rattle.rules.proofs.keep_packages.Tie as tie
 
 abbrev Inv-loop : tie.InvT-loop
-Inv-loop o e packages maps room set₀ i₀ set i = (i ≤ e .packages) × Removes (byFirst (keptBy o (listsAt (e .maps) maps room)) packages i) set₀ set
+Inv-loop o e packages maps room set₀ i₀ i-end set i = ByPackages goes (keptBy o (listsAt (e .maps) maps room)) (e .packages) packages set₀ set i
 
 abbrev μ-loop : tie.MeasureT-loop
-μ-loop o e packages maps room set₀ i₀ set i = e .packages - i
+μ-loop o e packages maps room set₀ i₀ i-end set i = e .packages - i
 
 loop-holds : tie.Need-loop-holds Inv-loop μ-loop
-loop-holds c =
-    let a = c .before .args in
-    (omega arith, keeps-begin (keptBy (a .o) (listsAt (a .e .maps) (a .maps .now) (a .room .now))) (a .packages .now) (a .set .now) (c .before .pre .2))
+loop-holds c = packages-begin removing _ _ _ _ (c .before .pre .2)
 
 mul-keep-package : tie.Need-mul-keep-package Inv-loop μ-loop
 mul-keep-package c = search needs
@@ -35,28 +33,10 @@ loop-less : tie.Need-loop-less Inv-loop μ-loop
 loop-less c = search needs
 
 loop-again : tie.Need-loop-again Inv-loop μ-loop
-loop-again c =
-    let b = c .before .before .before .before .before .before .before in
-    let a = b .args in
-    let l = c .before .before .before .before .before .loop in
-    (omega arith, keeps-next (keptBy (a .o) (listsAt (a .e .maps) (a .maps .now) (a .room .now))) (a .packages .now) (l .i) (omega (arith, b .pre .0 .few, b .pre .0 .slots-all)) (l .inv .1) (c .keep-package .ensures))
+loop-again c = packages-next (c .before .before .before .before .loop .inv) removing (omega arith) (c .before .before .before .before .before .before .pre .0) (c .keep-package .ensures)
 
 returns : tie.Need-returns Inv-loop μ-loop
-returns c =
-    let e : c .before .before .loop .i ≡ c .before .before .before .before .args .e .packages = omega arith in
-    rw (← e) (c .before .before .loop .inv .1)
+returns c = packages-end (c .before .loop .inv) (omega arith)
 
 pub keep-packages-spec : {M : Type 1} → statement M
-keep-packages-spec =
-    tie.close
-    (tie.spec
-    Inv-loop
-    μ-loop
-    loop-holds
-    mul-keep-package
-    element-copy-out-keep-package
-    keep-package-requires
-    add-i
-    loop-less
-    loop-again
-    returns)
+keep-packages-spec = tie.close (tie.spec Inv-loop μ-loop loop-holds mul-keep-package element-copy-out-keep-package keep-package-requires add-i loop-less loop-again returns)

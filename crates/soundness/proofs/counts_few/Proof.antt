@@ -58,16 +58,4 @@ returns-2 c =
     sym (l .inv .1 ∙ ap (all few) (rest-none (a .n) (l .i) (a .maps .now) (omega arith)))
 
 pub counts-few-spec : {M : Type 1} → statement M
-counts-few-spec =
-    tie.close
-    (tie.spec
-    Inv-loop
-    μ-loop
-    loop-holds
-    mul-if1
-    element-copy-out-if1
-    returns
-    add-i
-    loop-less
-    loop-again
-    returns-2)
+counts-few-spec = tie.close (tie.spec Inv-loop μ-loop loop-holds mul-if1 element-copy-out-if1 returns add-i loop-less loop-again returns-2)

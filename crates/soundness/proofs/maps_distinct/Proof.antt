@@ -29,10 +29,7 @@ seen-before-requires c κs = search needs
 
 returns : tie.Need-returns Inv-loop μ-loop
 returns c =
-    let a = c .before .before .before .before .before .before .before .args in
-    let l = c .before .before .before .before .before .before .loop in
-    let p = c .before .before .before .map-identifier in
-    sym (once-twice upper (a .n) (a .maps .now) (l .set) (l .i) (l .inv) (omega arith) (omega arith) (p .result) (p .ensures .0) (sym (c .before .seen-before .ensures .0) ∙ c .if1 .taken))
+    sym (once-twice (c .before .before .before .before .before .before .loop .inv) (omega arith) (omega arith) (c .before .before .before .map-identifier .ensures .0) (sym (c .before .seen-before .ensures .0) ∙ c .if1 .taken))
 
 add-i : tie.Need-add-i Inv-loop μ-loop
 add-i c = search needs
@@ -42,31 +39,12 @@ loop-less c = search needs
 
 loop-again : tie.Need-loop-again Inv-loop μ-loop
 loop-again c =
-    let a = c .before .before .before .before .before .before .before .args in
-    let l = c .before .before .before .before .before .before .loop in
-    let p = c .before .before .before .map-identifier in
-    let s = c .before .seen-before in
-    once-next upper (a .n) (a .maps .now) (l .set) (l .i) (l .inv) (omega arith) (omega arith) (p .result) (p .ensures .0) (p .ensures .1) (sym (s .ensures .0) ∙ c .if1 .left) (s .last .0) (s .ensures .1)
+    let p = c .before .before .before .map-identifier .ensures in
+    let s = c .before .seen-before .ensures in
+    once-next (c .before .before .before .before .before .before .loop .inv) (omega arith) (omega arith) (p .0) (p .1) (sym (s .0) ∙ c .if1 .left) (s .1)
 
 returns-2 : tie.Need-returns-2 Inv-loop μ-loop
-returns-2 c =
-    let a = c .before .before .args in
-    let l = c .before .loop in
-    sym (once-done upper (a .n) (a .maps .now) (l .set) (l .i) (l .inv) (omega arith))
+returns-2 c = sym (once-done (c .before .loop .inv) (omega arith))
 
 pub maps-distinct-spec : {M : Type 1} → statement M
-maps-distinct-spec =
-    tie.close
-    (tie.spec
-    Inv-loop
-    μ-loop
-    loop-holds
-    mul-map-identifier
-    element-copy-out-map-identifier
-    map-identifier-requires
-    seen-before-requires
-    returns
-    add-i
-    loop-less
-    loop-again
-    returns-2)
+maps-distinct-spec = tie.close (tie.spec Inv-loop μ-loop loop-holds mul-map-identifier element-copy-out-map-identifier map-identifier-requires seen-before-requires returns add-i loop-less loop-again returns-2)

@@ -1,10 +1,18 @@
 -- Each count in turn: at each return the sums before it fit, and this one does not.
-use mathlib.Core.Path.{sym, _∙_}
+use mathlib.Core.Bool.{Bool, true, false, not}
+use mathlib.Core.Path.{_≡_, sym, _∙_}
 use borrow.Author.Tests.{not-true, not-false}
 use borrow.Author.Needs.{needs}
 use Rattle.meaning.specs.Push.{fits64}
 use Rattle.tally.proofs.fits.Statement.{statement}
 use Rattle.tally.proofs.fits.Tie as tie
+
+-- what a test told of a sum
+holds : {a b : Bool} → a ≡ b → not a ≡ false → b ≡ true
+holds e h = sym e ∙ not-false _ h
+
+fails : {a b : Bool} → a ≡ b → not a ≡ true → b ≡ false
+fails e h = sym e ∙ not-true _ h
 
 sum-fits-requires : tie.Need-sum-fits-requires
 sum-fits-requires c κs = search needs
@@ -12,7 +20,7 @@ sum-fits-requires c κs = search needs
 returns : tie.Need-returns
 unfolding fits64
 returns c =
-    rw (sym (c .before .sum-fits .ensures) ∙ not-true _ (c .if1 .taken))
+    rw (fails (c .before .sum-fits .ensures) (c .if1 .taken))
 
 sum-fits-requires-2 : tie.Need-sum-fits-requires-2
 sum-fits-requires-2 c κs = search needs
@@ -21,10 +29,7 @@ returns-2 : tie.Need-returns-2
 unfolding fits64
 returns-2 c =
     let c1 = c .before .before in
-    rw (
-      sym (c1 .before .sum-fits .ensures) ∙ not-false _ (c1 .if1 .left),
-      sym (c .before .sum-fits2 .ensures) ∙ not-true _ (c .if2 .taken),
-    )
+    rw (holds (c1 .before .sum-fits .ensures) (c1 .if1 .left), fails (c .before .sum-fits2 .ensures) (c .if2 .taken))
 
 sum-fits-requires-3 : tie.Need-sum-fits-requires-3
 sum-fits-requires-3 c κs = search needs
@@ -34,11 +39,7 @@ unfolding fits64
 returns-3 c =
     let c2 = c .before .before in
     let c1 = c2 .before .before in
-    rw (
-      sym (c1 .before .sum-fits .ensures) ∙ not-false _ (c1 .if1 .left),
-      sym (c2 .before .sum-fits2 .ensures) ∙ not-false _ (c2 .if2 .left),
-      sym (c .before .sum-fits3 .ensures) ∙ not-true _ (c .if3 .taken),
-    )
+    rw (holds (c1 .before .sum-fits .ensures) (c1 .if1 .left), holds (c2 .before .sum-fits2 .ensures) (c2 .if2 .left), fails (c .before .sum-fits3 .ensures) (c .if3 .taken))
 
 sum-fits-requires-4 : tie.Need-sum-fits-requires-4
 sum-fits-requires-4 c κs = search needs
@@ -49,12 +50,7 @@ returns-4 c =
     let c3 = c .before .before in
     let c2 = c3 .before .before in
     let c1 = c2 .before .before in
-    rw (
-      sym (c1 .before .sum-fits .ensures) ∙ not-false _ (c1 .if1 .left),
-      sym (c2 .before .sum-fits2 .ensures) ∙ not-false _ (c2 .if2 .left),
-      sym (c3 .before .sum-fits3 .ensures) ∙ not-false _ (c3 .if3 .left),
-      sym (c .before .sum-fits4 .ensures) ∙ not-true _ (c .if4 .taken),
-    )
+    rw (holds (c1 .before .sum-fits .ensures) (c1 .if1 .left), holds (c2 .before .sum-fits2 .ensures) (c2 .if2 .left), holds (c3 .before .sum-fits3 .ensures) (c3 .if3 .left), fails (c .before .sum-fits4 .ensures) (c .if4 .taken))
 
 sum-fits-requires-5 : tie.Need-sum-fits-requires-5
 sum-fits-requires-5 c κs = search needs
@@ -66,13 +62,7 @@ returns-5 c =
     let c3 = c4 .before .before in
     let c2 = c3 .before .before in
     let c1 = c2 .before .before in
-    rw (
-      sym (c1 .before .sum-fits .ensures) ∙ not-false _ (c1 .if1 .left),
-      sym (c2 .before .sum-fits2 .ensures) ∙ not-false _ (c2 .if2 .left),
-      sym (c3 .before .sum-fits3 .ensures) ∙ not-false _ (c3 .if3 .left),
-      sym (c4 .before .sum-fits4 .ensures) ∙ not-false _ (c4 .if4 .left),
-      sym (c .before .sum-fits5 .ensures) ∙ not-true _ (c .if5 .taken),
-    )
+    rw (holds (c1 .before .sum-fits .ensures) (c1 .if1 .left), holds (c2 .before .sum-fits2 .ensures) (c2 .if2 .left), holds (c3 .before .sum-fits3 .ensures) (c3 .if3 .left), holds (c4 .before .sum-fits4 .ensures) (c4 .if4 .left), fails (c .before .sum-fits5 .ensures) (c .if5 .taken))
 
 sum-fits-requires-6 : tie.Need-sum-fits-requires-6
 sum-fits-requires-6 c κs = search needs
@@ -85,27 +75,7 @@ returns-6 c =
     let c3 = c4 .before .before in
     let c2 = c3 .before .before in
     let c1 = c2 .before .before in
-    rw (
-      sym (c1 .before .sum-fits .ensures) ∙ not-false _ (c1 .if1 .left),
-      sym (c2 .before .sum-fits2 .ensures) ∙ not-false _ (c2 .if2 .left),
-      sym (c3 .before .sum-fits3 .ensures) ∙ not-false _ (c3 .if3 .left),
-      sym (c4 .before .sum-fits4 .ensures) ∙ not-false _ (c4 .if4 .left),
-      sym (c5 .before .sum-fits5 .ensures) ∙ not-false _ (c5 .if5 .left),
-    ) (c .sum-fits6 .ensures)
+    rw (holds (c1 .before .sum-fits .ensures) (c1 .if1 .left), holds (c2 .before .sum-fits2 .ensures) (c2 .if2 .left), holds (c3 .before .sum-fits3 .ensures) (c3 .if3 .left), holds (c4 .before .sum-fits4 .ensures) (c4 .if4 .left), holds (c5 .before .sum-fits5 .ensures) (c5 .if5 .left)) (c .sum-fits6 .ensures)
 
 pub fits-spec : {M : Type 1} → statement M
-fits-spec =
-    tie.close
-    (tie.spec
-    sum-fits-requires
-    returns
-    sum-fits-requires-2
-    returns-2
-    sum-fits-requires-3
-    returns-3
-    sum-fits-requires-4
-    returns-4
-    sum-fits-requires-5
-    returns-5
-    sum-fits-requires-6
-    returns-6)
+fits-spec = tie.close (tie.spec sum-fits-requires returns sum-fits-requires-2 returns-2 sum-fits-requires-3 returns-3 sum-fits-requires-4 returns-4 sum-fits-requires-5 returns-5 sum-fits-requires-6 returns-6)

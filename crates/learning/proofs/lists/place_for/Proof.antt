@@ -7,8 +7,6 @@ use mathlib.Core.Path.{_≡_, sym}
 use Prim.Native.Nat.{_-_, _≤_}
 use Rattle.learning.proofs.lists.place_for.Statement.{statement}
 use Rattle.learning.proofs.lists.place_for.Tie as tie
-use Rattle.learning.proofs.lists.place_for.Reads as reads
-use Rattle.learning.proofs.lists.place_for.Lts as lts
 
 abbrev Inv-loop : tie.InvT-loop
 Inv-loop maps n id p i₀ i = (i ≤ n) × (placeFor id (pairsIn i maps) ≡ i)
@@ -51,16 +49,4 @@ returns-2 c =
     (rw (← e) (sym (c .before .loop .inv .1)), omega arith)
 
 pub place-for-spec : {M : Type 1} → statement M
-place-for-spec =
-    tie.close
-    (tie.spec
-    Inv-loop
-    μ-loop
-    loop-holds
-    mul-if1
-    element-copy-out-if1
-    returns
-    add-i
-    loop-less
-    loop-again
-    returns-2)
+place-for-spec = tie.close (tie.spec Inv-loop μ-loop loop-holds mul-if1 element-copy-out-if1 returns add-i loop-less loop-again returns-2)

@@ -63,21 +63,4 @@ returns-3 c =
     all-read (c .before .before .before .before .before .before .args .b .now) (l .left) (l .from) (l .n) (l .fresh) (l .inv) (omega arith)
 
 pub packages-of-spec : {M : Type 1} → statement M
-packages-of-spec =
-    tie.close
-    (tie.spec
-    Inv-loop
-    μ-loop
-    returns
-    shared-slice-read-wide
-    wide-requires
-    loop-holds
-    package-at-requires
-    enum-known-end
-    enum-told
-    returns-2
-    sub-left
-    take-package-requires
-    loop-less
-    loop-again
-    returns-3)
+packages-of-spec = tie.close (tie.spec Inv-loop μ-loop returns shared-slice-read-wide wide-requires loop-holds package-at-requires enum-known-end enum-told returns-2 sub-left take-package-requires loop-less loop-again returns-3)

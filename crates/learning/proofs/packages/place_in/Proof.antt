@@ -45,16 +45,4 @@ returns-2 c =
     passed-all (b .args .service) (b .args .n) (b .args .fresh .now) (omega arith) (l .i) (l .inv) (omega arith)
 
 pub place-in-spec : {M : Type 1} → statement M
-place-in-spec =
-    tie.close
-    (tie.spec
-    Inv-loop
-    μ-loop
-    loop-holds
-    mul-if1
-    element-copy-out-if1
-    returns
-    add-i
-    loop-less
-    loop-again
-    returns-2)
+place-in-spec = tie.close (tie.spec Inv-loop μ-loop loop-holds mul-if1 element-copy-out-if1 returns add-i loop-less loop-again returns-2)

@@ -62,20 +62,4 @@ returns-2 c =
     all-counted (a .b .now) (a .at) (a .count) (a .o) (a .counts) (l .t) (l .from) (l .left) (l .inv) (omega arith)
 
 pub count-entries-spec : {M : Type 1} → statement M
-count-entries-spec =
-    tie.close
-    (tie.spec
-    Inv-loop
-    μ-loop
-    loop-holds
-    asset-at-requires
-    enum-known-end
-    enum-told
-    returns
-    sub-left
-    row-of-requires
-    kind-of-requires
-    bump-requires
-    loop-less
-    loop-again
-    returns-2)
+count-entries-spec = tie.close (tie.spec Inv-loop μ-loop loop-holds asset-at-requires enum-known-end enum-told returns sub-left row-of-requires kind-of-requires bump-requires loop-less loop-again returns-2)

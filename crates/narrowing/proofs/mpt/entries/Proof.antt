@@ -83,23 +83,4 @@ returns-2 c =
     walk-end (a .o) (a .b .now) (a .at) (a .count) (l .from) (l .left) (l .kept) (l .size) (l .inv) (omega arith)
 
 pub entries-spec : {M : Type 1} → statement M
-entries-spec =
-    tie.close
-    (tie.spec
-    Inv-loop
-    μ-loop
-    loop-holds
-    asset-at-requires
-    enum-known-end
-    enum-told
-    returns
-    sub-left
-    wanted-requires
-    add-kept
-    sub-size
-    add-size
-    loop-less
-    loop-again
-    loop-less-2
-    loop-again-2
-    returns-2)
+entries-spec = tie.close (tie.spec Inv-loop μ-loop loop-holds asset-at-requires enum-known-end enum-told returns sub-left wanted-requires add-kept sub-size add-size loop-less loop-again loop-less-2 loop-again-2 returns-2)

@@ -123,35 +123,4 @@ returns-2 c =
     heads-done (a .o) (a .pid) (a .s .now) (a .tables) (a .out .now) (a .to) (l .out) (l .at) (l .entry) (l .put) (l .inv) (omega arith)
 
 pub heads-to-spec : {M : Type 1} → statement M
-heads-to-spec =
-    tie.close
-    (tie.spec
-    Inv-loop
-    μ-loop
-    loop-holds
-    table-at-requires
-    enum-known-end
-    sub-copy
-    part-copy-start
-    part-copy-end
-    copy-requires
-    same-length
-    returns
-    add-b
-    sub-b
-    part-b-start
-    part-b-end
-    shared-slice-read-change-of
-    change-of-requires
-    length-after-requires
-    add-copy
-    sub-copy-2
-    part-copy-start-2
-    part-copy-end-2
-    copy-requires-2
-    put16-requires
-    add-entry
-    loop-less
-    loop-again
-    same-length-2
-    returns-2)
+heads-to-spec = tie.close (tie.spec Inv-loop μ-loop loop-holds table-at-requires enum-known-end sub-copy part-copy-start part-copy-end copy-requires same-length returns add-b sub-b part-b-start part-b-end shared-slice-read-change-of change-of-requires length-after-requires add-copy sub-copy-2 part-copy-start-2 part-copy-end-2 copy-requires-2 put16-requires add-entry loop-less loop-again same-length-2 returns-2)

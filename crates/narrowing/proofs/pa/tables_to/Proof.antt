@@ -79,23 +79,4 @@ loop-again c =
     tables-next (a .o) (a .pid) (a .s .now) (a .tables) (a .out .now) (a .to) (l .out) (l .at) (l .put) (l .inv) _ k _ _ (c .before .before .table-to .ensures) (c .before .before .table-to .kept .1 .1 .1 .0)
 
 pub tables-to-spec : {M : Type 1} → statement M
-tables-to-spec =
-    tie.close
-    (tie.spec
-    Inv-loop
-    μ-loop
-    loop-holds
-    table-at-requires
-    enum-known-end
-    sub-copy
-    part-copy-start
-    part-copy-end
-    copy-requires
-    same-length
-    returns
-    sub-table-to
-    part-table-to-start
-    part-table-to-end
-    table-to-requires
-    loop-less
-    loop-again)
+tables-to-spec = tie.close (tie.spec Inv-loop μ-loop loop-holds table-at-requires enum-known-end sub-copy part-copy-start part-copy-end copy-requires same-length returns sub-table-to part-table-to-start part-table-to-end table-to-requires loop-less loop-again)

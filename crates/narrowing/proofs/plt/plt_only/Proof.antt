@@ -81,24 +81,4 @@ returns-4 c =
     one-of (a .service) (a .b .now) (l .left) (l .from) (l .start) (l .end) (l .inv) (omega arith) (c .if3 .left)
 
 pub plt-only-spec : {M : Type 1} → statement M
-plt-only-spec =
-    tie.close
-    (tie.spec
-    Inv-loop
-    μ-loop
-    returns
-    shared-slice-read-wide
-    wide-requires
-    loop-holds
-    package-at-requires
-    enum-known-e
-    enum-told
-    returns-2
-    sub-left
-    is-service-requires
-    loop-less
-    loop-again
-    loop-less-2
-    loop-again-2
-    returns-3
-    returns-4)
+plt-only-spec = tie.close (tie.spec Inv-loop μ-loop returns shared-slice-read-wide wide-requires loop-holds package-at-requires enum-known-e enum-told returns-2 sub-left is-service-requires loop-less loop-again loop-less-2 loop-again-2 returns-3 returns-4)

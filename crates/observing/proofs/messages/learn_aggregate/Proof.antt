@@ -68,20 +68,4 @@ loop-again c =
     parts-next (a .s .now) (a .long) (a .id) (a .known) (a .carousels .now) (a .packages .now) (a .maps .now) (a .room .now) (l .e) (l .at) (l .carousels) (l .packages) (l .maps) (l .room) (l .inv) _ _ x _ _ _ _ _ (y .kept .1 .1 .1 .1 .1 .1 .0) (y .ensures .0) (y .ensures .1)
 
 pub learn-aggregate-spec : {M : Type 1} → statement M
-learn-aggregate-spec =
-    tie.close
-    (tie.spec
-    Inv-loop
-    μ-loop
-    loop-holds
-    frame-at-requires
-    enum-known-start
-    enum-told
-    same-length
-    returns
-    sub-learn-message
-    part-learn-message-start
-    part-learn-message-end
-    learn-message-requires
-    loop-less
-    loop-again)
+learn-aggregate-spec = tie.close (tie.spec Inv-loop μ-loop loop-holds frame-at-requires enum-known-start enum-told same-length returns sub-learn-message part-learn-message-start part-learn-message-end learn-message-requires loop-less loop-again)

@@ -26,7 +26,7 @@ learn-requires c κs =
     let w = c .before .before .before .before .with-count .ensures in
     let k = pre .1 .1 in (
       omega (arith, pre .0, ap (λ z. z .lost) w),
-      (withFragments (without (a .id) (k .fragments)) k, rw w (keeps-with k _ (a .e) _ _ _ _ _ (pre .1 .2 .tables-kept))),
+      (withFragments (without (a .p .id) (k .fragments)) k, rw w (keeps-with k _ (a .e) _ _ _ _ _ (pre .1 .2 .tables-kept))),
     )
 
 same-length : tie.Need-same-length
@@ -42,18 +42,10 @@ returns c =
     let y = rw w at (c .before .before .learn .ensures) in
     let d = c .before .before .before .before .before .before .before .before .before .before .drop-fragment .ensures in (
       (λ L k most h.
-          messages-observed (L .total) (a .id) _ k (without (a .id) (k .fragments)) (a .e) _ _ _ _ _ _ _ _
-          (y .0 (withFragments (without (a .id) (k .fragments)) k) (keeps-with k _ (a .e) _ _ _ _ _ (h .tables-kept))) (d (L .total) (k .fragments) (h .fragments-kept))),
+          messages-observed (L .total) (a .p .id) _ k (without (a .p .id) (k .fragments)) (a .e) _ _ _ _ _ _ _ _
+          (y .0 (withFragments (without (a .p .id) (k .fragments)) k) (keeps-with k _ (a .e) _ _ _ _ _ (h .tables-kept))) (d (L .total) (k .fragments) (h .fragments-kept))),
       y .1,
     )
 
 pub whole-spec : {M : Type 1} → statement M
-whole-spec =
-    tie.close
-    (tie.spec
-    drop-fragment-requires
-    with-count-requires
-    learn-requires
-    same-length
-    same-length-2
-    returns)
+whole-spec = tie.close (tie.spec drop-fragment-requires with-count-requires learn-requires same-length same-length-2 returns)

@@ -1,11 +1,10 @@
-use Prim.Native.Nat.{ℕ}
 use mathlib.Core.Path.{refl, sym, _∙_}
 use borrow.Author.Tests.{not-true, not-false}
 use Rattle.meaning.specs.Record.{stateOf}
-use Rattle.recorder.specs.Filter.{recordIn}
-use Rattle.recorder.proofs.StateLaws.{Whole, state-held}
-use Rattle.recorder.proofs.PushLaws.{extentOf, not-counted, counted-as}
-use borrow.Author.Needs.{needs, length-unmapped}
+use Rattle.recorder.specs.Filter.{recordIn, extentOf}
+use Rattle.recorder.proofs.StateLaws.{state-held}
+use Rattle.recorder.proofs.PushLaws.{whole-record, not-counted, counted-as}
+use borrow.Author.Needs.{needs}
 use Rattle.recorder.proofs.Filter.dropped.Statement.{statement}
 use Rattle.recorder.proofs.Filter.dropped.Tie as tie
 
@@ -27,46 +26,31 @@ slice-aggregate-clear32-2 c = search needs
 clear32-requires-2 : tie.Need-clear32-requires-2
 clear32-requires-2 c κs = search needs
 
+extent-of-requires : tie.Need-extent-of-requires
+extent-of-requires c κs = search needs
+
 dropped-requires : tie.Need-dropped-requires
 unfolding recordIn
 dropped-requires c κs =
-    let z = c .before .before .before .before .before .before .before .before .before .before .before .before .before .before .before .before .before .before in
+    let z = c .before .before .before .before .before .before .before .before .before .before .before .before .before .before .before .before .before .before .before in
     let a = z .args in
-    let s = sym (c .before .before .before .before .before .before .before .before .before .before .before .before .before .before .is-sound .ensures) ∙ not-false _ (c .before .before .before .before .before .before .before .before .before .before .before .before .before .if1 .left) in
-    let all : Whole (recordIn (a .self)) = record {
-      carousels-all = length-unmapped ℕ (z .args .self .carousels) 1024 (z .good .0 .1 .1 .1 .1 .1 .1 .1 .1 .1 .1 .1 .0 .1 .0 .1);
-      packages-all = length-unmapped ℕ (z .args .self .packages) 255 (z .good .0 .1 .1 .1 .1 .1 .1 .1 .1 .1 .1 .1 .1 .0 .1 .0 .1);
-      maps-all = length-unmapped ℕ (z .args .self .maps) 64 (z .good .0 .1 .1 .1 .1 .1 .1 .1 .1 .1 .1 .1 .1 .1 .0 .1 .0 .1);
-      fragments-all = length-unmapped ℕ (z .args .self .fragments) 256 (z .good .0 .1 .1 .1 .1 .1 .1 .1 .1 .1 .1 .1 .1 .1 .1 .0 .1 .0 .1);
-    } in
+    let s = sym (c .before .before .before .before .before .before .before .before .before .before .before .before .before .before .before .is-sound .ensures) ∙ not-false _ (c .before .before .before .before .before .before .before .before .before .before .before .before .before .before .if1 .left) in
+    let g = z .good .0 .1 .1 .1 .1 .1 .1 .1 .1 .1 .1 .1 in
+    let all = whole-record (a .self) (g .0 .1 .0 .1) (g .1 .0 .1 .0 .1) (g .1 .1 .0 .1 .0 .1) (g .1 .1 .1 .0 .1 .0 .1) in
     let h = state-held (recordIn (a .self)) (a .work .now) (a .bodies .now) (a .room .now) (extentOf (a .self)) s all (record { seen-is = refl; packages-are = refl; maps-are = refl; fragments-are = refl }) .tables-kept in
-    (stateOf (recordIn (a .self)) (a .work .now) (a .bodies .now) (a .room .now) .known, rw (c .before .before .before .before .before .before .before .clear32 .ensures, c .before .before .before .before .clear322 .ensures) h)
+    (stateOf (recordIn (a .self)) (a .work .now) (a .bodies .now) (a .room .now) .known, rw (c .before .before .before .before .before .before .before .before .clear32 .ensures, c .before .before .before .before .before .clear322 .ensures, c .before .before .before .extent-of .ensures) h)
 
 returns-2 : tie.Need-returns-2
 unfolding recordIn
 returns-2 c =
-    let z = c .before .before .before .before .before .before .before .before .before .before .before .before .before .before .before .before .before .before .before in
+    let z = c .before .before .before .before .before .before .before .before .before .before .before .before .before .before .before .before .before .before .before .before in
     let a = z .args in
-    let s = sym (c .before .before .before .before .before .before .before .before .before .before .before .before .before .before .before .is-sound .ensures) ∙ not-false _ (c .before .before .before .before .before .before .before .before .before .before .before .before .before .before .if1 .left) in
-    let all : Whole (recordIn (a .self)) = record {
-      carousels-all = length-unmapped ℕ (z .args .self .carousels) 1024 (z .good .0 .1 .1 .1 .1 .1 .1 .1 .1 .1 .1 .1 .0 .1 .0 .1);
-      packages-all = length-unmapped ℕ (z .args .self .packages) 255 (z .good .0 .1 .1 .1 .1 .1 .1 .1 .1 .1 .1 .1 .1 .0 .1 .0 .1);
-      maps-all = length-unmapped ℕ (z .args .self .maps) 64 (z .good .0 .1 .1 .1 .1 .1 .1 .1 .1 .1 .1 .1 .1 .1 .0 .1 .0 .1);
-      fragments-all = length-unmapped ℕ (z .args .self .fragments) 256 (z .good .0 .1 .1 .1 .1 .1 .1 .1 .1 .1 .1 .1 .1 .1 .1 .0 .1 .0 .1);
-    } in
+    let s = sym (c .before .before .before .before .before .before .before .before .before .before .before .before .before .before .before .before .is-sound .ensures) ∙ not-false _ (c .before .before .before .before .before .before .before .before .before .before .before .before .before .before .before .if1 .left) in
+    let g = z .good .0 .1 .1 .1 .1 .1 .1 .1 .1 .1 .1 .1 in
+    let all = whole-record (a .self) (g .0 .1 .0 .1) (g .1 .0 .1 .0 .1) (g .1 .1 .0 .1 .0 .1) (g .1 .1 .1 .0 .1 .0 .1) in
     let h = state-held (recordIn (a .self)) (a .work .now) (a .bodies .now) (a .room .now) (extentOf (a .self)) s all (record { seen-is = refl; packages-are = refl; maps-are = refl; fragments-are = refl }) .tables-kept in
     counted-as (recordIn (a .self)) (a .work .now) (a .bodies .now) (a .room .now) _ s
-    (c .dropped .ensures (stateOf (recordIn (a .self)) (a .work .now) (a .bodies .now) (a .room .now) .known) (rw (c .before .before .before .before .before .before .before .before .clear32 .ensures, c .before .before .before .before .before .clear322 .ensures) h))
+    (c .dropped .ensures (stateOf (recordIn (a .self)) (a .work .now) (a .bodies .now) (a .room .now) .known) (rw (c .before .before .before .before .before .before .before .before .before .clear32 .ensures, c .before .before .before .before .before .before .clear322 .ensures, c .before .before .before .before .extent-of .ensures) h))
 
 pub dropped-spec : {M : Type 1} → statement M
-dropped-spec =
-    tie.close
-    (tie.spec
-    is-sound-requires
-    returns
-    slice-aggregate-clear32
-    clear32-requires
-    slice-aggregate-clear32-2
-    clear32-requires-2
-    dropped-requires
-    returns-2)
+dropped-spec = tie.close (tie.spec is-sound-requires returns slice-aggregate-clear32 clear32-requires slice-aggregate-clear32-2 clear32-requires-2 extent-of-requires dropped-requires returns-2)

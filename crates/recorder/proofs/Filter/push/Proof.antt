@@ -1,26 +1,55 @@
-use Prim.Native.Nat.{ℕ}
+use Rattle.recorder.proofs.PushLaws.{whole-record, may-run, refused-as, done-as}
 use Rattle.recorder.specs.Filter.{recordIn}
-use Rattle.recorder.proofs.StateLaws.{Whole}
-use Rattle.recorder.proofs.PushLaws.{answerable, pushed-as}
-use borrow.Author.Needs.{needs, length-unmapped}
+use borrow.Author.Tests.{not-true, not-false}
+use mathlib.Core.Path.{sym, _∙_}
+use borrow.Author.Needs.{needs}
 use Rattle.recorder.proofs.Filter.push.Statement.{statement}
 use Rattle.recorder.proofs.Filter.push.Tie as tie
 
-call-answer-requires : tie.Need-call-answer-requires
-call-answer-requires c κs = search needs
+begun-requires : tie.Need-begun-requires
+begun-requires c κs = search needs
 
-answered-requires : tie.Need-answered-requires
+lengths-requires : tie.Need-lengths-requires
+lengths-requires c κs = search needs
+
+call-answer-requires : tie.Need-call-answer-requires
 unfolding recordIn
-answered-requires c κs =
-    let z = c .before .before .before .before .before .before .before .before .before .before .before .before .before .before .before .before .before .before .before .before .before .before in
+call-answer-requires c κs =
+    let z = c .before .before .before .before .before .before .before .before .before .before .before .before .before in
+    let g = z .good .0 .1 .1 .1 .1 .1 .1 .1 .1 .1 .1 .1 in
+    let all = whole-record (z .args .self) (g .0 .1 .0 .1) (g .1 .0 .1 .0 .1) (g .1 .1 .0 .1 .0 .1) (g .1 .1 .1 .0 .1 .0 .1) in
+    (all .packages-all, all .maps-all, all .fragments-all)
+
+is-done-requires : tie.Need-is-done-requires
+is-done-requires c κs = search needs
+
+not-pushed-requires : tie.Need-not-pushed-requires
+not-pushed-requires c κs = search needs
+
+returns : tie.Need-returns
+returns c =
+    let a = c .before .before .before .before .before .before .before .before .before .before .before .before .before .before .before .before .before .args in
+    let told = rw (c .before .before .before .before .before .before .before .before .before .before .before .begun .ensures, c .before .before .before .before .before .before .before .before .before .before .lengths .ensures) at (c .before .before .before .call-answer .ensures) in
+    rw (c .not-pushed .ensures)
+    (refused-as (a .self) (a .work .now) (a .bodies .now) (a .room .now) (a .chunk .now) (a .out .now) (c .before .before .before .call-answer .result) told (sym (c .before .before .is-done .ensures) ∙ not-true _ (c .before .if1 .taken)))
+
+clear-unused-requires : tie.Need-clear-unused-requires
+clear-unused-requires c κs = search needs
+
+run-call-requires : tie.Need-run-call-requires
+run-call-requires c κs =
+    let z = c .before .before .before .before .before .before .before .before .before .before .before .before .before .before .before .before .before .before .before .before .before .before .before .before .before .before .before .before .before .before in
     let a = z .args in
-    let all : Whole (recordIn (a .self)) = record {
-      carousels-all = length-unmapped ℕ (z .args .self .carousels) 1024 (z .good .0 .1 .1 .1 .1 .1 .1 .1 .1 .1 .1 .1 .0 .1 .0 .1);
-      packages-all = length-unmapped ℕ (z .args .self .packages) 255 (z .good .0 .1 .1 .1 .1 .1 .1 .1 .1 .1 .1 .1 .1 .0 .1 .0 .1);
-      maps-all = length-unmapped ℕ (z .args .self .maps) 64 (z .good .0 .1 .1 .1 .1 .1 .1 .1 .1 .1 .1 .1 .1 .1 .0 .1 .0 .1);
-      fragments-all = length-unmapped ℕ (z .args .self .fragments) 256 (z .good .0 .1 .1 .1 .1 .1 .1 .1 .1 .1 .1 .1 .1 .1 .1 .0 .1 .0 .1);
-    } in
-    answerable (a .self) (a .work .now) (a .bodies .now) (a .room .now) (a .chunk .now) (a .out .now) (c .before .before .before .before .before .before .before .before .call-answer .result) all (c .before .before .before .before .before .before .before .before .call-answer .ensures)
+    let g = z .good .0 .1 .1 .1 .1 .1 .1 .1 .1 .1 .1 .1 in
+    let all = whole-record (a .self) (g .0 .1 .0 .1) (g .1 .0 .1 .0 .1) (g .1 .1 .0 .1 .0 .1) (g .1 .1 .1 .0 .1 .0 .1) in
+    let b = c .before .before .before .before .before .before .before .before .before .before .before .before .before .before .before .before .before .before .before .before .before .before .before .before .begun .ensures in
+    let u = c .before .before .before .before .before .before .before .before .before .clear-unused .ensures in
+    rw (u .0, u .1, u .2, b)
+    (may-run (a .self) (a .work .now) (a .bodies .now) (a .room .now) (a .chunk .now) (a .out .now) (c .before .before .before .before .before .before .before .before .before .before .before .before .before .before .before .before .call-answer .result) (rw (b, c .before .before .before .before .before .before .before .before .before .before .before .before .before .before .before .before .before .before .before .before .before .before .before .lengths .ensures) at (c .before .before .before .before .before .before .before .before .before .before .before .before .before .before .before .before .call-answer .ensures)) all
+    (sym (c .before .before .before .before .before .before .before .before .before .before .before .before .before .before .before .is-done .ensures) ∙ not-false _ (c .before .before .before .before .before .before .before .before .before .before .before .before .before .before .if1 .left)))
+
+handed-requires : tie.Need-handed-requires
+handed-requires c κs = search needs
 
 same-length : tie.Need-same-length
 same-length c = search needs
@@ -34,19 +63,17 @@ same-length-3 c = search needs
 same-length-4 : tie.Need-same-length-4
 same-length-4 c = search needs
 
-returns : tie.Need-returns
-unfolding recordIn
-returns c =
-    let z = c .before .before .before .before .before .before .before .before .before .before .before .before .before .before .before .before .before .before .before .before .before .before .before .before .before .before .before .before .before .before .before .before .before in
+returns-2 : tie.Need-returns-2
+returns-2 c =
+    let z = c .before .before .before .before .before .before .before .before .before .before .before .before .before .before .before .before .before .before .before .before .before .before .before .before .before .before .before .before .before .before .before .before .before .before .before .before .before .before .before .before .before in
     let a = z .args in
-    let all : Whole (recordIn (a .self)) = record {
-      carousels-all = length-unmapped ℕ (z .args .self .carousels) 1024 (z .good .0 .1 .1 .1 .1 .1 .1 .1 .1 .1 .1 .1 .0 .1 .0 .1);
-      packages-all = length-unmapped ℕ (z .args .self .packages) 255 (z .good .0 .1 .1 .1 .1 .1 .1 .1 .1 .1 .1 .1 .1 .0 .1 .0 .1);
-      maps-all = length-unmapped ℕ (z .args .self .maps) 64 (z .good .0 .1 .1 .1 .1 .1 .1 .1 .1 .1 .1 .1 .1 .1 .0 .1 .0 .1);
-      fragments-all = length-unmapped ℕ (z .args .self .fragments) 256 (z .good .0 .1 .1 .1 .1 .1 .1 .1 .1 .1 .1 .1 .1 .1 .1 .0 .1 .0 .1);
-    } in
-    pushed-as (a .self) (a .work .now) (a .bodies .now) (a .room .now) (a .chunk .now) (a .out .now) (c .before .before .before .before .before .before .before .before .before .before .before .before .before .before .before .before .before .before .before .call-answer .result) all (c .before .before .before .before .before .before .before .before .before .before .before .before .before .before .before .before .before .before .before .call-answer .ensures)
-    (c .before .before .before .before .before .before .before .before .before .before .answered .result) _ _ _ _ _ _ _ _ (c .before .before .before .before .before .before .before .before .before .before .answered .ensures)
+    let g = z .good .0 .1 .1 .1 .1 .1 .1 .1 .1 .1 .1 .1 in
+    let all = whole-record (a .self) (g .0 .1 .0 .1) (g .1 .0 .1 .0 .1) (g .1 .1 .0 .1 .0 .1) (g .1 .1 .1 .0 .1 .0 .1) in
+    let b = c .before .before .before .before .before .before .before .before .before .before .before .before .before .before .before .before .before .before .before .before .before .before .before .before .before .before .before .before .before .before .before .before .before .before .before .begun .ensures in
+    let u = c .before .before .before .before .before .before .before .before .before .before .before .before .before .before .before .before .before .before .before .before .clear-unused .ensures in
+    rw (c .handed .ensures, b)
+    (done-as (a .self) (a .work .now) (a .bodies .now) (a .room .now) (a .chunk .now) (a .out .now) (c .before .before .before .before .before .before .before .before .before .before .before .before .before .before .before .before .before .before .before .before .before .before .before .before .before .before .before .call-answer .result) (rw (b, c .before .before .before .before .before .before .before .before .before .before .before .before .before .before .before .before .before .before .before .before .before .before .before .before .before .before .before .before .before .before .before .before .before .before .lengths .ensures) at (c .before .before .before .before .before .before .before .before .before .before .before .before .before .before .before .before .before .before .before .before .before .before .before .before .before .before .before .call-answer .ensures)) all
+    (sym (c .before .before .before .before .before .before .before .before .before .before .before .before .before .before .before .before .before .before .before .before .before .before .before .before .before .before .is-done .ensures) ∙ not-false _ (c .before .before .before .before .before .before .before .before .before .before .before .before .before .before .before .before .before .before .before .before .before .before .before .before .before .if1 .left)) (c .before .before .before .before .before .before .before .before .before .before .run-call .result) _ _ _ _ _ _ _ _ (rw (u .0, u .1, u .2, b) at (c .before .before .before .before .before .before .before .before .before .before .run-call .ensures)))
 
 pub push-spec : {M : Type 1} → statement M
-push-spec = tie.close (tie.spec call-answer-requires answered-requires same-length same-length-2 same-length-3 same-length-4 returns)
+push-spec = tie.close (tie.spec begun-requires lengths-requires call-answer-requires is-done-requires not-pushed-requires returns clear-unused-requires run-call-requires handed-requires same-length same-length-2 same-length-3 same-length-4 returns-2)

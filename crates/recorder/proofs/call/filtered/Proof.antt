@@ -16,8 +16,8 @@ ready-requires c κs = search needs
 copy-requires : tie.Need-copy-requires
 copy-requires c κs = search needs
 
-counts-of-requires : tie.Need-counts-of-requires
-counts-of-requires c κs = search needs
+begins-requires : tie.Need-begins-requires
+begins-requires c κs = search needs
 
 sub-packets : tie.Need-sub-packets
 sub-packets c = search needs
@@ -26,7 +26,7 @@ part-packets-start : tie.Need-part-packets-start
 part-packets-start c = search needs
 
 part-packets-end : tie.Need-part-packets-end
-part-packets-end c = search needs
+part-packets-end c = omega (arith, c .before .before .before .before .copy .ensures .end, c .before .before .before .before .copy .kept .1 .0, c .before .before .before .before .before .before .before .before .before .before .before .before .before .before .before .before .before .before .before .before .before .pre .0 .work-room)
 
 packets-requires : tie.Need-packets-requires
 packets-requires c κs =
@@ -35,8 +35,8 @@ packets-requires c κs =
     let copied = c .before .before .before .before .before .before .before .before .before .before .before .before .before .copy in
     let len = run-length (a .held) (a .chunk .now) (a .work .now) _ (copied .result) (copied .ensures) (z .pre .0 .work-room) (copied .kept .1 .0) in (
       omega arith,
-      call-fits (a .t) _ _ _ _ _ _ _ (a .heads .now) (a .bodies .now) _ (a .out .now) (c .before .before .before .before .before .before .before .before .before .before .counts-of .ensures) (c .before .before .before .before .before .before .before .before .before .before .before .before .before .before .before .before .before .before .before .before .before .before .before .before .before .before .before .before .before .before .pre .0 .none-lost) (c .before .before .before .before .before .before .before .before .before .before .before .before .before .before .before .before .before .before .decide .ensures) (c .before .before .before .before .before .before .before .before .before .before .before .before .before .before .before .ready .ensures) _ (a .held + length (a .chunk .now)) (omega (arith, len)) (omega (arith, z .pre .0 .work-room, z .pre .0 .work-few)) (z .pre .0 .out-room),
-      some-begins (a .t) _ _ _ _ _ _ _ _ _ _ _ (c .before .before .before .before .before .before .before .before .before .before .counts-of .ensures) (c .before .before .before .before .before .before .before .before .before .before .before .before .before .before .before .before .before .before .before .before .before .before .before .before .before .before .before .before .before .before .pre .0 .none-lost) (c .before .before .before .before .before .before .before .before .before .before .before .before .before .before .before .before .before .before .decide .ensures) (c .before .before .before .before .before .before .before .before .before .before .before .before .before .before .before .ready .ensures) (z .pre .2),
+      call-fits (a .t) _ _ _ _ _ _ _ (a .heads .now) (a .bodies .now) _ (a .out .now) (c .before .before .before .before .before .before .before .before .before .before .begins .ensures) (c .before .before .before .before .before .before .before .before .before .before .before .before .before .before .before .before .before .before .before .before .before .before .before .before .before .before .before .before .before .before .pre .0 .none-lost) (c .before .before .before .before .before .before .before .before .before .before .before .before .before .before .before .before .before .before .decide .ensures) (c .before .before .before .before .before .before .before .before .before .before .before .before .before .before .before .ready .ensures) _ (a .held + length (a .chunk .now)) (omega (arith, len)) (omega (arith, z .pre .0 .work-room, z .pre .0 .work-few)) (z .pre .0 .out-room),
+      some-begins (a .t) _ _ _ _ _ _ _ _ _ _ _ (c .before .before .before .before .before .before .before .before .before .before .begins .ensures) (c .before .before .before .before .before .before .before .before .before .before .before .before .before .before .before .before .before .before .before .before .before .before .before .before .before .before .before .before .before .before .pre .0 .none-lost) (c .before .before .before .before .before .before .before .before .before .before .before .before .before .before .before .before .before .before .decide .ensures) (c .before .before .before .before .before .before .before .before .before .before .before .before .before .before .before .ready .ensures) (z .pre .2),
     )
 
 sub-move-down : tie.Need-sub-move-down
@@ -74,9 +74,9 @@ returns c L k em ew h =
     let a = z .args in
     let copied = c .before .before .before .before .before .before .before .before .before .before .before .before .before .before .before .before .before .before .before .before .before .before .before .before .before .copy in
     let passed = c .before .before .before .before .before .before .before .before .before .before .before .packets in
-    let start = call-begins (a .t) _ _ _ _ _ _ _ _ _ _ _ (c .before .before .before .before .before .before .before .before .before .before .before .before .before .before .before .before .before .before .before .before .before .before .counts-of .ensures) (c .before .before .before .before .before .before .before .before .before .before .before .before .before .before .before .before .before .before .before .before .before .before .before .before .before .before .before .before .before .before .before .before .before .before .before .before .before .before .before .before .before .before .pre .0 .none-lost) (c .before .before .before .before .before .before .before .before .before .before .before .before .before .before .before .before .before .before .before .before .before .before .before .before .before .before .before .before .before .before .decide .ensures) (c .before .before .before .before .before .before .before .before .before .before .before .before .before .before .before .before .before .before .before .before .before .before .before .before .before .before .before .ready .ensures) L k h in
+    let start = call-begins (a .t) _ _ _ _ _ _ _ _ _ _ _ (c .before .before .before .before .before .before .before .before .before .before .before .before .before .before .before .before .before .before .before .before .before .before .begins .ensures) (c .before .before .before .before .before .before .before .before .before .before .before .before .before .before .before .before .before .before .before .before .before .before .before .before .before .before .before .before .before .before .before .before .before .before .before .before .before .before .before .before .before .before .pre .0 .none-lost) (c .before .before .before .before .before .before .before .before .before .before .before .before .before .before .before .before .before .before .before .before .before .before .before .before .before .before .before .before .before .before .decide .ensures) (c .before .before .before .before .before .before .before .before .before .before .before .before .before .before .before .before .before .before .before .before .before .before .before .before .before .before .before .ready .ensures) L k h in
     call-ends L (a .t) k (a .held) (copied .result) (passed .result .at) _ (a .chunk .now) (a .work .now) _ _ (a .out .now) _ (copied .ensures) (z .pre .0 .work-room) (copied .kept .1 .0)
     (c .before .before .before .move-down .ensures) (passed .ensures .2) (passed .result .progress) _ _ _ _ _ _ _ _ (z .pre .1) ew (passed .ensures .0 L k (a .out .now) _ 0 em start) (passed .ensures .1) (c .ended .ensures)
 
 pub filtered-spec : {M : Type 1} → statement M
-filtered-spec = tie.close (tie.spec decide-requires ready-requires copy-requires counts-of-requires sub-packets part-packets-start part-packets-end packets-requires sub-move-down move-down-requires sub-ended ended-requires same-length same-length-2 same-length-3 same-length-4 returns)
+filtered-spec = tie.close (tie.spec decide-requires ready-requires copy-requires begins-requires sub-packets part-packets-start part-packets-end packets-requires sub-move-down move-down-requires sub-ended ended-requires same-length same-length-2 same-length-3 same-length-4 returns)

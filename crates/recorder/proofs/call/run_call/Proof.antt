@@ -15,9 +15,8 @@ same-length c = search needs
 
 returns : tie.Need-returns
 returns c L k em ew h =
-    let z = c .before .before .before .before .before .before .before .before .before .before .before in
     let all = sym (c .before .before .before .before .before .copies-all .ensures) ∙ c .before .before .before .before .if1 .taken in
-    all-copied L _ k _ _ _ _ _ _ _ _ _ _ _ _ _ all (z .pre .1 all) (c .before .before .copied .ensures .0) (c .before .before .copied .ensures .1) h
+    all-copied L _ k _ _ _ _ _ _ _ _ _ _ _ _ _ all (c .before .before .before .before .before .before .before .before .before .before .before .before .before .pre .1 all) (c .before .before .copied .ensures .0) (c .before .before .copied .ensures .1) h
 
 packet-limit-requires : tie.Need-packet-limit-requires
 packet-limit-requires c κs = search needs
@@ -39,21 +38,8 @@ same-length-5 c = search needs
 
 returns-2 : tie.Need-returns-2
 returns-2 c L k em ew h =
-    let some-off = sym (c .before .before .before .before .before .before .before .before .before .before .before .before .before .before .before .before .before .before .before .copies-all .ensures) ∙ c .before .before .before .before .before .before .before .before .before .before .before .before .before .before .before .before .before .before .if1 .left in
+    let some-off = sym (c .before .before .before .before .before .before .before .before .before .before .before .before .before .before .before .before .before .before .before .before .copies-all .ensures) ∙ c .before .before .before .before .before .before .before .before .before .before .before .before .before .before .before .before .before .before .before .if1 .left in
     ran-as (not-all L _ _ _ some-off) (c .before .before .before .before .before .before .before .before .filtered .ensures L k em ew h)
 
 pub run-call-spec : {M : Type 1} → statement M
-run-call-spec =
-    tie.close
-    (tie.spec
-    copies-all-requires
-    copied-requires
-    same-length
-    returns
-    packet-limit-requires
-    filtered-requires
-    same-length-2
-    same-length-3
-    same-length-4
-    same-length-5
-    returns-2)
+run-call-spec = tie.close (tie.spec copies-all-requires copied-requires same-length returns packet-limit-requires filtered-requires same-length-2 same-length-3 same-length-4 same-length-5 returns-2)

@@ -28,31 +28,13 @@ loop-less : tie.Need-loop-less Inv-loop μ-loop
 loop-less c = search needs
 
 loop-again : tie.Need-loop-again Inv-loop μ-loop
-loop-again c =
-    let a = c .before .before .args in
-    let l = c .before .loop in
-    clearing-next (a .from) (a .xs .now) (l .xs) (l .i) (l .inv) (omega arith)
+loop-again c = clearing-next (c .before .loop .inv) (omega arith)
 
 same-length : tie.Need-same-length Inv-loop μ-loop
 same-length c = c .before .loop .inv .same-length
 
 returns : tie.Need-returns Inv-loop μ-loop
-returns c =
-    let a = c .before .before .args in
-    let l = c .before .loop in
-    clearing-done (a .from) (a .xs .now) (l .xs) (l .i) (l .inv) (omega arith)
+returns c = clearing-done (c .before .loop .inv) (omega arith)
 
 pub clear32-spec : {M : Type 1} → statement M
-clear32-spec =
-    tie.close
-    (tie.spec
-    Inv-loop
-    μ-loop
-    loop-holds
-    mul-xs
-    slice-write-xs
-    add-i
-    loop-less
-    loop-again
-    same-length
-    returns)
+clear32-spec = tie.close (tie.spec Inv-loop μ-loop loop-holds mul-xs slice-write-xs add-i loop-less loop-again same-length returns)

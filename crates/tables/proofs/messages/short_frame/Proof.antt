@@ -1,4 +1,3 @@
-use Rattle.tables.proofs.MessageLaws.{part-cut, part-at}
 use Rattle.meaning.proofs.Reading.{counted16-at, counted16-none}
 use native.Mathlib.Omega.{arith}
 use borrow.Author.Needs.{needs}
@@ -17,23 +16,13 @@ be16-requires c κs = search needs
 add-start : tie.Need-add-start
 add-start c = search needs
 
-sub-if3 : tie.Need-sub-if3
-sub-if3 c = search needs
+part-from-requires : tie.Need-part-from-requires
+part-from-requires c κs = search needs
 
 returns-3 : tie.Need-returns-3
 returns-3 c =
     let a = c .before .before .before .before .before .args in
-    part-cut _ (a .s .now) (a .at) _ _ _ (c .before .be16 .ensures .0) (counted16-at (a .s .now) (a .at) (omega arith)) (c .if3 .taken)
-
-add-t7 : tie.Need-add-t7
-add-t7 c = search needs
-
-returns-4 : tie.Need-returns-4
-returns-4 c =
-    let a = c .before .before .before .before .before .args in
-    part-at _ (a .s .now) (a .at) _ _ _ (c .before .be16 .ensures .0) (counted16-at (a .s .now) (a .at) (omega arith)) (omega arith) (omega arith)
+    c .part-from .ensures _ (a .at) (omega arith) (rw (c .before .be16 .ensures .0) (counted16-at (a .s .now) (a .at) (omega arith)))
 
 pub short-frame-spec : {M : Type 1} → statement M
-short-frame-spec =
-    tie.close
-    (tie.spec returns returns-2 be16-requires add-start sub-if3 returns-3 add-t7 returns-4)
+short-frame-spec = tie.close (tie.spec returns returns-2 be16-requires add-start part-from-requires returns-3)

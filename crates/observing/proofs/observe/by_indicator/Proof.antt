@@ -1,0 +1,78 @@
+use Rattle.observing.proofs.ObserveSteps.{fragments-observed, by-whole, by-first, by-middle, by-last, top-three}
+use native.Mathlib.Omega.{arith}
+use mathlib.Core.Path.{ap}
+use borrow.Author.Needs.{needs}
+use Rattle.observing.proofs.observe.by_indicator.Statement.{statement}
+use Rattle.observing.proofs.observe.by_indicator.Tie as tie
+
+whole-requires : tie.Need-whole-requires
+whole-requires c κs = search needs
+
+hold-first-requires : tie.Need-hold-first-requires
+hold-first-requires c κs = search needs
+
+with-count-requires : tie.Need-with-count-requires
+with-count-requires c κs = search needs
+
+middle-requires : tie.Need-middle-requires
+middle-requires c κs = search needs
+
+with-count-requires-2 : tie.Need-with-count-requires-2
+with-count-requires-2 c κs = search needs
+
+last-requires : tie.Need-last-requires
+last-requires c κs = search needs
+
+same-length : tie.Need-same-length
+same-length c = search needs
+
+same-length-2 : tie.Need-same-length-2
+same-length-2 c = search needs
+
+returns : tie.Need-returns
+returns c =
+    let a = c .before .before .before .before .before .before .before .before .before .before .before .before .before .before .before .args in
+    let y = c .before .before .before .before .whole .ensures in
+    ((λ L k most h. by-whole L (a .p .id) (a .p .head) _ k (a .e) _ _ _ _ _ _ _ (c .before .before .before .before .before .before .before .before .before .before .before .match .keys1) (y .0 L k most h)), omega (arith, y .1))
+
+same-length-3 : tie.Need-same-length-3
+same-length-3 c = search needs
+
+returns-2 : tie.Need-returns-2
+returns-2 c =
+    let a = c .before .before .before .before .before .before .before .before .before .before .args in
+    let w = c .with-count .ensures in (
+      (λ L k most h.
+          by-first L (a .p .id) (a .p .head) _ k (a .e) _ _ _ _ _ _ _ (c .before .before .before .before .before .before .match .keys2)
+          (rw w (fragments-observed (L .total) k _ (a .e) _ _ _ _ _ _ _ (h .tables-kept) (c .before .before .before .hold-first .ensures L (k .fragments) (h .fragments-kept))))),
+      omega (arith, ap (λ z. z .lost) w),
+    )
+
+same-length-4 : tie.Need-same-length-4
+same-length-4 c = search needs
+
+returns-3 : tie.Need-returns-3
+returns-3 c =
+    let a = c .before .before .before .before .before .before .before .before .before .before .args in
+    let w = c .with-count2 .ensures in (
+      (λ L k most h.
+          by-middle L (a .p .id) (a .p .head) _ k (a .e) _ _ _ _ _ _ _ (c .before .before .before .before .before .before .match .keys3)
+          (rw w (fragments-observed (L .total) k _ (a .e) _ _ _ _ _ _ _ (h .tables-kept) (c .before .before .before .middle .ensures L (k .fragments) most (h .fragments-kept))))),
+      omega (arith, ap (λ z. z .lost) w),
+    )
+
+same-length-5 : tie.Need-same-length-5
+same-length-5 c = search needs
+
+same-length-6 : tie.Need-same-length-6
+same-length-6 c = search needs
+
+returns-4 : tie.Need-returns-4
+returns-4 c =
+    let a = c .before .before .before .before .before .before .before .before .before .before .before .before .before .before .before .args in
+    let y = c .before .before .before .before .last .ensures in
+    let n = c .before .before .before .before .before .before .before .before .before .before .before .match .rest in
+    ((λ L k most h. by-last L (a .p .id) (a .p .head) _ k (a .e) _ _ _ _ _ _ _ (top-three (a .p .head) (omega (arith, c .before .before .before .before .before .before .before .before .before .before .before .before .before .before .before .good .1 .1 .0 .1 .1 .0)) (n .0 .0 .1) (n .0 .1) (n .1)) (y .0 L k most h)), omega (arith, y .1))
+
+pub by-indicator-spec : {M : Type 1} → statement M
+by-indicator-spec = tie.close (tie.spec whole-requires hold-first-requires with-count-requires middle-requires with-count-requires-2 last-requires same-length same-length-2 returns same-length-3 returns-2 same-length-4 returns-3 same-length-5 same-length-6 returns-4)
