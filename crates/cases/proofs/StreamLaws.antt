@@ -39,31 +39,31 @@ module _ {s : Bytes} {most : ℕ} where
   pub not-fit : {n i len : ℕ} → i < n → len ≡ be32At s (4 * i) → most < len → LengthsFit s n most → ⊥
   not-fit {n} {i} {len} h e l f = let z : len ≤ most = fit-one f h e in omega arith
 
-pub head-is : (s : Bytes) {o : Options} {p work total most maps out calls : ℕ} → p ≡ be16At s 1 → o ≡ optionsOf (getD s 0 0) p → work ≡ be32At s 3
-    → total ≡ be32At s 7 → most ≡ be32At s 11 → maps ≡ be32At s 15 → out ≡ be32At s 19 → calls ≡ be16At s 23
-    → _≡_ {A = Asked} (record { options = o; work = work; total = total; most = most; maps = maps; out = out; calls = calls }) (headOf s)
+pub head-is : (s : Bytes) {o : Options} {p work total most map-room out calls : ℕ} → p ≡ be16At s 1 → o ≡ optionsOf (getD s 0 0) p → work ≡ be32At s 3
+    → total ≡ be32At s 7 → most ≡ be32At s 11 → map-room ≡ be32At s 15 → out ≡ be32At s 19 → calls ≡ be16At s 23
+    → _≡_ {A = Asked} (record { options = o; work = work; total = total; most = most; «map_room» = map-room; out = out; calls = calls }) (headOf s)
 unfolding headOf
 head-is s i o w t m n x k = rw (o, i, w, t, m, n, x, k)
 
 -- Each room is as long as is asked for, and there are no more calls than the program has lengths for.
-pub record Roomy (h : Asked) (work total maps out : ℕ) : Type 0 where
+pub record Roomy (h : Asked) (work total map-room out : ℕ) : Type 0 where
   pub work-fits : h .work ≤ work
   pub total-fits : h .total ≤ total
-  pub maps-fit : h .maps ≤ maps
+  pub map-room-fits : h .«map_room» ≤ map-room
   pub out-fits : h .out ≤ out
   pub calls-fit : h .calls ≤ 1024
 
-pub fits-rooms : {h : Asked} {work total maps out : ℕ} → headFits h work total maps out ≡ true → Roomy h work total maps out
+pub fits-rooms : {h : Asked} {work total map-room out : ℕ} → headFits h work total map-room out ≡ true → Roomy h work total map-room out
 unfolding headFits
-fits-rooms {h} {work} {total} {maps} {out} e =
+fits-rooms {h} {work} {total} {map-room} {out} e =
     let d = and-both _ (leb (h .calls) 1024) e in
     let c = and-both _ (leb (h .out) out) (d .0) in
-    let b = and-both _ (leb (h .maps) maps) (c .0) in
+    let b = and-both _ (leb (h .«map_room») map-room) (c .0) in
     let a = and-both (leb (h .work) work) (leb (h .total) total) (b .0) in
     record {
       work-fits = leb-true _ _ (a .0);
       total-fits = leb-true _ _ (a .1);
-      maps-fit = leb-true _ _ (b .1);
+      map-room-fits = leb-true _ _ (b .1);
       out-fits = leb-true _ _ (c .1);
       calls-fit = leb-true _ _ (d .1);
     }

@@ -7,8 +7,8 @@ use lib.Dec.{eqb}
 use lib.ListN.{getD}
 use Rattle.meaning.specs.Bytes.{Bytes, be16At, put32}
 use Rattle.meaning.specs.Narrow.{Change, changeTable, changePayload, changePacket}
-use Rattle.meaning.specs.Programs.{optionsOf}
 use Rattle.meaning.specs.Refusals.{narrowingNumber, narrowingLength}
+use Rattle.meaning.specs.Programs.{optionsOf}
 use Rattle.meaning.specs.declared.Narrowing.{Narrowing}
 
 unfoldable pub changedFlag : Narrowing → ℕ
@@ -30,8 +30,8 @@ frontBytes n = (narrowingNumber n ∷ []) ++ ((changedFlag n ∷ []) ++ put32 (n
 unfoldable pub headBytes : Narrowing → List ℕ → List ℕ → Bytes
 headBytes n stayed went = frontBytes n ++ (rowBytes stayed ++ rowBytes went)
 
--- What a case of a kind changes, by its head from the flags on.
+-- What a case of a case kind changes, by its head from the flags on.
 unfoldable pub changeAs : ℕ → Bytes → Bytes → Option Change
-changeAs kind head input =
+changeAs case-kind head input =
     let o = optionsOf (getD head 0 0) (be16At head 1) in
-    cond (eqb kind 1) (changeTable o input) (cond (eqb kind 2) (changePayload o (be16At head 3) input) (changePacket o input))
+    cond (eqb case-kind 1) (changeTable o input) (cond (eqb case-kind 2) (changePayload o (be16At head 3) input) (changePacket o input))

@@ -7,8 +7,8 @@ use mathlib.Core.List.{List, [], _∷_, _++_}
 use lib.Dec.{leb}
 use lib.ListN.{getD}
 use Rattle.meaning.specs.Bytes.{Bytes, be16At, be32At, put32}
-use Rattle.meaning.specs.Programs.{optionsOf}
 use Rattle.meaning.specs.Record.{Record}
+use Rattle.meaning.specs.Programs.{optionsOf}
 use Rattle.meaning.specs.declared.Counts.{Counts}
 use Rattle.recorder.specs.declared.Filter.{Filter}
 use Rattle.recorder.specs.declared.Pushed.{Pushed}
@@ -23,15 +23,15 @@ headOf s = record {
   work = be32At s 3;
   total = be32At s 7;
   most = be32At s 11;
-  maps = be32At s 15;
+  «map_room» = be32At s 15;
   out = be32At s 19;
   calls = be16At s 23;
 }
 
 -- Whether it fits the program's rooms, by their lengths: work room, fragment room, map room, output.
 unfoldable pub headFits : Asked → ℕ → ℕ → ℕ → ℕ → Bool
-headFits h work total maps out =
-    leb (h .work) work && leb (h .total) total && leb (h .maps) maps && leb (h .out) out && leb (h .calls) 1024
+headFits h work total map-room out =
+    leb (h .work) work && leb (h .total) total && leb (h .«map_room») map-room && leb (h .out) out && leb (h .calls) 1024
 
 -- Each of the first n lengths is at most `most`.
 pub record LengthsFit (s : Bytes) (n most : ℕ) : Type 0 where
@@ -44,13 +44,13 @@ FitTold false s n most = LengthsFit s n most → ⊥
 
 -- Of a call: the refusal's number, the counts, and what is held after it.
 unfoldable pub callBytes : ℕ → Counts → ℕ → Bytes
-callBytes number c held =
+callBytes number c held-count =
     (number ∷ [])
     ++ (threeBytes (c .bytes) (c .accepted) (c .written)
-    ++ (threeBytes (c .rewritten) (c .skipped) held
+    ++ (threeBytes (c .rewritten) (c .skipped) held-count
     ++ put32 (c .lost)))
 
 -- What a push promises, with the record that it hands back.
 abbrev pub CallAs : Record → Bytes → Bytes → List ℕ → Bytes → Bytes → Filter → Bytes → Bytes → List ℕ → Bytes → Type 0
-CallAs r work bodies room chunk out f work′ bodies′ room′ out′ =
-    (x : Pushed) × PushedAs r work bodies room chunk out x work′ bodies′ room′ out′ × (f ≡ x .filter)
+CallAs r work bodies map-room chunk out f work′ bodies′ map-room′ out′ =
+    (x : Pushed) × PushedAs r work bodies map-room chunk out x work′ bodies′ map-room′ out′ × (f ≡ x .filter)

@@ -1,11 +1,12 @@
-// Answers to a batch of cases on standard input, in the format of docs/ARCHITECTURE.md: a stream (kind 0, in `streams`) or a narrowing
-// (kinds 1 to 3). No contract can say which bytes are read or written, so the promises stop at what is read from and written to the
-// arrays here. A read or a write that fails ends the run; `programs.pipe` tells it.
+// Answers to a batch of cases on standard input, in the format of docs/ARCHITECTURE.md: a stream (case kind 0, in `streams`) or a narrowing
+// (case kinds 1 to 3). No contract can say which bytes are read or written, so the promises stop at what is read from and written to the
+// arrays here. A read or a write that fails ends the program; `programs.pipe` tells it.
 ghost use mathlib.Core.Path.{_≡_};
 ghost use Prim.Native.Nat.{_+_, _≤_};
 ghost use lib.ListN.{length};
 ghost use Rattle.meaning.specs.Writing.{Wrote};
-ghost use Rattle.meaning.specs.Refusals.{narrowingNumber, narrowingLength, narrowRefusal};
+ghost use Rattle.meaning.specs.Narrow.{narrowRefusal};
+ghost use Rattle.meaning.specs.Refusals.{narrowingNumber, narrowingLength};
 ghost use Rattle.narrowing.specs.Answers.{NarrowedAs};
 ghost use Rattle.cases.specs.Answers.{changedFlag, threeBytes, rowBytes, frontBytes, headBytes, changeAs};
 
@@ -35,7 +36,7 @@ pub const WORK: usize = 131200;
 
 pub const BODIES: usize = 1048576;
 
-pub const MAPS: usize = 33000;
+pub const MAP_ROOM: usize = 33000;
 
 fn refused_number(n: Narrowing) -> u8
     ensures { λ r. ⌜ r ≡ narrowingNumber n ⌝ }
@@ -67,7 +68,7 @@ fn changed_length(n: Narrowing) -> usize
     }
 }
 
-// Writes three numbers of 32 bits at `to`; answers the place past them.
+// Writes three numbers of 32 bits at `to`; answers the offset past them.
 pub fn put_three(out: &mut [u8], to: usize, a: usize, b: usize, c: usize) -> usize
     requires { ⌜ to + 12 ≤ length (now out) ⌝ }
     ensures { λ r. ⌜ Wrote (threeBytes a b c) (now (out .entry)) to (now (out .exit)) r ⌝ }
@@ -77,7 +78,7 @@ pub fn put_three(out: &mut [u8], to: usize, a: usize, b: usize, c: usize) -> usi
     put32(out, third, c)
 }
 
-// Writes three counts at `to`; answers the place past them.
+// Writes three counts at `to`; answers the offset past them.
 fn put_row(out: &mut [u8], to: usize, row: [u64; 3]) -> usize
     requires { ⌜ to + 12 ≤ length (now out) ⌝ }
     ensures { λ r. ⌜ Wrote (rowBytes row) (now (out .entry)) to (now (out .exit)) r ⌝ }
@@ -85,7 +86,7 @@ fn put_row(out: &mut [u8], to: usize, row: [u64; 3]) -> usize
     put_three(out, to, row[0] as usize, row[1] as usize, row[2] as usize)
 }
 
-// Writes the refusal's number, whether it is changed, and the length; answers the place past them.
+// Writes the refusal's number, whether it is changed, and the length; answers the offset past them.
 fn put_front(out: &mut [u8], n: Narrowing) -> usize
     requires { ⌜ 6 ≤ length (now out) ⌝ }
     ensures { λ r. ⌜ Wrote (frontBytes n) (now (out .entry)) 0 (now (out .exit)) r ⌝ }
@@ -95,7 +96,7 @@ fn put_front(out: &mut [u8], n: Narrowing) -> usize
     put32(out, b, changed_length(n))
 }
 
-// Writes the head of an answer; answers the place past it.
+// Writes the head of an answer; answers the offset past it.
 fn put_head(out: &mut [u8], r: Narrowed) -> usize
     requires { ⌜ 30 ≤ length (now out) ⌝ }
     ensures { λ e. ⌜ Wrote (headBytes (r .narrowing) (r .stayed) (r .went)) (now (out .entry)) 0 (now (out .exit)) e ⌝ }
@@ -122,34 +123,34 @@ fn tell(r: Narrowed, out: &[u8]) -> bool
     write_all(&out[0..len])
 }
 
-// The answer to a case of kind 1 to 3, by the rest of its head.
-fn narrow(kind: u8, head: &[u8], input: &[u8], out: &mut [u8]) -> Narrowed
+// The answer to a case of case kind 1 to 3, by the rest of its head.
+fn narrow(case_kind: u8, head: &[u8], input: &[u8], out: &mut [u8]) -> Narrowed
     requires { ⌜ 5 ≤ length (now head) ⌝ }
-    ensures { λ r. ⌜ NarrowedAs (narrowRefusal (length (now (input .entry))) (length (now (out .entry)))) (changeAs kind (now (head .entry)) (now (input .entry))) (now (out .entry)) (now (out .exit)) (r .narrowing) (r .stayed) (r .went) ⌝ }
+    ensures { λ r. ⌜ NarrowedAs (narrowRefusal (length (now (input .entry))) (length (now (out .entry)))) (changeAs «case_kind» (now (head .entry)) (now (input .entry))) (now (out .entry)) (now (out .exit)) (r .narrowing) (r .stayed) (r .went) ⌝ }
 {
     let o = options_of(head[0], id16(head, 1));
-    if kind == 1 {
+    if case_kind == 1 {
         return narrow_table(input, o, out);
     }
-    if kind == 2 {
+    if case_kind == 2 {
         return narrow_payload(input, id16(head, 3), o, out);
     }
     narrow_packet(input, o, out)
 }
 
 // The input of a case, its narrowing and the answer; answers whether another may follow.
-fn answer_case(kind: u8, head: &[u8], input: &mut [u8], out: &mut [u8]) -> bool
+fn answer_case(case_kind: u8, head: &[u8], input: &mut [u8], out: &mut [u8]) -> bool
     requires { ⌜ 5 ≤ length (now head) ⌝ }
 {
     if !fill_all(input) {
         return false;
     }
-    let r = narrow(kind, head, input, out);
+    let r = narrow(case_kind, head, input, out);
     tell(r, out)
 }
 
-// One case of kind 1 to 3, within the rooms that are lent; answers whether another may follow.
-fn one_narrowing(kind: u8, input: &mut [u8], out: &mut [u8]) -> bool {
+// One case of case kind 1 to 3, within the rooms that are lent; answers whether another may follow.
+fn one_narrowing(case_kind: u8, input: &mut [u8], out: &mut [u8]) -> bool {
     let mut head = [0u8; 13];
     if !fill_all(&mut head) {
         return false;
@@ -157,37 +158,37 @@ fn one_narrowing(kind: u8, input: &mut [u8], out: &mut [u8]) -> bool {
     if 15 < head[0] {
         return false;
     }
-    let room = be32(&head, 5);
+    let map_room = be32(&head, 5);
     let len = be32(&head, 9);
-    if out.len() < room {
+    if out.len() < map_room {
         return false;
     }
     if input.len() < len {
         return false;
     }
-    answer_case(kind, &head, &mut input[0..len], &mut out[0..room])
+    answer_case(case_kind, &head, &mut input[0..len], &mut out[0..map_room])
 }
 
-fn in_rooms(kind: u8, input: &mut [u8; INPUT], out: &mut [u8; OUTPUT]) -> bool {
-    one_narrowing(kind, input, out)
+fn in_rooms(case_kind: u8, input: &mut [u8; INPUT], out: &mut [u8; OUTPUT]) -> bool {
+    one_narrowing(case_kind, input, out)
 }
 
-// One case after its kind; answers whether another may follow.
+// One case after its case kind; answers whether another may follow.
 fn one_case(
-    kind: u8,
+    case_kind: u8,
     input: &mut [u8; INPUT],
     work: &mut [u8; WORK],
     bodies: &mut [u8; BODIES],
-    room: &mut [u16; MAPS],
+    map_room: &mut [u16; MAP_ROOM],
     out: &mut [u8; OUTPUT],
 ) -> bool {
-    if kind == 0 {
-        return stream(input, work, bodies, room, out);
+    if case_kind == 0 {
+        return stream(input, work, bodies, map_room, out);
     }
-    if 3 < kind {
+    if 3 < case_kind {
         return false;
     }
-    in_rooms(kind, input, out)
+    in_rooms(case_kind, input, out)
 }
 
 // The cases in turn, in rooms that the caller lends: a loop beside large arrays of its own takes long to prove.
@@ -195,17 +196,17 @@ fn in_turn(
     input: &mut [u8; INPUT],
     work: &mut [u8; WORK],
     bodies: &mut [u8; BODIES],
-    room: &mut [u16; MAPS],
+    map_room: &mut [u16; MAP_ROOM],
     out: &mut [u8; OUTPUT],
 ) {
-    let mut kind = [0u8; 1];
+    let mut case_kind = [0u8; 1];
     let mut turns = u64::MAX;
     while 0 < turns {
         turns -= 1;
-        if !fill_all(&mut kind) {
+        if !fill_all(&mut case_kind) {
             return;
         }
-        if !one_case(kind[0], input, work, bodies, room, out) {
+        if !one_case(case_kind[0], input, work, bodies, map_room, out) {
             return;
         }
     }
@@ -216,7 +217,7 @@ pub fn answer_all() {
     let mut input = [0u8; INPUT];
     let mut work = [0u8; WORK];
     let mut bodies = [0u8; BODIES];
-    let mut room = [0u16; MAPS];
+    let mut map_room = [0u16; MAP_ROOM];
     let mut out = [0u8; OUTPUT];
-    in_turn(&mut input, &mut work, &mut bodies, &mut room, &mut out);
+    in_turn(&mut input, &mut work, &mut bodies, &mut map_room, &mut out);
 }

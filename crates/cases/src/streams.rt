@@ -1,5 +1,5 @@
-// Cases of kind 0: a stream, cut into calls of the filter of `recorder`. A case is a head, the length of each call's chunk, and the
-// chunks; each is read when its turn comes, so that a chunk that is cut short ends the run after the answers before it.
+// Cases of case kind 0: a stream, cut into calls of the filter of `recorder`. A case is a head, the length of each call's chunk, and the
+// chunks; each is read when its turn comes, so that a chunk that is cut short ends the program after the answers before it.
 ghost use mathlib.Core.Path.{_≡_};
 ghost use Prim.Native.Nat.{_*_, _≤_};
 ghost use lib.ListN.{length};
@@ -8,7 +8,7 @@ ghost use Rattle.recorder.specs.Filter.{recordIn};
 ghost use Rattle.cases.specs.Streams.{headOf, headFits, FitTold, LengthsFit, callBytes, CallAs};
 use crate::BODIES;
 use crate::INPUT;
-use crate::MAPS;
+use crate::MAP_ROOM;
 use crate::OUTPUT;
 use crate::WORK;
 use crate::put_three;
@@ -37,7 +37,7 @@ pub struct Asked {
     pub work: usize,
     pub total: usize,
     pub most: usize,
-    pub maps: usize,
+    pub map_room: usize,
     pub out: usize,
     pub calls: usize,
 }
@@ -58,15 +58,15 @@ fn head_of(head: &[u8; 25]) -> Asked
         work: be32(head, 3),
         total: be32(head, 7),
         most: be32(head, 11),
-        maps: be32(head, 15),
+        map_room: be32(head, 15),
         out: be32(head, 19),
         calls: be16(head, 23),
     }
 }
 
 // Whether rooms of these lengths hold what is asked for.
-fn head_fits(h: Asked, work: usize, total: usize, maps: usize, out: usize) -> bool
-    ensures { λ r. ⌜ r ≡ headFits h work total maps out ⌝ }
+fn head_fits(h: Asked, work: usize, total: usize, map_room: usize, out: usize) -> bool
+    ensures { λ r. ⌜ r ≡ headFits h work total «map_room» out ⌝ }
 {
     if work < h.work {
         return false;
@@ -74,7 +74,7 @@ fn head_fits(h: Asked, work: usize, total: usize, maps: usize, out: usize) -> bo
     if total < h.total {
         return false;
     }
-    if maps < h.maps {
+    if map_room < h.map_room {
         return false;
     }
     if out < h.out {
@@ -84,10 +84,10 @@ fn head_fits(h: Asked, work: usize, total: usize, maps: usize, out: usize) -> bo
 }
 
 // The next bytes of the input, to the front of a room; answers whether there were so many.
-fn read_front(room: &mut [u8], len: usize) -> bool
-    requires { ⌜ len ≤ length (now room) ⌝ }
+fn read_front(map_room: &mut [u8], len: usize) -> bool
+    requires { ⌜ len ≤ length (now «map_room») ⌝ }
 {
-    fill_all(&mut room[0..len])
+    fill_all(&mut map_room[0..len])
 }
 
 // Whether each of the first `n` lengths is at most `most`.
@@ -105,14 +105,14 @@ fn lengths_fit(lengths: &[u8], n: usize, most: usize) -> bool
     true
 }
 
-// Writes what comes before the bytes of a call's answer; answers the place past it.
-fn put_call(out: &mut [u8], number: u8, c: Counts, held: usize) -> usize
+// Writes what comes before the bytes of a call's answer; answers the offset past it.
+fn put_call(out: &mut [u8], number: u8, c: Counts, held_count: usize) -> usize
     requires { ⌜ 29 ≤ length (now out) ⌝ }
-    ensures { λ r. ⌜ Wrote (callBytes number c held) (now (out .entry)) 0 (now (out .exit)) r ⌝ }
+    ensures { λ r. ⌜ Wrote (callBytes number c «held_count») (now (out .entry)) 0 (now (out .exit)) r ⌝ }
 {
     let a = put8(out, 0, number);
     let b = put_three(out, a, c.bytes, c.accepted, c.written);
-    let d = put_three(out, b, c.rewritten, c.skipped, held);
+    let d = put_three(out, b, c.rewritten, c.skipped, held_count);
     put32(out, d, c.lost)
 }
 
@@ -124,7 +124,7 @@ fn tell(p: Pushed, out: &[u8]) -> bool
     let a = p.answer;
     let c = p.counts;
     let f = p.filter;
-    put_call(&mut head, answer_number(a), c, f.held);
+    put_call(&mut head, answer_number(a), c, f.held_count);
     if !write_all(&head) {
         return false;
     }
@@ -138,12 +138,12 @@ fn one_call(
     chunk: &[u8],
     work: &mut [u8],
     bodies: &mut [u8],
-    room: &mut [u16],
+    map_room: &mut [u16],
     out: &mut [u8],
 ) -> Called
-    ensures { λ r. ⌜ CallAs (recordIn f) (now (work .entry)) (now (bodies .entry)) (now (room .entry)) (now (chunk .entry)) (now (out .entry)) (r .filter) (now (work .exit)) (now (bodies .exit)) (now (room .exit)) (now (out .exit)) ⌝ }
+    ensures { λ r. ⌜ CallAs (recordIn f) (now (work .entry)) (now (bodies .entry)) (now («map_room» .entry)) (now (chunk .entry)) (now (out .entry)) (r .filter) (now (work .exit)) (now (bodies .exit)) (now («map_room» .exit)) (now (out .exit)) ⌝ }
 {
-    let p = f.push(chunk, work, bodies, room, out);
+    let p = f.push(chunk, work, bodies, map_room, out);
     let goes_on = tell(p, out);
     let filter = p.filter;
     Called { goes_on, filter }
@@ -156,7 +156,7 @@ fn next_call(
     chunk: &mut [u8],
     work: &mut [u8],
     bodies: &mut [u8],
-    room: &mut [u16],
+    map_room: &mut [u16],
     out: &mut [u8],
 ) -> Called
     requires { ⌜ len ≤ length (now chunk) ⌝ }
@@ -167,12 +167,12 @@ fn next_call(
             filter: f,
         };
     }
-    one_call(f, &chunk[0..len], work, bodies, room, out)
+    one_call(f, &chunk[0..len], work, bodies, map_room, out)
 }
 
 // How many identifiers are dropped after the last call; answers whether that was taken.
-fn tell_dropped(f: Filter, work: &[u8], bodies: &[u8], room: &[u16]) -> bool {
-    let d = f.dropped(work, bodies, room);
+fn tell_dropped(f: Filter, work: &[u8], bodies: &[u8], map_room: &[u16]) -> bool {
+    let d = f.dropped(work, bodies, map_room);
     let mut last = [0u8; 4];
     put32(&mut last, 0, d.count as usize);
     write_all(&last)
@@ -186,7 +186,7 @@ fn calls(
     chunk: &mut [u8],
     work: &mut [u8],
     bodies: &mut [u8],
-    room: &mut [u16],
+    map_room: &mut [u16],
     out: &mut [u8],
 ) -> bool
     requires { ⌜ (4 * n ≤ length (now lengths)) × LengthsFit (now lengths) n (length (now chunk)) ⌝ }
@@ -199,14 +199,14 @@ fn calls(
     while i < n {
         let len = be32(lengths, 4 * i);
         let f = x.filter;
-        x = next_call(f, len, chunk, work, bodies, room, out);
+        x = next_call(f, len, chunk, work, bodies, map_room, out);
         if !x.goes_on {
             return false;
         }
         i += 1;
     }
     let f = x.filter;
-    tell_dropped(f, work, bodies, room)
+    tell_dropped(f, work, bodies, map_room)
 }
 
 // Reads past the chunks of a stream whose start was refused; answers whether they were all there.
@@ -231,13 +231,13 @@ fn started(
     chunk: &mut [u8],
     work: &mut [u8],
     bodies: &mut [u8],
-    room: &mut [u16],
+    map_room: &mut [u16],
     out: &mut [u8],
 ) -> bool
     requires { ⌜ (4 * h .calls ≤ length (now lengths)) × LengthsFit (now lengths) (h .calls) (length (now chunk)) ⌝ }
 {
     let o = h.options;
-    let s = start(work, bodies, room, h.most, o);
+    let s = start(work, bodies, map_room, h.most, o);
     let a = s.answer;
     let number = [answer_number(a); 1];
     if !write_all(&number) {
@@ -247,7 +247,7 @@ fn started(
         return read_past(lengths, h.calls, chunk);
     }
     let f = s.filter;
-    calls(f, lengths, h.calls, chunk, work, bodies, room, out)
+    calls(f, lengths, h.calls, chunk, work, bodies, map_room, out)
 }
 
 // A stream in rooms of the lengths that are asked for.
@@ -256,7 +256,7 @@ fn in_lent(
     chunk: &mut [u8],
     work: &mut [u8],
     bodies: &mut [u8],
-    room: &mut [u16],
+    map_room: &mut [u16],
     out: &mut [u8],
 ) -> bool
     requires { ⌜ h .calls ≤ 1024 ⌝ }
@@ -269,15 +269,15 @@ fn in_lent(
     if !lengths_fit(&lengths, n, chunk.len()) {
         return false;
     }
-    started(h, &lengths, chunk, work, bodies, room, out)
+    started(h, &lengths, chunk, work, bodies, map_room, out)
 }
 
-// One case of kind 0, within the rooms that are lent; answers whether another may follow.
+// One case of case kind 0, within the rooms that are lent; answers whether another may follow.
 fn one_stream(
     chunk: &mut [u8],
     work: &mut [u8],
     bodies: &mut [u8],
-    room: &mut [u16],
+    map_room: &mut [u16],
     out: &mut [u8],
 ) -> bool {
     let mut head = [0u8; 25];
@@ -288,30 +288,30 @@ fn one_stream(
         return false;
     }
     let h = head_of(&head);
-    if !head_fits(h, work.len(), bodies.len(), room.len(), out.len()) {
+    if !head_fits(h, work.len(), bodies.len(), map_room.len(), out.len()) {
         return false;
     }
     let w = h.work;
     let t = h.total;
-    let m = h.maps;
+    let m = h.map_room;
     let x = h.out;
     in_lent(
         h,
         chunk,
         &mut work[0..w],
         &mut bodies[0..t],
-        &mut room[0..m],
+        &mut map_room[0..m],
         &mut out[0..x],
     )
 }
 
-// One case of kind 0 in the program's rooms.
+// One case of case kind 0 in the program's rooms.
 pub fn stream(
     chunk: &mut [u8; INPUT],
     work: &mut [u8; WORK],
     bodies: &mut [u8; BODIES],
-    room: &mut [u16; MAPS],
+    map_room: &mut [u16; MAP_ROOM],
     out: &mut [u8; OUTPUT],
 ) -> bool {
-    one_stream(chunk, work, bodies, room, out)
+    one_stream(chunk, work, bodies, map_room, out)
 }

@@ -1,6 +1,6 @@
 // The program `filter`: writes the filtered stream of what it reads, or the line of a refusal.
-use programs::run::run;
+use programs::stream::stream;
 
 fn main() {
-    run(true);
+    stream(true);
 }

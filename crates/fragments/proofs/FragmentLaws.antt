@@ -15,12 +15,12 @@ use borrow.Author.Tests.{eqb-true, eq-eqb, ne-eqb, not-true}
 use Rattle.meaning.specs.Bytes.{Bytes}
 use Rattle.meaning.specs.Lists.{keep, any, sum}
 use Rattle.meaning.specs.Learn.{Fragment, isOf, without, fragmentOf, grown, growIn}
-use Rattle.meaning.specs.Record.{packHead, headIdentifier, headLength, distinct}
-use Rattle.meaning.specs.Sound.{identifiers}
+use Rattle.meaning.specs.Record.{fragmentHead, fragmentIdentifier, fragmentLength}
+use Rattle.meaning.specs.Soundness.{distinct, identifiers}
 use Rattle.meaning.proofs.ListLaws.{and-both, or-neither}
-use Rattle.meaning.proofs.Holds.{eqb-swap}
-use Rattle.meaning.proofs.SoundLaws.{TellAll}
-use Rattle.fragments.specs.Fragments.{lens, placeIn, placeOf}
+use Rattle.meaning.proofs.SoundnessKept.{eqb-swap}
+use Rattle.meaning.proofs.SoundnessLaws.{TellAll}
+use Rattle.fragments.specs.Fragments.{lens, indexIn, indexOf}
 
 -- ---- the sum of the lengths
 
@@ -29,12 +29,12 @@ unfolding lens sum
 lens-append [] ys = sym (zero-add (lens ys))
 lens-append (x ∷ xs) ys = omega (arith, lens-append xs ys)
 
-lens-one : (x : ℕ) → lens (x ∷ []) ≡ headLength x
+lens-one : (x : ℕ) → lens (x ∷ []) ≡ fragmentLength x
 unfolding lens sum
-lens-one x = add-zero (headLength x)
+lens-one x = add-zero (fragmentLength x)
 
 module _ (hs : List ℕ) where
-  pub lens-turn : (i : ℕ) → i < length hs → lens (take (i + 1) hs) ≡ lens (take i hs) + headLength (getD hs i 0)
+  pub lens-turn : (i : ℕ) → i < length hs → lens (take (i + 1) hs) ≡ lens (take i hs) + fragmentLength (getD hs i 0)
   lens-turn i h =
       ap (λ (k : ℕ). lens (take k hs)) (add-one i) ∙ ap lens (take-suc hs i 0 h) ∙ lens-append (take i hs) (getD hs i 0 ∷ [])
       ∙ ap (λ (k : ℕ). lens (take i hs) + k) (lens-one (getD hs i 0))
@@ -49,28 +49,28 @@ module _ (hs : List ℕ) where
 -- ---- the loop that looks for an identifier
 
 module _ (p : ℕ) (hs : List ℕ) (n : ℕ) (le : n ≤ length hs) where
-  place-at : (i : ℕ) → i < n → placeIn p (drop i (take n hs)) ≡ cond (eqb (headIdentifier (getD hs i 0)) p) 0 (suc (placeIn p (drop (suc i) (take n hs))))
-  unfolding placeIn
-  place-at i h =
-      ap (placeIn p) (drop-cons (take n hs) i 0 (omega (arith, length-take-le n hs le)))
-      ∙ ap (λ (z : ℕ). cond (eqb (headIdentifier z) p) 0 (suc (placeIn p (drop (suc i) (take n hs))))) (getD-take n hs i 0 h)
+  index-at : (i : ℕ) → i < n → indexIn p (drop i (take n hs)) ≡ cond (eqb (fragmentIdentifier (getD hs i 0)) p) 0 (suc (indexIn p (drop (suc i) (take n hs))))
+  unfolding indexIn
+  index-at i h =
+      ap (indexIn p) (drop-cons (take n hs) i 0 (omega (arith, length-take-le n hs le)))
+      ∙ ap (λ (z : ℕ). cond (eqb (fragmentIdentifier z) p) 0 (suc (indexIn p (drop (suc i) (take n hs))))) (getD-take n hs i 0 h)
 
-  pub place-here : (i : ℕ) → i < n → headIdentifier (getD hs i 0) ≡ p → placeIn p (drop i (take n hs)) ≡ 0
-  place-here i h e = place-at i h ∙ ap (λ (z : Bool). cond z 0 (suc (placeIn p (drop (suc i) (take n hs))))) (eq-eqb _ _ e)
+  pub index-here : (i : ℕ) → i < n → fragmentIdentifier (getD hs i 0) ≡ p → indexIn p (drop i (take n hs)) ≡ 0
+  index-here i h e = index-at i h ∙ ap (λ (z : Bool). cond z 0 (suc (indexIn p (drop (suc i) (take n hs))))) (eq-eqb _ _ e)
 
-  pub place-next : (i : ℕ) → i < n → (headIdentifier (getD hs i 0) ≡ p → ⊥) → placeIn p (drop i (take n hs)) ≡ placeIn p (drop (i + 1) (take n hs)) + 1
-  place-next i h e =
-      place-at i h ∙ ap (λ (z : Bool). cond z 0 (suc (placeIn p (drop (suc i) (take n hs))))) (ne-eqb _ _ e)
-      ∙ sym (add-one (placeIn p (drop (suc i) (take n hs)))) ∙ ap (λ (z : ℕ). placeIn p (drop z (take n hs)) + 1) (sym (add-one i))
+  pub index-next : (i : ℕ) → i < n → (fragmentIdentifier (getD hs i 0) ≡ p → ⊥) → indexIn p (drop i (take n hs)) ≡ indexIn p (drop (i + 1) (take n hs)) + 1
+  index-next i h e =
+      index-at i h ∙ ap (λ (z : Bool). cond z 0 (suc (indexIn p (drop (suc i) (take n hs))))) (ne-eqb _ _ e)
+      ∙ sym (add-one (indexIn p (drop (suc i) (take n hs)))) ∙ ap (λ (z : ℕ). indexIn p (drop z (take n hs)) + 1) (sym (add-one i))
 
-  pub place-end : placeIn p (drop n (take n hs)) ≡ 0
-  unfolding placeIn
-  place-end = ap (λ (z : ℕ). placeIn p (drop z (take n hs))) (sym (length-take-le n hs le)) ∙ ap (placeIn p) (drop-length (take n hs))
+  pub index-end : indexIn p (drop n (take n hs)) ≡ 0
+  unfolding indexIn
+  index-end = ap (λ (z : ℕ). indexIn p (drop z (take n hs))) (sym (length-take-le n hs le)) ∙ ap (indexIn p) (drop-length (take n hs))
 
-pub place-heads : (p : ℕ) (fs : List Fragment) → TellAll fs → placeIn p (map packHead fs) ≡ placeOf p fs
-unfolding placeIn placeOf isOf
-place-heads p [] h = refl
-place-heads p (f ∷ fs) h = ap₂ (λ (x y : ℕ). cond (eqb x p) 0 (suc y)) (h .0 .identifier-is) (place-heads p fs (h .1))
+pub index-fragment-heads : (p : ℕ) (fs : List Fragment) → TellAll fs → indexIn p (map fragmentHead fs) ≡ indexOf p fs
+unfolding indexIn indexOf isOf
+index-fragment-heads p [] h = refl
+index-fragment-heads p (f ∷ fs) h = ap₂ (λ (x y : ℕ). cond (eqb x p) 0 (suc y)) (h .0 .identifier-is) (index-fragment-heads p fs (h .1))
 
 -- ---- a fragment, those before it and those behind it
 
@@ -79,7 +79,7 @@ pub record Spot (p : ℕ) (fs : List Fragment) : Type 0 where
   pub fragment : Fragment
   pub behind : List Fragment
   pub whole : fs ≡ before ++ (fragment ∷ behind)
-  pub place : length before ≡ placeOf p fs
+  pub index : length before ≡ indexOf p fs
   pub found : fragmentOf p fs ≡ some fragment
   pub rest : without p fs ≡ before ++ behind
   pub grows : (b : Bytes) → growIn p b fs ≡ before ++ (grown fragment b ∷ behind)
@@ -97,59 +97,59 @@ of-same p f e = eqb-true (f .identifier) p e
 
 module _ (p : ℕ) (f : Fragment) (fs : List Fragment) where
   here : isOf p f ≡ true → any (eqb (f .identifier)) (identifiers fs) ≡ false → Spot p (f ∷ fs)
-  unfolding placeOf fragmentOf without keep growIn
+  unfolding indexOf fragmentOf without keep growIn
   here e once = record {
     before = [];
     fragment = f;
     behind = fs;
     whole = refl;
-    place = rw e refl;
+    index = rw e refl;
     found = rw e refl;
     rest = rw e (none-of p fs (subst (λ (q : ℕ). any (eqb q) (identifiers fs) ≡ false) (of-same p f e) once));
     grows = λ b. rw e refl;
   }
 
   there : isOf p f ≡ false → Spot p fs → Spot p (f ∷ fs)
-  unfolding placeOf fragmentOf without keep growIn
+  unfolding indexOf fragmentOf without keep growIn
   there e s = record {
     before = f ∷ s .before;
     fragment = s .fragment;
     behind = s .behind;
     whole = ap (λ (l : List Fragment). f ∷ l) (s .whole);
-    place = rw e (ap suc (s .place));
+    index = rw e (ap suc (s .index));
     found = rw e (s .found);
     rest = rw e (ap (λ (l : List Fragment). f ∷ l) (s .rest));
     grows = λ b. rw e (ap (λ (l : List Fragment). f ∷ l) (s .grows b));
   }
 
-  place-of : isOf p f ≡ false → placeOf p (f ∷ fs) ≡ suc (placeOf p fs)
-  unfolding placeOf
-  place-of e = rw e refl
+  index-of : isOf p f ≡ false → indexOf p (f ∷ fs) ≡ suc (indexOf p fs)
+  unfolding indexOf
+  index-of e = rw e refl
 
-  place-first : isOf p f ≡ true → placeOf p (f ∷ fs) ≡ 0
-  unfolding placeOf
-  place-first e = rw e refl
+  index-first : isOf p f ≡ true → indexOf p (f ∷ fs) ≡ 0
+  unfolding indexOf
+  index-first e = rw e refl
 
-pub spot : (p : ℕ) (fs : List Fragment) → distinct (identifiers fs) ≡ true → placeOf p fs < length fs → Spot p fs
+pub spot : (p : ℕ) (fs : List Fragment) → distinct (identifiers fs) ≡ true → indexOf p fs < length fs → Spot p fs
 unfolding distinct
 spot p [] d h = absurd (omega arith)
 spot p (f ∷ fs) d h =
     let k = and-both (not (any (eqb (f .identifier)) (identifiers fs))) (distinct (identifiers fs)) d in
     go (isOf p f) refl (not-true _ (k .0)) (spot p fs (k .1))
   where
-    go : (a : Bool) → isOf p f ≡ a → any (eqb (f .identifier)) (identifiers fs) ≡ false → (placeOf p fs < length fs → Spot p fs) → Spot p (f ∷ fs)
+    go : (a : Bool) → isOf p f ≡ a → any (eqb (f .identifier)) (identifiers fs) ≡ false → (indexOf p fs < length fs → Spot p fs) → Spot p (f ∷ fs)
     go true e once again = here p f fs e once
-    go false e once again = there p f fs e (again (omega (arith, place-of p f fs e)))
+    go false e once again = there p f fs e (again (omega (arith, index-of p f fs e)))
 
-pub missing : (p : ℕ) (fs : List Fragment) → length fs ≤ placeOf p fs → (without p fs ≡ fs) × (fragmentOf p fs ≡ none)
+pub missing : (p : ℕ) (fs : List Fragment) → length fs ≤ indexOf p fs → (without p fs ≡ fs) × (fragmentOf p fs ≡ none)
 unfolding without keep fragmentOf
 missing p [] h = (refl, refl)
 missing p (f ∷ fs) h = go (isOf p f) refl (missing p fs)
   where
-    go : (a : Bool) → isOf p f ≡ a → (length fs ≤ placeOf p fs → (without p fs ≡ fs) × (fragmentOf p fs ≡ none))
+    go : (a : Bool) → isOf p f ≡ a → (length fs ≤ indexOf p fs → (without p fs ≡ fs) × (fragmentOf p fs ≡ none))
         → (cond (not a) (f ∷ without p fs) (without p fs) ≡ f ∷ fs) × (cond a (some f) (fragmentOf p fs) ≡ none)
-    go true e again = absurd (omega (arith, place-first p f fs e))
-    go false e again = let r = again (omega (arith, place-of p f fs e)) in (ap (λ (l : List Fragment). f ∷ l) (r .0), r .1)
+    go true e again = absurd (omega (arith, index-first p f fs e))
+    go false e again = let r = again (omega (arith, index-of p f fs e)) in (ap (λ (l : List Fragment). f ∷ l) (r .0), r .1)
 
 -- For a last: what is left without a fragment is the same whether it has grown or not.
 pub without-grown : (p : ℕ) (b : Bytes) (fs : List Fragment) → without p (growIn p b fs) ≡ without p fs

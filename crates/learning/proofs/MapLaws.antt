@@ -1,5 +1,5 @@
 -- The lists of assets that MPTs give, as the functions of `lists` read, compare and write them: numbers written over a room, the assets of
--- the entries read so far (Listing), and a list at its place. Rests on MapPairLaws and on Reading, Holds and SpareLaws of `meaning`.
+-- the entries read so far (Listing), and a list at its place. Rests on MapPairLaws and on Reading, SoundnessKept and SpareLaws of `meaning`.
 use Prim.Native.Nat.{ℕ, suc, max, _+_, _-_, _*_, _≤_, _<_}
 use mathlib.Core.Path.{_≡_, refl, sym, ap, ap₂, _∙_}
 use mathlib.Core.Bool.{Bool, true, false, not, _&&_, _||_}
@@ -14,8 +14,8 @@ use lib.Dec.{ltb, eqb}
 use borrow.Author.Tests.{ltb-true, eqb-true, lt-ltb, le-ltb, eq-eqb, ne-eqb}
 use Rattle.meaning.specs.Bytes.{Bytes}
 use Rattle.meaning.specs.Readers.{bind, give, many, raw}
-use Rattle.meaning.specs.Tables.{Entry, entry, mptFront, mpt}
-use Rattle.meaning.specs.Learn.{Listed, kindNumber, assetNumbers, over, placeFor, listAsset, listed}
+use Rattle.meaning.specs.Tables.{Entry, entry, mptFront, mpt, kindNumber}
+use Rattle.meaning.specs.Learn.{Listed, assetNumbers, over, placeFor, listAsset, listed}
 use Rattle.meaning.specs.declared.Part.{Part}
 use Rattle.meaning.proofs.ListLaws.{clash, and-both}
 use Rattle.meaning.proofs.SpareLaws.{numbers-length}
@@ -31,29 +31,29 @@ use Rattle.learning.specs.Learnt.{numbersOf, AssetsAre, HeadsAre, lostOn
 use Rattle.learning.specs.Kept.{pairsIn, KeptMaps}
 use Rattle.learning.specs.declared.Extent.{Extent}
 use Rattle.learning.proofs.PairLaws.{pairs-in}
-use Rattle.learning.proofs.MapPairLaws.{held-same, maps-after}
+use Rattle.learning.proofs.MapPairLaws.{listed-same, maps-after}
 
 -- ---- numbers written over those of a room
 
-module _ (room : List ℕ) (base : ℕ) (ns : List ℕ) where
-  over-paste : (k : ℕ) → k ≤ length ns → over room base (take k ns) ≡ take base room ++ take k ns ++ drop (base + k) room
+module _ (map-room : List ℕ) (base : ℕ) (ns : List ℕ) where
+  over-paste : (k : ℕ) → k ≤ length ns → over map-room base (take k ns) ≡ take base map-room ++ take k ns ++ drop (base + k) map-room
   unfolding over
-  over-paste k h = rw (length-take-le k ns h) (sym (append-assoc (take base room) (take k ns) (drop (base + k) room)))
+  over-paste k h = rw (length-take-le k ns h) (sym (append-assoc (take base map-room) (take k ns) (drop (base + k) map-room)))
 
-  pub over-none : room ≡ over room base (take 0 ns)
+  pub over-none : map-room ≡ over map-room base (take 0 ns)
   unfolding over
-  over-none = sym (rw add-zero (take-append-drop base room))
+  over-none = sym (rw add-zero (take-append-drop base map-room))
 
   -- one more
-  pub over-next : (i : ℕ) → base + i < length room → i < length ns → set (over room base (take i ns)) (base + i) (getD ns i 0) ≡ over room base (take (i + 1) ns)
-  over-next i h l = rw (over-paste i (omega arith), add-one i, over-paste (suc i) l) (paste-suc room base ns i 0 h l)
+  pub over-next : (i : ℕ) → base + i < length map-room → i < length ns → set (over map-room base (take i ns)) (base + i) (getD ns i 0) ≡ over map-room base (take (i + 1) ns)
+  over-next i h l = rw (over-paste i (omega arith), add-one i, over-paste (suc i) l) (paste-suc map-room base ns i 0 h l)
 
 -- its own numbers
-pub over-self : (room : List ℕ) (base k : ℕ) → base + k ≤ length room → over room base (take k (drop base room)) ≡ room
+pub over-self : (map-room : List ℕ) (base k : ℕ) → base + k ≤ length map-room → over map-room base (take k (drop base map-room)) ≡ map-room
 unfolding over
-over-self room base k h =
-    rw (length-take-le k (drop base room) (omega (arith, length-drop base room)), ← drop-drop k base room, take-append-drop k (drop base room))
-    (take-append-drop base room)
+over-self map-room base k h =
+    rw (length-take-le k (drop base map-room) (omega (arith, length-drop base map-room)), ← drop-drop k base map-room, take-append-drop k (drop base map-room))
+    (take-append-drop base map-room)
 
 -- ---- two lists of numbers compared
 
@@ -66,26 +66,26 @@ same-equal (a ∷ as′) (b ∷ bs) e =
     let h = and-both (eqb a b) (sameNumbers as′ bs) e in
     ap₂ (λ (x : ℕ) (l : List ℕ). x ∷ l) (eqb-true a b (h .0)) (same-equal as′ bs (h .1))
 
-module _ (room fresh : List ℕ) (base n i : ℕ) (l : i < n) (r : base + n ≤ length room) (f : n ≤ length fresh) where
+module _ (map-room fresh : List ℕ) (base n i : ℕ) (l : i < n) (r : base + n ≤ length map-room) (f : n ≤ length fresh) where
   one-more : (xs : List ℕ) (at : ℕ) → at + (n - i) ≤ length xs → take (n - i) (drop at xs) ≡ getD xs at 0 ∷ take (n - (i + 1)) (drop (at + 1) xs)
   one-more xs at h =
       let e : n - i ≡ suc (n - (i + 1)) = omega arith in
       let k : at < length xs = omega arith in
       rw (e, drop-cons xs at 0 k, add-one at)
 
-  ahead : sameNumbers (take (n - i) (drop (base + i) room)) (take (n - i) (drop i fresh))
-      ≡ (eqb (getD room (base + i) 0) (getD fresh i 0) && sameNumbers (take (n - (i + 1)) (drop (base + i + 1) room)) (take (n - (i + 1)) (drop (i + 1) fresh)))
+  ahead : sameNumbers (take (n - i) (drop (base + i) map-room)) (take (n - i) (drop i fresh))
+      ≡ (eqb (getD map-room (base + i) 0) (getD fresh i 0) && sameNumbers (take (n - (i + 1)) (drop (base + i + 1) map-room)) (take (n - (i + 1)) (drop (i + 1) fresh)))
   unfolding sameNumbers
-  ahead = rw (one-more room (base + i) (omega arith), one-more fresh i (omega arith))
+  ahead = rw (one-more map-room (base + i) (omega arith), one-more fresh i (omega arith))
 
-  pub same-next : getD room (base + i) 0 ≡ getD fresh i 0
-      → sameNumbers (take (n - i) (drop (base + i) room)) (take (n - i) (drop i fresh))
-      ≡ sameNumbers (take (n - (i + 1)) (drop (base + (i + 1)) room)) (take (n - (i + 1)) (drop (i + 1) fresh))
+  pub same-next : getD map-room (base + i) 0 ≡ getD fresh i 0
+      → sameNumbers (take (n - i) (drop (base + i) map-room)) (take (n - i) (drop i fresh))
+      ≡ sameNumbers (take (n - (i + 1)) (drop (base + (i + 1)) map-room)) (take (n - (i + 1)) (drop (i + 1) fresh))
   same-next q =
       let e : base + (i + 1) ≡ base + i + 1 = omega arith in
       rw (e, ahead, eq-eqb _ _ q)
 
-  pub same-not : (getD room (base + i) 0 ≡ getD fresh i 0 → ⊥) → sameNumbers (take (n - i) (drop (base + i) room)) (take (n - i) (drop i fresh)) ≡ false
+  pub same-not : (getD map-room (base + i) 0 ≡ getD fresh i 0 → ⊥) → sameNumbers (take (n - i) (drop (base + i) map-room)) (take (n - i) (drop i fresh)) ≡ false
   same-not q = ahead ∙ rw (ne-eqb _ _ q)
 
 -- ---- the numbers of assets
@@ -131,12 +131,12 @@ pub record Listing (b : Bytes) (at count : ℕ) (fresh : List ℕ) (from left n 
   pub reads : many count entry (drop at b) ≡ behind pre (many left entry (drop from b))
   pub numbers : take (2 * n) fresh ≡ assetNumbers (listed pre)
   pub few : n + left ≤ 255
-  pub room : length fresh ≡ 510
+  pub map-room : length fresh ≡ 510
 
 module _ (b : Bytes) (at count : ℕ) where
   pub list-start : (fresh : List ℕ) → count < 256 → length fresh ≡ 510 → Listing b at count fresh at count 0
   unfolding assetNumbers listed
-  list-start fresh h l = record { pre = []; reads = behind-nothing (many count entry (drop at b)); numbers = refl; few = omega arith; room = l }
+  list-start fresh h l = record { pre = []; reads = behind-nothing (many count entry (drop at b)); numbers = refl; few = omega arith; map-room = l }
 
   module _ (fresh : List ℕ) (from left n : ℕ) (i : Listing b at count fresh from left n) where
     pub list-next : (e : ℕ) (part : Part) (c : Carrier) (fresh′ : List ℕ) (r : ℕ) → 0 < left → AssetIs b from (Asset.Entry e part c)
@@ -149,7 +149,7 @@ module _ (b : Bytes) (at count : ℕ) where
           reads = i .reads ∙ rw (many-next entry (drop from b) left x (drop e b) h (a .2 .1)) (behind-one (i .pre) x (many (left - 1) entry (drop e b)));
           numbers = t ∙ ap₂ (λ (l : List ℕ) (k : Carrier). l ++ numbersOf k part) (i .numbers) (a .2 .2) ∙ sym (numbers-next (i .pre) x);
           few = omega (arith, i .few);
-          room = same;
+          map-room = same;
         }
 
     -- one that cannot be read
@@ -162,7 +162,7 @@ module _ (b : Bytes) (at count : ℕ) where
 
     list-count : n ≡ length (listed (i .pre))
     list-count =
-        let k : length (take (2 * n) fresh) ≡ 2 * n = length-take-le (2 * n) fresh (omega (arith, i .few, i .room)) in
+        let k : length (take (2 * n) fresh) ≡ 2 * n = length-take-le (2 * n) fresh (omega (arith, i .few, i .map-room)) in
         omega (arith, k, ap length (i .numbers), numbers-length (listed (i .pre)))
 
 module _ (b : Bytes) where
@@ -192,7 +192,7 @@ module _ (b : Bytes) where
 
 -- an extent with another count of maps, that is new or not
 abbrev after : Extent → ℕ → Bool → Extent
-after e m b = record { seen = e .seen; packages = e .packages; maps = m; fragments = e .fragments; lost = e .lost; changed = e .changed || b }
+after e m b = record { seen = e .seen; «package_count» = e .«package_count»; «map_count» = m; «fragment_count» = e .«fragment_count»; lost = e .lost; changed = e .changed || b }
 
 or-false : (a : Bool) → (a || false) ≡ a
 or-false true = refl
@@ -202,51 +202,51 @@ or-true : (a : Bool) → (a || true) ≡ true
 or-true true = refl
 or-true false = refl
 
-module _ (i p n : ℕ) (fresh : List ℕ) (e : Extent) (maps room : List ℕ) where
+module _ (i p n : ℕ) (fresh : List ℕ) (e : Extent) (map-heads map-room : List ℕ) where
   -- whether it is held
-  abbrev held : Bool
-  held = ltb i (e .maps) && (eqb (getD maps i 0) (p * 65536 + n) && sameNumbers (take (2 * n) (drop (512 * i) room)) (take (2 * n) fresh))
+  abbrev map-count : Bool
+  map-count = ltb i (e .«map_count») && (eqb (getD map-heads i 0) (p * 65536 + n) && sameNumbers (take (2 * n) (drop (512 * i) map-room)) (take (2 * n) fresh))
 
-  pub held-already : held ≡ true → 512 * i + 2 * n ≤ length room → HeadsAre i p n fresh e maps room e maps room
-  held-already h l =
-      let a = and-both (ltb i (e .maps)) _ h in
-      let b = and-both (eqb (getD maps i 0) (p * 65536 + n)) _ (a .1) in
-      let k : i < e .maps = ltb-true i (e .maps) (a .0) in
-      let m : max (e .maps) (i + 1) ≡ e .maps = omega arith in
+  pub listed-already : map-count ≡ true → 512 * i + 2 * n ≤ length map-room → HeadsAre i p n fresh e map-heads map-room e map-heads map-room
+  listed-already h l =
+      let a = and-both (ltb i (e .«map_count»)) _ h in
+      let b = and-both (eqb (getD map-heads i 0) (p * 65536 + n)) _ (a .1) in
+      let k : i < e .«map_count» = ltb-true i (e .«map_count») (a .0) in
+      let m : max (e .«map_count») (i + 1) ≡ e .«map_count» = omega arith in
       record {
-        maps-are = sym (ap (set maps i) (sym (eqb-true (getD maps i 0) (p * 65536 + n) (b .0))) ∙ set-getD maps i 0);
-        room-is = sym (ap (over room (512 * i)) (sym (same-equal _ _ (b .1))) ∙ over-self room (512 * i) (2 * n) l);
+        map-heads-are = sym (ap (set map-heads i) (sym (eqb-true (getD map-heads i 0) (p * 65536 + n) (b .0))) ∙ set-getD map-heads i 0);
+        map-room-is = sym (ap (over map-room (512 * i)) (sym (same-equal _ _ (b .1))) ∙ over-self map-room (512 * i) (2 * n) l);
         extent-is = rw (h, m, or-false (e .changed));
       }
 
-  pub held-now : held ≡ false → (m : ℕ) → m ≡ max (e .maps) (i + 1) → (room′ : List ℕ) → room′ ≡ over room (512 * i) (take (2 * n) fresh)
-      → HeadsAre i p n fresh e maps room (record { seen = e .seen; packages = e .packages; maps = m; fragments = e .fragments; lost = e .lost; changed = true }) (set maps i (p * 65536 + n)) room′
-  held-now h m q room′ r = record { maps-are = refl; room-is = r; extent-is = rw (h, q, or-true (e .changed)) }
+  pub listed-now : map-count ≡ false → (m : ℕ) → m ≡ max (e .«map_count») (i + 1) → (map-room′ : List ℕ) → map-room′ ≡ over map-room (512 * i) (take (2 * n) fresh)
+      → HeadsAre i p n fresh e map-heads map-room (record { seen = e .seen; «package_count» = e .«package_count»; «map_count» = m; «fragment_count» = e .«fragment_count»; lost = e .lost; changed = true }) (set map-heads i (p * 65536 + n)) map-room′
+  listed-now h m q map-room′ r = record { map-heads-are = refl; map-room-is = r; extent-is = rw (h, q, or-true (e .changed)) }
 
 -- ---- an MPT
 
-kept-list : (p : ℕ) (es : List Entry) (fresh : List ℕ) (e : Extent) (maps room : List ℕ) (ms : List (ℕ × ℕ)) → length es < 256 → placeFor p ms < 64 → KeptMaps ms (e .maps) maps
-    → take (2 * length (listed es)) fresh ≡ assetNumbers (listed es) → (r : Extent) (maps′ room′ : List ℕ)
-    → HeadsAre (placeFor p ms) p (length (listed es)) fresh e maps room r maps′ room′ → ListLearnt true p (listed es) ms e room r maps′ room′
+kept-list : (p : ℕ) (es : List Entry) (fresh : List ℕ) (e : Extent) (map-heads map-room : List ℕ) (ms : List (ℕ × ℕ)) → length es < 256 → placeFor p ms < 64 → KeptMaps ms (e .«map_count») map-heads
+    → take (2 * length (listed es)) fresh ≡ assetNumbers (listed es) → (r : Extent) (map-heads′ map-room′ : List ℕ)
+    → HeadsAre (placeFor p ms) p (length (listed es)) fresh e map-heads map-room r map-heads′ map-room′ → ListLearnt true p (listed es) ms e map-room r map-heads′ map-room′
 unfolding listNew
-kept-list p es fresh e maps room ms l h k t r maps′ room′ x =
+kept-list p es fresh e map-heads map-room ms l h k t r map-heads′ map-room′ x =
     let i : ℕ = placeFor p ms in
-    let m : r .maps ≡ max (e .maps) (i + 1) = ap (λ (z : Extent). z .maps) (x .extent-is) in
-    let new : not (held i p (length (listed es)) fresh e maps room) ≡ listNew p (listed es) ms room =
-    rw (k .pairs .are, k .pairs .count, t, held-same p 64 (listed es) (drop (512 * i) room) ms, lt-ltb i 64 h) in
-    (rw (m, x .maps-are) (maps-after p es ms (e .maps) maps l h k), x .room-is ∙ ap (over room (512 * i)) t, x .extent-is ∙ ap₂ (after e) (sym m) new)
+    let m : r .«map_count» ≡ max (e .«map_count») (i + 1) = ap (λ (z : Extent). z .«map_count») (x .extent-is) in
+    let new : not (map-count i p (length (listed es)) fresh e map-heads map-room) ≡ listNew p (listed es) ms map-room =
+    rw (k .pairs .are, k .pairs .count, t, listed-same p 64 (listed es) (drop (512 * i) map-room) ms, lt-ltb i 64 h) in
+    (rw (m, x .map-heads-are) (maps-after p es ms (e .«map_count») map-heads l h k), x .map-room-is ∙ ap (over map-room (512 * i)) t, x .extent-is ∙ ap₂ (after e) (sym m) new)
 
-module _ (b : Bytes) (p n i : ℕ) (fresh : List ℕ) (e : Extent) (maps room : List ℕ) (a : AssetsAre (mpt b) (End.At n) fresh)
-    (at : i ≡ placeFor p (pairsIn (e .maps) maps)) (ms : List (ℕ × ℕ)) (k : KeptMaps ms (e .maps) maps) where
+module _ (b : Bytes) (p n i : ℕ) (fresh : List ℕ) (e : Extent) (map-heads map-room : List ℕ) (a : AssetsAre (mpt b) (End.At n) fresh)
+    (at : i ≡ placeFor p (pairsIn (e .«map_count») map-heads)) (ms : List (ℕ × ℕ)) (k : KeptMaps ms (e .«map_count») map-heads) where
   place : i ≡ placeFor p ms
   place = at ∙ ap (placeFor p) (pairs-in (k .pairs))
 
-  pub list-lost : 64 ≤ i → MptLearnt p (mpt b) ms e room (lostOne e) maps room
+  pub list-lost : 64 ≤ i → MptLearnt p (mpt b) ms e map-room (lostOne e) map-heads map-room
   list-lost h = rw (a .1 .2, ← place, le-ltb i 64 h) (k, refl, refl)
 
-  pub list-kept : i < 64 → (r : Extent) (maps′ room′ : List ℕ) → HeadsAre i p n fresh e maps room r maps′ room′ → MptLearnt p (mpt b) ms e room r maps′ room′
-  list-kept h r maps′ room′ x =
+  pub list-kept : i < 64 → (r : Extent) (map-heads′ map-room′ : List ℕ) → HeadsAre i p n fresh e map-heads map-room r map-heads′ map-room′ → MptLearnt p (mpt b) ms e map-room r map-heads′ map-room′
+  list-kept h r map-heads′ map-room′ x =
       let g : placeFor p ms < 64 = omega (arith, place) in
       let few = mpt-split b (a .1 .0) (a .1 .1) (a .1 .2) .few in
       rw (a .1 .2, lt-ltb (placeFor p ms) 64 g)
-      (kept-list p (a .1 .0 .entries) fresh e maps room ms few g k (rw (a .1 .3) at (a .1 .4)) r maps′ room′ (rw (place, a .1 .3) at x))
+      (kept-list p (a .1 .0 .entries) fresh e map-heads map-room ms few g k (rw (a .1 .3) at (a .1 .4)) r map-heads′ map-room′ (rw (place, a .1 .3) at x))

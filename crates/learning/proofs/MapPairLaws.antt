@@ -1,5 +1,5 @@
 -- The array of map heads: a pair put at its identifier's place, how many there are then, and the head that stands there. Each goes by
--- the pairs, as `putHead` of meaning's Holds does; rests on that and on SoundLaws.
+-- the pairs, as `putHead` of meaning's SoundnessKept does; rests on that and on SoundnessLaws.
 use Prim.Native.Nat.{ℕ, zero, suc, max, _+_, _-_, _*_, _≤_, _<_}
 use mathlib.Core.Path.{_≡_, refl, sym, ap, _∙_}
 use mathlib.Core.Bool.{Bool, true, false, cond, _&&_}
@@ -13,8 +13,8 @@ use borrow.Author.Tests.{eqb-true, eqb-false, eq-eqb, ne-eqb, lt-ltb}
 use Rattle.meaning.specs.Tables.{Entry}
 use Rattle.meaning.specs.Learn.{Listed, assetNumbers, placeFor, listed}
 use Rattle.meaning.specs.Record.{slots, packPair}
-use Rattle.meaning.proofs.Holds.{putHead, put-is, maps-hold-after}
-use Rattle.meaning.proofs.SoundLaws.{maps-back}
+use Rattle.meaning.proofs.SoundnessKept.{putHead, put-is, maps-hold-after}
+use Rattle.meaning.proofs.SoundnessLaws.{maps-back}
 use Rattle.learning.specs.Kept.{KeptMaps}
 use Rattle.learning.specs.News.{sameNumbers, countAt, sameList}
 
@@ -59,12 +59,12 @@ module _ (p n : ℕ) where
       go false e = ne-eqb (a * 65536 + k) (p * 65536 + n) (λ (z : a * 65536 + k ≡ p * 65536 + n). let w : k ≡ n = omega arith in eqb-false k n e w)
 
 -- whether p's list stands there with the same head and numbers
-pub held-same : (p N : ℕ) (as′ : Listed) (ns : List ℕ) (ms : List (ℕ × ℕ))
+pub listed-same : (p N : ℕ) (as′ : Listed) (ns : List ℕ) (ms : List (ℕ × ℕ))
     → (ltb (placeFor p ms) (length ms) && (eqb (getD (slots N (map packPair ms)) (placeFor p ms) 0) (p * 65536 + length as′) && sameNumbers (take (2 * length as′) ns) (assetNumbers as′)))
     ≡ sameList (countAt (placeFor p ms) ms) as′ ns
 unfolding slots packPair placeFor countAt
-held-same p N as′ ns [] = refl
-held-same p N as′ ns (m ∷ ms) = go (eqb (m .0) p) refl (held-same p (N - 1) as′ ns ms)
+listed-same p N as′ ns [] = refl
+listed-same p N as′ ns (m ∷ ms) = go (eqb (m .0) p) refl (listed-same p (N - 1) as′ ns ms)
   where
     s : Bool
     s = sameNumbers (take (2 * length as′) ns) (assetNumbers as′)

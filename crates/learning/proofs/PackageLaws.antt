@@ -1,4 +1,4 @@
--- The packages of a PLT as `packages` reads and keeps them: the place of a service, an insertion there, the loop over the packages, whose
+-- The packages of a PLT as `packages` reads and keeps them: the slot of a service, an insertion there, the loop over the packages, whose
 -- invariant is `Sofar`, and what is told as changed. Rests on PairLaws, on the readers at an offset, and on what a PLT's packages hold to.
 use Prim.Native.Nat.{ℕ, suc, _+_, _-_, _*_, _/_, _%_, _≤_, _<_}
 use mathlib.Core.Path.{_≡_, refl, sym, ap, ap₂, _∙_}
@@ -25,24 +25,24 @@ use Rattle.tables.specs.declared.locations.Carrier.{Carrier}
 use Rattle.tables.specs.declared.packages.Named.{Named}
 use Rattle.tables.specs.declared.packages.Package as read
 use Rattle.meaning.proofs.ListLaws.{clash, and-both, and-true, or-right}
-use Rattle.meaning.proofs.Holds.{plt-holds}
+use Rattle.meaning.proofs.SoundnessKept.{plt-holds}
 use Rattle.learning.specs.Kept.{pairsIn, Pairs, KeptPackages}
 use Rattle.learning.specs.News.{sameNumbers, samePairs}
 use Rattle.learning.specs.Learnt.{before, taken, PackagesAre, PltLearnt}
 use Rattle.learning.specs.declared.Extent.{Extent}
 use Rattle.learning.proofs.PairLaws.{same-refl, same-true, pairs-refl, pairs-true, pairs-as, pairs-in, first-in, in-length, first-at, pairs-put, pairs-insert}
 
--- ---- the place of a service, searched from the front
+-- ---- the slot of a service, searched from the front
 
 -- The first i of n pairs come before the service.
-abbrev pub Passed : ℕ → ℕ → List ℕ → ℕ → Type 0
-Passed s n xs i = (i ≤ n) × (before s (pairsIn n xs) ≡ i + before s (drop i (pairsIn n xs)))
+abbrev pub PassedBy : ℕ → ℕ → List ℕ → ℕ → Type 0
+PassedBy s n xs i = (i ≤ n) × (before s (pairsIn n xs) ≡ i + before s (drop i (pairsIn n xs)))
 
 module _ (s n : ℕ) (xs : List ℕ) (in-xs : n ≤ length xs) where
-  pub passed-none : Passed s n xs 0
+  pub passed-none : PassedBy s n xs 0
   passed-none = (omega arith, omega arith)
 
-  module _ (i : ℕ) (k : Passed s n xs i) where
+  module _ (i : ℕ) (k : PassedBy s n xs i) where
     next : i < n → drop i (pairsIn n xs) ≡ getD (pairsIn n xs) i (0, 0) ∷ drop (i + 1) (pairsIn n xs)
     next h = rw (add-one i) (drop-cons (pairsIn n xs) i (0, 0) (omega (arith, in-length n xs in-xs)))
 
@@ -54,7 +54,7 @@ module _ (s n : ℕ) (xs : List ℕ) (in-xs : n ≤ length xs) where
         (omega arith, omega arith)
 
     -- one more
-    pub passed-next : i < n → getD xs i 0 / 65536 < s → Passed s n xs (i + 1)
+    pub passed-next : i < n → getD xs i 0 / 65536 < s → PassedBy s n xs (i + 1)
     unfolding before
     passed-next h l =
         let z : before s (drop i (pairsIn n xs)) ≡ suc (before s (drop (i + 1) (pairsIn n xs))) = rw (next h, first-in n xs i h, lt-ltb (getD xs i 0 / 65536) s l) in
@@ -68,7 +68,7 @@ module _ (s n : ℕ) (xs : List ℕ) (in-xs : n ≤ length xs) where
         let z : before s (drop i (pairsIn n xs)) ≡ 0 = rw (drop-of-length-le (pairsIn n xs) l) in
         (omega arith, omega arith)
 
--- ---- an insertion by its place
+-- ---- an insertion by its slot
 
 module _ (s p : ℕ) where
   pub insert-over : (ps : List (ℕ × ℕ)) → before s ps < length ps → getD ps (before s ps) (0, 0) .0 ≡ s
@@ -104,7 +104,7 @@ module _ (s p : ℕ) where
           let n : q .0 ≡ s → ⊥ = d (omega arith) in
           rw (lt-ltb s (q .0) (lt-of-le-ne l (λ e. n (sym e))))
 
--- a package, as one number, in its place
+-- a package, as one number, in its slot
 abbrev both : ℕ → ℕ × ℕ
 both p = (p / 65536, p % 65536)
 
@@ -113,13 +113,13 @@ unfolding packPair
 whole p = omega arith
 
 module _ (N p n at : ℕ) (xs : List ℕ) (place : at ≡ before (p / 65536) (pairsIn n xs)) where
-  place-in : {ps : List (ℕ × ℕ)} → Pairs N ps n xs → at ≡ before (p / 65536) ps
-  place-in k = place ∙ ap (before (p / 65536)) (pairs-in k)
+  slot-for : {ps : List (ℕ × ℕ)} → Pairs N ps n xs → at ≡ before (p / 65536) ps
+  slot-for k = place ∙ ap (before (p / 65536)) (pairs-in k)
 
   -- its service was there
   pub added-over : at < n → getD xs at 0 / 65536 ≡ p / 65536 → (ps : List (ℕ × ℕ)) → Pairs N ps n xs → Pairs N (insertPackage (p / 65536) (p % 65536) ps) n (set xs at p)
   added-over h e ps k =
-      let q = place-in k in
+      let q = slot-for k in
       let l : at < length ps = omega (arith, k .count) in
       pairs-as (pairs-put k (both p) (omega arith) at (omega arith) (omega (arith, k .few)))
       (rw q (insert-over (p / 65536) (p % 65536) ps (rw q at l) (rw q at (first-at k at h ∙ e)))) (omega arith) (ap (set xs at) (whole p))
@@ -128,7 +128,7 @@ module _ (N p n at : ℕ) (xs : List ℕ) (place : at ≡ before (p / 65536) (pa
   pub added-new : at ≤ n → n < N → (at < n → getD xs at 0 / 65536 ≡ p / 65536 → ⊥) → (ys : List ℕ) → ys ≡ take (at + 1) xs ++ (take (n - at) (drop at xs) ++ drop (n + 1) xs)
       → (ps : List (ℕ × ℕ)) → Pairs N ps n xs → Pairs N (insertPackage (p / 65536) (p % 65536) ps) (n + 1) (set ys at p)
   added-new h f d ys w ps k =
-      let q = place-in k in
+      let q = slot-for k in
       let other : at < length ps → getD ps at (0, 0) .0 ≡ p / 65536 → ⊥ = λ l e. let m : at < n = omega (arith, k .count) in d m (sym (first-at k at m) ∙ e) in
       pairs-as (pairs-insert k (both p) (omega arith) at h f ys w) (rw q (insert-new (p / 65536) (p % 65536) ps (rw q at other))) refl (ap (set ys at) (whole p))
 
@@ -144,10 +144,10 @@ taken-is none q ps = refl
 taken-is (some s) none ps = refl
 taken-is (some s) (some p) ps = refl
 
-packages-more : (pre : List Package) (x : Package) (ps : List (ℕ × ℕ)) → packagesIn (pre ++ x ∷ []) ps ≡ addPackage (serviceOf (x .name)) (x .place) (packagesIn pre ps)
+packages-more : (pre : List Package) (x : Package) (ps : List (ℕ × ℕ)) → packagesIn (pre ++ x ∷ []) ps ≡ addPackage (serviceOf (x .name)) (x .carrier) (packagesIn pre ps)
 unfolding packagesIn
 packages-more [] x ps = refl
-packages-more (y ∷ pre) x ps = packages-more pre x (addPackage (serviceOf (y .name)) (y .place) ps)
+packages-more (y ∷ pre) x ps = packages-more pre x (addPackage (serviceOf (y .name)) (y .carrier) ps)
 
 -- no count
 pub plt-none : (b : Bytes) → length b ≡ 0 → plt b ≡ none
@@ -181,7 +181,7 @@ module _ (b : Bytes) where
     pub turn : (e : ℕ) (name : Named) (c : Carrier) → 0 < left → PackageIs b from (read.Package.Entry e name c) → (m : ℕ) (ys : List ℕ)
         → ((ps : List (ℕ × ℕ)) → Pairs 255 ps n xs → Pairs 255 (taken name c ps) m ys) → m ≤ n + 1 → Sofar b (left - 1) e m ys
     turn e name c h p m ys k l =
-        let row : Package = record { name = p .2 .0; place = p .2 .1; bytes-of = take (e - from) (drop from b) } in
+        let row : Package = record { name = p .2 .0; carrier = p .2 .1; bytes-of = take (e - from) (drop from b) } in
         let ps = packagesIn (i .pre) [] in
         record {
           pre = i .pre ++ row ∷ [];
@@ -203,18 +203,18 @@ or-nothing : (a : Bool) → a ≡ (a || false)
 or-nothing true = refl
 or-nothing false = refl
 
-extent-is : (e : Extent) (s : Bool) (n : ℕ) (c : Bool) → e .seen ≡ s → e .packages ≡ n → e .changed ≡ c
-    → e ≡ record { seen = s; packages = n; maps = e .maps; fragments = e .fragments; lost = e .lost; changed = c }
-extent-is e s n c p q r = λ i. record { seen = p i; packages = q i; maps = e .maps; fragments = e .fragments; lost = e .lost; changed = r i }
+extent-is : (e : Extent) (s : Bool) (n : ℕ) (c : Bool) → e .seen ≡ s → e .«package_count» ≡ n → e .changed ≡ c
+    → e ≡ record { seen = s; «package_count» = n; «map_count» = e .«map_count»; «fragment_count» = e .«fragment_count»; lost = e .lost; changed = c }
+extent-is e s n c p q r = λ i. record { seen = p i; «package_count» = q i; «map_count» = e .«map_count»; «fragment_count» = e .«fragment_count»; lost = e .lost; changed = r i }
 
-module _ (b : Bytes) (e : Extent) (ps : List (ℕ × ℕ)) (xs : List ℕ) (k : KeptPackages ps (e .packages) xs) where
+module _ (b : Bytes) (e : Extent) (ps : List (ℕ × ℕ)) (xs : List ℕ) (k : KeptPackages ps (e .«package_count») xs) where
   -- it cannot be read
   pub plt-unread : plt b ≡ none → PltLearnt (plt b) ps e e xs
   plt-unread h = rw h (refl, k)
 
   module _ (n : ℕ) (fresh : List ℕ) (r : PackagesAre (plt b) (End.At n) fresh) where
     abbrev known : Bool
-    known = e .seen && (eqb (e .packages) n && sameNumbers (take n fresh) (take n xs))
+    known = e .seen && (eqb (e .«package_count») n && sameNumbers (take n fresh) (take n xs))
 
     abbrev found : List (ℕ × ℕ)
     found = packagesIn (r .0) []
@@ -222,12 +222,12 @@ module _ (b : Bytes) (e : Extent) (ps : List (ℕ × ℕ)) (xs : List ℕ) (k : 
     -- they are known
     pub plt-known : known ≡ true → PltLearnt (plt b) ps e e xs
     plt-known h =
-        let u = and-both (e .seen) (eqb (e .packages) n && sameNumbers (take n fresh) (take n xs)) h in
-        let v = and-both (eqb (e .packages) n) (sameNumbers (take n fresh) (take n xs)) (u .1) in
-        let count : e .packages ≡ n = eqb-true (e .packages) n (v .0) in
+        let u = and-both (e .seen) (eqb (e .«package_count») n && sameNumbers (take n fresh) (take n xs)) h in
+        let v = and-both (eqb (e .«package_count») n) (sameNumbers (take n fresh) (take n xs)) (u .1) in
+        let count : e .«package_count» ≡ n = eqb-true (e .«package_count») n (v .0) in
         let same : ps ≡ found =
         sym (pairs-in (k .pairs)) ∙ ap (λ (m : ℕ). pairsIn m xs) count ∙ ap (map pairOf) (sym (same-true (take n fresh) (take n xs) (v .1))) ∙ pairs-in (r .3) in
-        let kept : KeptPackages found (e .packages) xs = rw same at k in
+        let kept : KeptPackages found (e .«package_count») xs = rw same at k in
         let told : e .changed ≡ (e .changed || not (e .seen && samePairs ps found)) = rw (u .0, same, pairs-refl found) (or-nothing (e .changed)) in
         rw (r .2) (kept, extent-is e true (length found) (e .changed || not (e .seen && samePairs ps found)) (u .0) (kept .pairs .count) told)
 
@@ -240,18 +240,18 @@ module _ (b : Bytes) (e : Extent) (ps : List (ℕ × ℕ)) (xs : List ℕ) (k : 
         go true q =
             let u = and-both (e .seen) (samePairs ps found) q in
             let same : ps ≡ found = pairs-true ps found (u .1) in
-            let count : e .packages ≡ n = k .pairs .count ∙ ap length same ∙ sym (r .3 .count) in
+            let count : e .«package_count» ≡ n = k .pairs .count ∙ ap length same ∙ sym (r .3 .count) in
             let are : fresh ≡ xs = r .3 .are ∙ ap (λ (z : List (ℕ × ℕ)). slots 255 (map packPair z)) (sym same) ∙ sym (k .pairs .are) in
             let t : sameNumbers (take n fresh) (take n xs) ≡ true = rw are (same-refl (take n xs)) in
-            let z : known ≡ true = and-true (e .seen) (eqb (e .packages) n && sameNumbers (take n fresh) (take n xs)) (u .0) (and-true (eqb (e .packages) n) (sameNumbers (take n fresh) (take n xs)) (eq-eqb (e .packages) n count) t) in
+            let z : known ≡ true = and-true (e .seen) (eqb (e .«package_count») n && sameNumbers (take n fresh) (take n xs)) (u .0) (and-true (eqb (e .«package_count») n) (sameNumbers (take n fresh) (take n xs)) (eq-eqb (e .«package_count») n count) t) in
             clash (cc (z, h))
 
     -- they are not
-    pub plt-new : known ≡ false → PltLearnt (plt b) ps e (record { seen = true; packages = n; maps = e .maps; fragments = e .fragments; lost = e .lost; changed = true }) fresh
+    pub plt-new : known ≡ false → PltLearnt (plt b) ps e (record { seen = true; «package_count» = n; «map_count» = e .«map_count»; «fragment_count» = e .«fragment_count»; lost = e .lost; changed = true }) fresh
     plt-new h =
         let told : true ≡ (e .changed || not (e .seen && samePairs ps found)) = sym (or-right (e .changed) (not (e .seen && samePairs ps found)) (rw (new h))) in
         rw (r .2) (
           record { pairs = r .3; hold = plt-holds b (r .0) (r .1) (r .2) },
-          extent-is (record { seen = true; packages = n; maps = e .maps; fragments = e .fragments; lost = e .lost; changed = true }) true (length found)
+          extent-is (record { seen = true; «package_count» = n; «map_count» = e .«map_count»; «fragment_count» = e .«fragment_count»; lost = e .lost; changed = true }) true (length found)
               (e .changed || not (e .seen && samePairs ps found)) refl (r .3 .count) told,
         )

@@ -12,7 +12,7 @@ use lib.Seq.{length-take-le, take-append-le, take-set-lt, take-suc-set, set-spli
 use lib.Dec.{eqb}
 use borrow.Author.Tests.{eq-eqb, eqb-true}
 use Rattle.meaning.specs.Record.{slots, packPair, pairOf}
-use Rattle.meaning.proofs.SoundLaws.{slots-used, used, pair-pack}
+use Rattle.meaning.proofs.SoundnessLaws.{slots-used, used, pair-pack}
 use Rattle.meaning.proofs.ListLaws.{clash, and-both}
 use Rattle.learning.specs.Kept.{pairsIn, Pairs}
 use Rattle.learning.specs.News.{sameNumbers, samePairs}
@@ -48,20 +48,20 @@ slots-append as′ ms M N e =
     sym (append-assoc as′ ms (replicate (M - length ms) 0)) ∙ ap (λ (z : ℕ). (as′ ++ ms) ++ replicate z 0) k
 
 module _ (N : ℕ) (ms : List ℕ) (few : length ms ≤ N) (i : ℕ) (in-ms : i ≤ length ms) (v : ℕ) where
-  -- what stands before a place, then v, then a list in the slots behind it
+  -- what stands before a slot, then v, then a list in the slots behind it
   front : (M : ℕ) (ns : List ℕ) → N ≡ i + suc M → take i ms ++ v ∷ slots M ns ≡ slots N (take i ms ++ v ∷ ns)
   front M ns e =
       let l : length (take i ms) ≡ i = length-take-le i ms in-ms in
       ap (λ (z : List ℕ). take i ms ++ z) (slots-append (v ∷ []) ns M (suc M) (omega arith)) ∙ slots-append (take i ms) (v ∷ ns) (suc M) N (omega arith)
 
-  -- one in the place of another, or behind the last
+  -- one in the slot of another, or behind the last
   pub slots-put : i < N → set (slots N ms) i v ≡ slots N (take i ms ++ v ∷ drop (suc i) ms)
   slots-put h =
       set-split (slots N ms) i v (omega (arith, slots-length N ms few))
       ∙ ap₂ (λ (a b : List ℕ). a ++ v ∷ b) (slots-take i N ms in-ms) (slots-drop (suc i) N ms)
       ∙ front (N - suc i) (drop (suc i) ms) (omega arith)
 
-  -- one between two, with those from the place on moved up
+  -- one between two, with those from the slot on moved up
   pub slots-insert : length ms < N
       → take i (slots N ms) ++ v ∷ (take (length ms - i) (drop i (slots N ms)) ++ drop (length ms + 1) (slots N ms)) ≡ slots N (take i ms ++ v ∷ drop i ms)
   slots-insert h =
@@ -75,7 +75,7 @@ module _ (N : ℕ) (ms : List ℕ) (few : length ms ≤ N) (i : ℕ) (in-ms : i 
       ap₂ (λ (a b : List ℕ). a ++ v ∷ b) (slots-take i N ms in-ms) (ap₂ (λ (a b : List ℕ). a ++ b) middle rest ∙ join)
       ∙ front (N - suc i) (drop i ms) (omega arith)
 
--- a place opened at i takes what is written there
+-- a slot opened at i takes what is written there
 open-put : (xs r : List ℕ) (i v : ℕ) → i < length xs → set (take (i + 1) xs ++ r) i v ≡ take i xs ++ v ∷ r
 open-put xs r i v h =
     let k : i < length (take (suc i) xs) = omega (arith, length-take-le (suc i) xs h) in
@@ -84,7 +84,7 @@ open-put xs r i v h =
     ∙ ap (λ (z : List ℕ). z ++ r) (sym (take-set-lt (suc i) xs i v (omega arith)) ∙ take-suc-set xs i v h)
     ∙ append-snoc (take i xs) v r)
 
--- A place is opened at `at` one at a time, from above: those from i on are moved.
+-- A slot is opened at `at` one at a time, from above: those from i on are moved.
 pub record Opened (d : List ℕ) (n at : ℕ) (e : List ℕ) (i : ℕ) : Type 0 where
   pub above : at ≤ i
   pub within : i ≤ n
@@ -188,7 +188,7 @@ module _ {N : ℕ} {ps : List (ℕ × ℕ)} {n : ℕ} {xs : List ℕ} (k : Pairs
     packed-in : i ≤ length (map packPair ps)
     packed-in = omega (arith, length-map ps packPair, k .count)
 
-    -- in the place of another, or behind the last
+    -- in the slot of another, or behind the last
     pub pairs-put : i < N → Pairs N (take i ps ++ x ∷ drop (suc i) ps) (max n (i + 1)) (set xs i (packPair x))
     pairs-put h =
         record {
@@ -230,7 +230,7 @@ same-true (x ∷ xs) (y ∷ ys) e =
     let h = and-both (eqb x y) (sameNumbers xs ys) e in
     ap₂ (λ (z : ℕ) (l : List ℕ). z ∷ l) (eqb-true x y (h .0)) (same-true xs ys (h .1))
 
--- two that differ at a place
+-- two that differ at a slot
 pub same-not : (xs ys : List ℕ) (n i : ℕ) → i < n → (getD xs i 0 ≡ getD ys i 0 → ⊥) → sameNumbers (take n xs) (take n ys) ≡ false
 same-not xs ys n i h d = go (sameNumbers (take n xs) (take n ys)) refl
   where

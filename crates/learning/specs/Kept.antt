@@ -6,7 +6,7 @@ use mathlib.Core.List.{List, map}
 use lib.ListN.{length, take}
 use Rattle.meaning.specs.Learn.{Known}
 use Rattle.meaning.specs.Record.{slots, packPair, pairOf}
-use Rattle.meaning.specs.Sound.{HoldsPackages, HoldsMaps}
+use Rattle.meaning.specs.Soundness.{HoldsPackages, HoldsMaps}
 use Rattle.learning.specs.declared.Extent.{Extent}
 
 -- The pairs in the first n slots.
@@ -29,11 +29,11 @@ pub record KeptMaps (ms : List (ℕ × ℕ)) (n : ℕ) (xs : List ℕ) : Type 0 
   pub hold : HoldsMaps ms
 
 -- What is known of tables and messages: all but the fragments.
-pub record Keeps (k : Known) (e : Extent) (carousels packages maps room : List ℕ) : Type 0 where
+pub record Keeps (k : Known) (e : Extent) (data-set packages map-heads map-room : List ℕ) : Type 0 where
   pub seen : e .seen ≡ k .plt-seen
-  pub packages-kept : KeptPackages (k .packages) (e .packages) packages
-  pub maps-kept : KeptMaps (k .maps) (e .maps) maps
-  pub carousels-are : carousels ≡ k .carousels
-  pub carousels-all : length carousels ≡ 1024
-  pub room-is : room ≡ k .room
-  pub room-all : length room ≡ 32768
+  pub packages-kept : KeptPackages (k .packages) (e .«package_count») packages
+  pub maps-kept : KeptMaps (k .map-heads) (e .«map_count») map-heads
+  pub data-set-is : data-set ≡ k .data-set
+  pub data-set-all : length data-set ≡ 1024
+  pub map-room-is : map-room ≡ k .map-room
+  pub map-room-all : length map-room ≡ 32768

@@ -8,8 +8,8 @@ use lib.ListN.{length, take, drop, getD, set}
 use lib.Dec.{ltb, eqb}
 use Rattle.meaning.specs.Bytes.{Bytes}
 use Rattle.meaning.specs.Readers.{Out}
-use Rattle.meaning.specs.Tables.{Mpt, Package}
-use Rattle.meaning.specs.Learn.{Listed, kindNumber, assetNumbers, over, placeFor, listed, insertPackage, packagesIn}
+use Rattle.meaning.specs.Tables.{Mpt, Package, kindNumber}
+use Rattle.meaning.specs.Learn.{Listed, assetNumbers, over, placeFor, listed, insertPackage, packagesIn}
 use Rattle.meaning.specs.declared.Part.{Part}
 use Rattle.tables.specs.declared.fields.End.{End}
 use Rattle.tables.specs.declared.locations.Carrier.{Carrier}
@@ -38,14 +38,14 @@ PackagesAre o End.Nothing xs = o ≡ none
 
 -- What a PLT makes of the extent and of the packages.
 abbrev pub PltLearnt : Out (List Package) → List (ℕ × ℕ) → Extent → Extent → List ℕ → Type 0
-PltLearnt none ps e r xs = (r ≡ e) × KeptPackages ps (e .packages) xs
+PltLearnt none ps e r xs = (r ≡ e) × KeptPackages ps (e .«package_count») xs
 PltLearnt (some (ys, more)) ps e r xs =
-    KeptPackages (packagesIn ys []) (r .packages) xs
+    KeptPackages (packagesIn ys []) (r .«package_count») xs
     × (r ≡ record {
       seen = true;
-      packages = length (packagesIn ys []);
-      maps = e .maps;
-      fragments = e .fragments;
+      «package_count» = length (packagesIn ys []);
+      «map_count» = e .«map_count»;
+      «fragment_count» = e .«fragment_count»;
       lost = e .lost;
       changed = e .changed || packagesNew (some (ys, more)) (e .seen) ps;
     })
@@ -64,36 +64,36 @@ numbersOf Carrier.Nowhere part = []
 numbersOf (Carrier.By p) part = p ∷ kindNumber part ∷ []
 
 -- A list of n assets at place i: its head, its numbers, and how many lists there are then. Held already, it changes nothing.
-pub record HeadsAre (i p n : ℕ) (fresh : List ℕ) (e : Extent) (maps room : List ℕ) (r : Extent) (maps′ room′ : List ℕ) : Type 0 where
-  pub maps-are : maps′ ≡ set maps i (p * 65536 + n)
-  pub room-is : room′ ≡ over room (512 * i) (take (2 * n) fresh)
+pub record HeadsAre (i p n : ℕ) (fresh : List ℕ) (e : Extent) (map-heads map-room : List ℕ) (r : Extent) (map-heads′ map-room′ : List ℕ) : Type 0 where
+  pub map-heads-are : map-heads′ ≡ set map-heads i (p * 65536 + n)
+  pub map-room-is : map-room′ ≡ over map-room (512 * i) (take (2 * n) fresh)
   pub extent-is : r ≡ record {
     seen = e .seen;
-    packages = e .packages;
-    maps = max (e .maps) (i + 1);
-    fragments = e .fragments;
+    «package_count» = e .«package_count»;
+    «map_count» = max (e .«map_count») (i + 1);
+    «fragment_count» = e .«fragment_count»;
     lost = e .lost;
-    changed = e .changed || not (ltb i (e .maps) && (eqb (getD maps i 0) (p * 65536 + n) && sameNumbers (take (2 * n) (drop (512 * i) room)) (take (2 * n) fresh)));
+    changed = e .changed || not (ltb i (e .«map_count») && (eqb (getD map-heads i 0) (p * 65536 + n) && sameNumbers (take (2 * n) (drop (512 * i) map-room)) (take (2 * n) fresh)));
   }
 
 abbrev pub lostOne : Extent → Extent
-lostOne e = record { seen = e .seen; packages = e .packages; maps = e .maps; fragments = e .fragments; lost = e .lost + 1; changed = e .changed }
+lostOne e = record { seen = e .seen; «package_count» = e .«package_count»; «map_count» = e .«map_count»; «fragment_count» = e .«fragment_count»; lost = e .lost + 1; changed = e .changed }
 
 -- Whether there is a place for it: its list takes the place, or it is lost.
 abbrev pub ListLearnt : Bool → ℕ → Listed → List (ℕ × ℕ) → Extent → List ℕ → Extent → List ℕ → List ℕ → Type 0
-ListLearnt true p as′ ms e room r xs room′ =
-    KeptMaps (take (placeFor p ms) ms ++ ((p, length as′) ∷ drop (suc (placeFor p ms)) ms)) (r .maps) xs
-    × (room′ ≡ over room (512 * placeFor p ms) (assetNumbers as′))
+ListLearnt true p as′ ms e map-room r xs map-room′ =
+    KeptMaps (take (placeFor p ms) ms ++ ((p, length as′) ∷ drop (suc (placeFor p ms)) ms)) (r .«map_count») xs
+    × (map-room′ ≡ over map-room (512 * placeFor p ms) (assetNumbers as′))
     × (r ≡ record {
       seen = e .seen;
-      packages = e .packages;
-      maps = r .maps;
-      fragments = e .fragments;
+      «package_count» = e .«package_count»;
+      «map_count» = r .«map_count»;
+      «fragment_count» = e .«fragment_count»;
       lost = e .lost;
-      changed = e .changed || listNew p as′ ms room;
+      changed = e .changed || listNew p as′ ms map-room;
     })
-ListLearnt false p as′ ms e room r xs room′ = KeptMaps ms (e .maps) xs × (room′ ≡ room) × (r ≡ lostOne e)
+ListLearnt false p as′ ms e map-room r xs map-room′ = KeptMaps ms (e .«map_count») xs × (map-room′ ≡ map-room) × (r ≡ lostOne e)
 
 abbrev pub MptLearnt : ℕ → Out Mpt → List (ℕ × ℕ) → Extent → List ℕ → Extent → List ℕ → List ℕ → Type 0
-MptLearnt p none ms e room r xs room′ = KeptMaps ms (e .maps) xs × (room′ ≡ room) × (r ≡ e)
-MptLearnt p (some (m, more)) ms e room r xs room′ = ListLearnt (ltb (placeFor p ms) 64) p (listed (m .entries)) ms e room r xs room′
+MptLearnt p none ms e map-room r xs map-room′ = KeptMaps ms (e .«map_count») xs × (map-room′ ≡ map-room) × (r ≡ e)
+MptLearnt p (some (m, more)) ms e map-room r xs map-room′ = ListLearnt (ltb (placeFor p ms) 64) p (listed (m .entries)) ms e map-room r xs map-room′

@@ -39,6 +39,6 @@ sameList (some n) as′ ns = eqb n (length as′) && sameNumbers (take (2 * leng
 -- A list for a new identifier, or another one; not one that is lost.
 unfoldable pub listNew : ℕ → Listed → List (ℕ × ℕ) → List ℕ → Bool
 unfolding sameNumbers placeFor countAt assetNumbers
-listNew p as′ ms room =
+listNew p as′ ms map-room =
     let i = placeFor p ms in
-    ltb i 64 && not (sameList (countAt i ms) as′ (drop (512 * i) room))
+    ltb i 64 && not (sameList (countAt i ms) as′ (drop (512 * i) map-room))

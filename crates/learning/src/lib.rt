@@ -2,12 +2,12 @@
 pub mod lists;
 pub mod packages;
 
-// How much is known, how many maps were lost on the way, and whether anything changed.
+// How much is known: how many packages, maps and fragments there are. How many maps were lost on the way, and whether anything changed.
 pub struct Extent {
     pub seen: bool,
-    pub packages: usize,
-    pub maps: usize,
-    pub fragments: usize,
+    pub package_count: usize,
+    pub map_count: usize,
+    pub fragment_count: usize,
     pub lost: usize,
     pub changed: bool,
 }

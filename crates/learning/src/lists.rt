@@ -5,8 +5,8 @@ ghost use mathlib.Core.Bool.{_&&_};
 ghost use lib.Dec.{ltb, eqb};
 ghost use mathlib.Core.List.{List, _++_};
 ghost use lib.ListN.{length, take, drop, getD};
-ghost use Rattle.meaning.specs.Tables.{mpt};
-ghost use Rattle.meaning.specs.Learn.{kindNumber, over, placeFor};
+ghost use Rattle.meaning.specs.Tables.{mpt, kindNumber};
+ghost use Rattle.meaning.specs.Learn.{over, placeFor};
 ghost use Rattle.learning.specs.Kept.{pairsIn, KeptMaps};
 ghost use Rattle.learning.specs.News.{sameNumbers};
 ghost use Rattle.learning.specs.Learnt.{numbersOf, AssetsAre, HeadsAre, MptLearnt};
@@ -20,14 +20,14 @@ use tables::fields::End;
 use tables::locations::Carrier;
 
 // The place of an identifier's list among the first `n`: where it stands, or `n`.
-pub fn place_for(maps: &[u32; 64], n: usize, id: u16) -> usize
-    requires { ⌜ (n ≤ 64) × (length (now maps) ≡ 64) ⌝ }
-    ensures { λ r. ⌜ (r ≡ placeFor id (pairsIn n (now (maps .entry)))) × (r ≤ n) ⌝ }
+pub fn place_for(map_heads: &[u32; 64], n: usize, id: u16) -> usize
+    requires { ⌜ (n ≤ 64) × (length (now «map_heads») ≡ 64) ⌝ }
+    ensures { λ r. ⌜ (r ≡ placeFor id (pairsIn n (now («map_heads» .entry)))) × (r ≤ n) ⌝ }
 {
     let p = id as u32;
     let mut i: usize = 0;
     while i < n {
-        if maps[i] / 65536 == p {
+        if map_heads[i] / 65536 == p {
             return i;
         }
         i += 1;
@@ -84,13 +84,13 @@ fn assets_of(b: &[u8], fresh: &mut [u16; 510]) -> End
 }
 
 // Whether the first `n` numbers are those of the map room from `base` on.
-fn same_list(fresh: &[u16; 510], n: usize, room: &[u16], base: usize) -> bool
-    requires { ⌜ (n ≤ 510) × (length (now fresh) ≡ 510) × (base + n ≤ length (now room)) ⌝ }
-    ensures { λ r. ⌜ r ≡ sameNumbers (take n (drop base (now (room .entry)))) (take n (now (fresh .entry))) ⌝ }
+fn same_list(fresh: &[u16; 510], n: usize, map_room: &[u16], base: usize) -> bool
+    requires { ⌜ (n ≤ 510) × (length (now fresh) ≡ 510) × (base + n ≤ length (now «map_room»)) ⌝ }
+    ensures { λ r. ⌜ r ≡ sameNumbers (take n (drop base (now («map_room» .entry)))) (take n (now (fresh .entry))) ⌝ }
 {
     let mut i: usize = 0;
     while i < n {
-        if room[base + i] != fresh[i] {
+        if map_room[base + i] != fresh[i] {
             return false;
         }
         i += 1;
@@ -99,37 +99,37 @@ fn same_list(fresh: &[u16; 510], n: usize, room: &[u16], base: usize) -> bool
 }
 
 // Writes the first `n` numbers to the map room from `base` on.
-fn list_to(fresh: &[u16; 510], n: usize, room: &mut [u16], base: usize)
-    requires { ⌜ (n ≤ 510) × (length (now fresh) ≡ 510) × (base + n ≤ length (now room)) ⌝ }
-    ensures { λ _. ⌜ now (room .exit) ≡ over (now (room .entry)) base (take n (now (fresh .entry))) ⌝ }
+fn list_to(fresh: &[u16; 510], n: usize, map_room: &mut [u16], base: usize)
+    requires { ⌜ (n ≤ 510) × (length (now fresh) ≡ 510) × (base + n ≤ length (now «map_room»)) ⌝ }
+    ensures { λ _. ⌜ now («map_room» .exit) ≡ over (now («map_room» .entry)) base (take n (now (fresh .entry))) ⌝ }
 {
     let mut i: usize = 0;
     while i < n {
-        room[base + i] = fresh[i];
+        map_room[base + i] = fresh[i];
         i += 1;
     }
 }
 
 // Whether the list at place `i` is held with this head and these numbers.
-fn is_held(
+fn is_listed(
     i: usize,
     head: u32,
     n: usize,
     fresh: &[u16; 510],
-    held: usize,
-    maps: &[u32; 64],
-    room: &[u16],
+    map_count: usize,
+    map_heads: &[u32; 64],
+    map_room: &[u16],
 ) -> bool
-    requires { ⌜ (i < 64) × (n ≤ 255) × (held ≤ 64) × (length (now fresh) ≡ 510) × (length (now maps) ≡ 64) × (length (now room) ≡ 32768) ⌝ }
-    ensures { λ r. ⌜ r ≡ (ltb i held && (eqb (getD (now (maps .entry)) i 0) head && sameNumbers (take (2 * n) (drop (512 * i) (now (room .entry)))) (take (2 * n) (now (fresh .entry))))) ⌝ }
+    requires { ⌜ (i < 64) × (n ≤ 255) × («map_count» ≤ 64) × (length (now fresh) ≡ 510) × (length (now «map_heads») ≡ 64) × (length (now «map_room») ≡ 32768) ⌝ }
+    ensures { λ r. ⌜ r ≡ (ltb i «map_count» && (eqb (getD (now («map_heads» .entry)) i 0) head && sameNumbers (take (2 * n) (drop (512 * i) (now («map_room» .entry)))) (take (2 * n) (now (fresh .entry))))) ⌝ }
 {
-    if held <= i {
+    if map_count <= i {
         return false;
     }
-    if maps[i] != head {
+    if map_heads[i] != head {
         return false;
     }
-    same_list(fresh, 2 * n, room, 512 * i)
+    same_list(fresh, 2 * n, map_room, 512 * i)
 }
 
 // The head of a list: identifier and count.
@@ -141,14 +141,14 @@ fn head_of(id: u16, n: usize) -> u32
 }
 
 // How many lists there are with one at place `i`.
-fn count_with(held: usize, i: usize) -> usize
-    requires { ⌜ (held ≤ 64) × (i ≤ held) ⌝ }
-    ensures { λ r. ⌜ r ≡ max held (i + 1) ⌝ }
+fn count_with(map_count: usize, i: usize) -> usize
+    requires { ⌜ («map_count» ≤ 64) × (i ≤ «map_count») ⌝ }
+    ensures { λ r. ⌜ r ≡ max «map_count» (i + 1) ⌝ }
 {
-    if i == held {
-        return held + 1;
+    if i == map_count {
+        return map_count + 1;
     }
-    held
+    map_count
 }
 
 // The list at place `i`, written where it is not held already.
@@ -158,47 +158,47 @@ fn keep_list(
     n: usize,
     fresh: &[u16; 510],
     e: Extent,
-    maps: &mut [u32; 64],
-    room: &mut [u16],
+    map_heads: &mut [u32; 64],
+    map_room: &mut [u16],
 ) -> Extent
-    requires { ⌜ (i < 64) × (n ≤ 255) × (i ≤ e .maps) × (e .maps ≤ 64) × (length (now fresh) ≡ 510) × (length (now maps) ≡ 64) × (length (now room) ≡ 32768) ⌝ }
-    ensures { λ r. ⌜ HeadsAre i id n (now (fresh .entry)) e (now (maps .entry)) (now (room .entry)) r (now (maps .exit)) (now (room .exit)) ⌝ }
+    requires { ⌜ (i < 64) × (n ≤ 255) × (i ≤ e .«map_count») × (e .«map_count» ≤ 64) × (length (now fresh) ≡ 510) × (length (now «map_heads») ≡ 64) × (length (now «map_room») ≡ 32768) ⌝ }
+    ensures { λ r. ⌜ HeadsAre i id n (now (fresh .entry)) e (now («map_heads» .entry)) (now («map_room» .entry)) r (now («map_heads» .exit)) (now («map_room» .exit)) ⌝ }
 {
     let head = head_of(id, n);
-    if is_held(i, head, n, fresh, e.maps, maps, room) {
+    if is_listed(i, head, n, fresh, e.map_count, map_heads, map_room) {
         return e;
     }
-    maps[i] = head;
-    list_to(fresh, 2 * n, room, 512 * i);
+    map_heads[i] = head;
+    list_to(fresh, 2 * n, map_room, 512 * i);
     Extent {
         seen: e.seen,
-        packages: e.packages,
-        maps: count_with(e.maps, i),
-        fragments: e.fragments,
+        package_count: e.package_count,
+        map_count: count_with(e.map_count, i),
+        fragment_count: e.fragment_count,
         lost: e.lost,
         changed: true,
     }
 }
 
 // An MPT's body: its list takes its identifier's place, or is lost.
-pub fn mpt(b: &[u8], id: u16, e: Extent, maps: &mut [u32; 64], room: &mut [u16]) -> Extent
-    requires { ⌜ (e .lost < 18446744073709551615) × (length (now room) ≡ 32768) × ((ms : List (ℕ × ℕ)) × KeptMaps ms (e .maps) (now maps)) ⌝ }
-    ensures { λ r. ⌜ ((ms : List (ℕ × ℕ)) → KeptMaps ms (e .maps) (now (maps .entry)) → MptLearnt id (mpt (now (b .entry))) ms e (now (room .entry)) r (now (maps .exit)) (now (room .exit))) ⌝ }
+pub fn mpt(b: &[u8], id: u16, e: Extent, map_heads: &mut [u32; 64], map_room: &mut [u16]) -> Extent
+    requires { ⌜ (e .lost < 18446744073709551615) × (length (now «map_room») ≡ 32768) × ((ms : List (ℕ × ℕ)) × KeptMaps ms (e .«map_count») (now «map_heads»)) ⌝ }
+    ensures { λ r. ⌜ ((ms : List (ℕ × ℕ)) → KeptMaps ms (e .«map_count») (now («map_heads» .entry)) → MptLearnt id (mpt (now (b .entry))) ms e (now («map_room» .entry)) r (now («map_heads» .exit)) (now («map_room» .exit))) ⌝ }
 {
     let mut fresh = [0u16; 510];
     let End::At(n) = assets_of(b, &mut fresh) else {
         return e;
     };
-    let i = place_for(maps, e.maps, id);
+    let i = place_for(map_heads, e.map_count, id);
     if 64 <= i {
         return Extent {
             seen: e.seen,
-            packages: e.packages,
-            maps: e.maps,
-            fragments: e.fragments,
+            package_count: e.package_count,
+            map_count: e.map_count,
+            fragment_count: e.fragment_count,
             lost: e.lost + 1,
             changed: e.changed,
         };
     }
-    keep_list(i, id, n, &fresh, e, maps, room)
+    keep_list(i, id, n, &fresh, e, map_heads, map_room)
 }

@@ -19,7 +19,7 @@ use tables::packages::Package;
 use tables::packages::package_at;
 
 // How many of the first `n` come before `service`.
-fn place_in(fresh: &[u32; 255], n: usize, service: u32) -> usize
+fn slot_for(fresh: &[u32; 255], n: usize, service: u32) -> usize
     requires { ⌜ (n ≤ 255) × (length (now fresh) ≡ 255) ⌝ }
     ensures { λ r. ⌜ (r ≡ before service (pairsIn n (now (fresh .entry)))) × (r ≤ n) ⌝ }
 {
@@ -33,8 +33,8 @@ fn place_in(fresh: &[u32; 255], n: usize, service: u32) -> usize
     i
 }
 
-// Moves those from `at` on one place up.
-fn open_place(fresh: &mut [u32; 255], n: usize, at: usize)
+// Moves those from `at` on one slot up.
+fn open_slot(fresh: &mut [u32; 255], n: usize, at: usize)
     requires { ⌜ (at ≤ n) × (n < 255) × (length (now fresh) ≡ 255) ⌝ }
     ensures { λ _. ⌜ now (fresh .exit) ≡ take (at + 1) (now (fresh .entry)) ++ (take (n - at) (drop at (now (fresh .entry))) ++ drop (n + 1) (now (fresh .entry))) ⌝ }
 {
@@ -45,19 +45,19 @@ fn open_place(fresh: &mut [u32; 255], n: usize, at: usize)
     }
 }
 
-// A package in its place; answers how many there are.
+// A package in its slot; answers how many there are.
 fn add_package(fresh: &mut [u32; 255], n: usize, p: u32) -> usize
     requires { ⌜ (n < 255) × ((ps : List (ℕ × ℕ)) × Pairs 255 ps n (now fresh)) ⌝ }
     ensures { λ r. ⌜ ((ps : List (ℕ × ℕ)) → Pairs 255 ps n (now (fresh .entry)) → Pairs 255 (insertPackage (p / 65536) (p % 65536) ps) r (now (fresh .exit))) × (r ≤ n + 1) ⌝ }
 {
-    let at = place_in(fresh, n, p / 65536);
+    let at = slot_for(fresh, n, p / 65536);
     if at < n {
         if fresh[at] / 65536 == p / 65536 {
             fresh[at] = p;
             return n;
         }
     }
-    open_place(fresh, n, at);
+    open_slot(fresh, n, at);
     fresh[at] = p;
     n + 1
 }
@@ -123,12 +123,12 @@ fn same_packages(a: &[u32; 255], b: &[u32; 255], n: usize) -> bool
 // Whether these packages are what the latest PLT said.
 fn is_known(e: Extent, n: usize, fresh: &[u32; 255], packages: &[u32; 255]) -> bool
     requires { ⌜ (n ≤ 255) × (length (now fresh) ≡ 255) × (length (now packages) ≡ 255) ⌝ }
-    ensures { λ r. ⌜ r ≡ (e .seen && (eqb (e .packages) n && sameNumbers (take n (now (fresh .entry))) (take n (now (packages .entry))))) ⌝ }
+    ensures { λ r. ⌜ r ≡ (e .seen && (eqb (e .«package_count») n && sameNumbers (take n (now (fresh .entry))) (take n (now (packages .entry))))) ⌝ }
 {
     if !e.seen {
         return false;
     }
-    if e.packages != n {
+    if e.package_count != n {
         return false;
     }
     same_packages(fresh, packages, n)
@@ -136,8 +136,8 @@ fn is_known(e: Extent, n: usize, fresh: &[u32; 255], packages: &[u32; 255]) -> b
 
 // A PLT's body: all its packages, if it can be read.
 pub fn plt(b: &[u8], e: Extent, packages: &mut [u32; 255]) -> Extent
-    requires { ⌜ ((ps : List (ℕ × ℕ)) × KeptPackages ps (e .packages) (now packages)) ⌝ }
-    ensures { λ r. ⌜ ((ps : List (ℕ × ℕ)) → KeptPackages ps (e .packages) (now (packages .entry)) → PltLearnt (plt (now (b .entry))) ps e r (now (packages .exit))) ⌝ }
+    requires { ⌜ ((ps : List (ℕ × ℕ)) × KeptPackages ps (e .«package_count») (now packages)) ⌝ }
+    ensures { λ r. ⌜ ((ps : List (ℕ × ℕ)) → KeptPackages ps (e .«package_count») (now (packages .entry)) → PltLearnt (plt (now (b .entry))) ps e r (now (packages .exit))) ⌝ }
 {
     let mut fresh = [0u32; 255];
     let End::At(n) = packages_of(b, &mut fresh) else {
@@ -149,9 +149,9 @@ pub fn plt(b: &[u8], e: Extent, packages: &mut [u32; 255]) -> Extent
     *packages = fresh;
     Extent {
         seen: true,
-        packages: n,
-        maps: e.maps,
-        fragments: e.fragments,
+        package_count: n,
+        map_count: e.map_count,
+        fragment_count: e.fragment_count,
         lost: e.lost,
         changed: true,
     }

@@ -9,9 +9,11 @@ use lib.ListN.{replicate}
 use Rattle.meaning.specs.Bytes.{Bytes}
 use Rattle.meaning.specs.Sets.{withId}
 use Rattle.meaning.specs.Narrow.{narrowPayload}
-use Rattle.meaning.specs.Learn.{Limits, Fragment, Known, learnPlt, observe, lists}
+use Rattle.meaning.specs.Learn.{Fragment, Known, learnPlt, observe, lists}
 use Rattle.meaning.specs.Rules.{drops, ready}
-use Rattle.meaning.specs.Push.{noWords, tallyRefusal, tallied}
+use Rattle.meaning.specs.Start.{noWords}
+use Rattle.meaning.specs.Tally.{tallyRefusal, tallied}
+use Rattle.meaning.specs.declared.Limits.{Limits}
 use Rattle.meaning.specs.declared.Service.the-variants.{Every, Only}
 use Rattle.meaning.specs.declared.Options.{Options}
 use Rattle.meaning.specs.declared.Counts.{Counts}
@@ -22,16 +24,16 @@ use Rattle.meaning.proofs.Examples.{hvc1, stpp, E}
 abbrev spare : ℕ → List ℕ
 spare n = replicate n 0
 
-abbrev room : List ℕ
-room = 0x300 ∷ 2 ∷ 0x301 ∷ 0 ∷ spare 508 ++ (0x300 ∷ 2 ∷ 0x302 ∷ 2 ∷ spare 32252)
+abbrev map-room : List ℕ
+map-room = 0x300 ∷ 2 ∷ 0x301 ∷ 0 ∷ spare 508 ++ (0x300 ∷ 2 ∷ 0x302 ∷ 2 ∷ spare 32252)
 
 abbrev known : Known
 known = record {
   plt-seen = true;
   packages = (1, 0x100) ∷ (2, 0x200) ∷ [];
-  maps = (0x100, 2) ∷ (0x200, 2) ∷ [];
-  room = room;
-  carousels = withId noWords 0x400;
+  map-heads = (0x100, 2) ∷ (0x200, 2) ∷ [];
+  map-room = map-room;
+  data-set = withId noWords 0x400;
   fragments = [];
 }
 
@@ -79,9 +81,9 @@ abbrev with-eit : Known
 with-eit = record {
   plt-seen = true;
   packages = (1, 0x100) ∷ [];
-  maps = (0x100, 1) ∷ [];
-  room = 0x8000 ∷ 2 ∷ spare 32766;
-  carousels = noWords;
+  map-heads = (0x100, 1) ∷ [];
+  map-room = 0x8000 ∷ 2 ∷ spare 32766;
+  data-set = noWords;
   fragments = [];
 }
 
@@ -118,9 +120,9 @@ abbrev full : Known
 full = record {
   plt-seen = false;
   packages = [];
-  maps = count-up 64 0x1000;
-  room = spare 32768;
-  carousels = noWords;
+  map-heads = count-up 64 0x1000;
+  map-room = spare 32768;
+  data-set = noWords;
   fragments = [];
 }
 
@@ -140,7 +142,7 @@ abbrev part-of : ℕ → Bytes → Fragment
 part-of p b = record { identifier = p; flags = 0; body = b }
 
 abbrev holding : List Fragment → Known
-holding fs = record { plt-seen = false; packages = []; maps = []; room = spare 32768; carousels = noWords; fragments = fs }
+holding fs = record { plt-seen = false; packages = []; map-heads = []; map-room = spare 32768; data-set = noWords; fragments = fs }
 
 abbrev small : Limits
 small = record { work = 65536; total = 10; most = 8 }
@@ -155,7 +157,7 @@ pub record Joining : Type 0 where
   -- five more do not fit beside the six, four do
   pub total-met : observe small 8 (first (1 ∷ 2 ∷ 3 ∷ 4 ∷ [])) (holding (part-of 7 six ∷ [])) .known ≡ holding (part-of 7 six ∷ part-of 8 (1 ∷ 2 ∷ 3 ∷ 4 ∷ []) ∷ [])
   pub total-passed : observe small 8 (first (1 ∷ 2 ∷ 3 ∷ 4 ∷ 5 ∷ [])) (holding (part-of 7 six ∷ [])) .known ≡ holding (part-of 7 six ∷ [])
-  -- a new first takes the place of its identifier's old one
+  -- a new first replaces its identifier's old one
   pub first-again : observe small 7 (first (9 ∷ [])) (holding (part-of 7 six ∷ [])) .known ≡ holding (part-of 7 (9 ∷ []) ∷ [])
   -- M is met by eight bytes and passed by nine, which discards the fragment
   pub most-met : observe small 7 (middle (7 ∷ 8 ∷ [])) (holding (part-of 7 six ∷ [])) .known ≡ holding (part-of 7 (six ++ (7 ∷ 8 ∷ [])) ∷ [])

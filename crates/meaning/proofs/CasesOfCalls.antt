@@ -9,10 +9,16 @@ use lib.Dec.{eqb}
 use Rattle.meaning.specs.Bytes.{Bytes}
 use Rattle.meaning.specs.Sets.{inSet, withId}
 use Rattle.meaning.specs.Mmtp.{Mmtp}
-use Rattle.meaning.specs.Learn.{Limits, Known}
+use Rattle.meaning.specs.Learn.{Known}
 use Rattle.meaning.specs.Rules.{dropped}
-use Rattle.meaning.specs.Record.{State, Record, stateOf, recordOf, sound}
-use Rattle.meaning.specs.Push.{noWords, fresh, withheld, Passed, passOne, pass, countsOf, push, lengthRefusal, soundRefusal, pushRefusal, blank, started, called, droppedNow, callRefusal, run}
+use Rattle.meaning.specs.Record.{State, Record, stateOf, recordOf}
+use Rattle.meaning.specs.Soundness.{sound, soundRefusal}
+use Rattle.meaning.specs.Calls.{countsOf}
+use Rattle.meaning.specs.Start.{noWords, fresh, blank, started}
+use Rattle.meaning.specs.Push.{withheld, Passed, passOne, pass, push, lengthRefusal, pushRefusal, called}
+use Rattle.meaning.specs.Dropped.{droppedNow}
+use Rattle.meaning.specs.Series.{callRefusal, series}
+use Rattle.meaning.specs.declared.Limits.{Limits}
 use Rattle.meaning.specs.declared.Service.the-variants.{Every}
 use Rattle.meaning.specs.declared.Options.{Options}
 use Rattle.meaning.specs.declared.Counts.{Counts}
@@ -59,25 +65,25 @@ abbrev start : State
 start = fresh (0 ∷ 0 ∷ 0 ∷ 0 ∷ [])
 
 abbrev after : Known
-after = record { plt-seen = true; packages = (0x0401, 6) ∷ []; maps = (6, 2) ∷ []; room = 0xF100 ∷ 2 ∷ 0xF130 ∷ 0 ∷ []; carousels = noWords; fragments = [] }
+after = record { plt-seen = true; packages = (0x0401, 6) ∷ []; map-heads = (6, 2) ∷ []; map-room = 0xF100 ∷ 2 ∷ 0xF130 ∷ 0 ∷ []; data-set = noWords; fragments = [] }
 
 abbrev counted : ℕ → ℕ → ℕ → ℕ → ℕ → Counts
 counted bytes accepted written rewritten skipped = record { bytes = bytes; accepted = accepted; written = written; rewritten = rewritten; skipped = skipped; lost = 0 }
 
-abbrev of-kind : ℕ → ℕ → Mmtp
-of-kind kind id = record { identifier = id; kind = kind; rewritable = true; payload = [] }
+abbrev of-type : ℕ → ℕ → Mmtp
+of-type payload-type id = record { identifier = id; payload-type = payload-type; rewritable = true; payload = [] }
 
 abbrev behind : Passed
 behind = record { out = (9 ∷ []) ∷ []; rewritten = 1; lost = 3; known = after }
 
 pub record Pushes : Type 0 where
   pub words : (length noWords ≡ 1024) × (inSet noWords 0xFFC0 ≡ false) × (inSet (withId noWords 0xFFFF) 0xFFFF ≡ true)
-  pub empty : fresh (7 ∷ []) ≡ record { held = []; known = record { plt-seen = false; packages = []; maps = []; room = 7 ∷ []; carousels = noWords; fragments = [] } }
+  pub empty : fresh (7 ∷ []) ≡ record { held = []; known = record { plt-seen = false; packages = []; map-heads = []; map-room = 7 ∷ []; data-set = noWords; fragments = [] } }
   -- what was not read passes, signalling too, media not before all is ready; what is dropped never does
   pub unread : withheld noCaptions (start .known) none ≡ false
-  pub signalling : (withheld no-eit (start .known) (some (of-kind 2 6)) ≡ false) × (withheld no-eit (start .known) (some (of-kind 2 0x8000)) ≡ true)
-  pub media : (withheld noCaptions (start .known) (some (of-kind 0 0xF100)) ≡ true) × (withheld noCaptions after (some (of-kind 0 0xF100)) ≡ false)
-  pub dropped-one : withheld noCaptions after (some (of-kind 0 0xF130)) ≡ true
+  pub signalling : (withheld no-eit (start .known) (some (of-type 2 6)) ≡ false) × (withheld no-eit (start .known) (some (of-type 2 0x8000)) ≡ true)
+  pub media : (withheld noCaptions (start .known) (some (of-type 0 0xF100)) ≡ true) × (withheld noCaptions after (some (of-type 0 0xF100)) ≡ false)
+  pub dropped-one : withheld noCaptions after (some (of-type 0 0xF130)) ≡ true
   pub not-written : passOne true (some (7 ∷ [])) (8 ∷ []) 2 behind ≡ record { out = (9 ∷ []) ∷ []; rewritten = 1; lost = 5; known = after }
   pub as-it-is : passOne false none (8 ∷ []) 2 behind ≡ record { out = (8 ∷ []) ∷ (9 ∷ []) ∷ []; rewritten = 1; lost = 5; known = after }
   pub rewritten : passOne false (some (7 ∷ [])) (8 ∷ []) 2 behind ≡ record { out = (7 ∷ []) ∷ (9 ∷ []) ∷ []; rewritten = 2; lost = 5; known = after }
@@ -91,11 +97,11 @@ pub record Pushes : Type 0 where
   pub above-limit : push (record { work = 4096; total = 1; most = 1 }) noCaptions start (0x7F ∷ 0xFF ∷ 0x08 ∷ 0x00 ∷ [])
       ≡ record { out = []; counts = counted 0 0 0 0 1; state = record { held = 0xFF ∷ 0x08 ∷ 0x00 ∷ []; known = start .known } }
   -- in two pieces, with a refused one between them
-  pub in-pieces : run limits noCaptions start ((take 70 stream, 70) ∷ (stream, 9) ∷ (drop 70 stream, 65536) ∷ [])
+  pub in-pieces : series limits noCaptions start ((take 70 stream, 70) ∷ (stream, 9) ∷ (drop 70 stream, 65536) ∷ [])
       ≡ record { out = plt ∷ narrowed ∷ video ∷ []; state = record { held = 0x7F ∷ []; known = after } }
 
 pub pushes : Pushes
-unfolding noWords inSet withId fresh pass push run
+unfolding noWords inSet withId fresh pass push series
 pushes = record {
   words = (refl, refl, refl);
   empty = refl;

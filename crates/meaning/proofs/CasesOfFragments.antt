@@ -6,7 +6,8 @@ use mathlib.Core.List.{List, [], _∷_, _++_}
 use mathlib.Core.Option.{none, some}
 use lib.ListN.{length, replicate, drop}
 use Rattle.meaning.specs.Bytes.{Bytes}
-use Rattle.meaning.specs.Learn.{Limits, Fragment, Known, Learnt, isOf, without, heldBytes, fragmentOf, growIn, holdFirst, fits, middle, joined, last, observe, learn}
+use Rattle.meaning.specs.Learn.{Fragment, Known, Learnt, isOf, without, fragmentBytes, fragmentOf, growIn, holdFirst, fits, middle, joined, last, observe, learn}
+use Rattle.meaning.specs.declared.Limits.{Limits}
 use Rattle.meaning.proofs.Examples.{M, M₁}
 use Rattle.meaning.proofs.CasesOfLearning.{knowing, was, in-second}
 
@@ -27,7 +28,7 @@ pieces (suc n) p = piece p [] ∷ pieces n (p + 1)
 pub record Pieces : Type 0 where
   pub its-own : (isOf 7 (piece 7 []) ≡ true) × (isOf 7 (piece 8 []) ≡ false)
   pub without-one : without 7 seven-and-eight ≡ piece 8 (3 ∷ 4 ∷ 5 ∷ []) ∷ []
-  pub all-bytes : heldBytes seven-and-eight ≡ 5
+  pub all-bytes : fragmentBytes seven-and-eight ≡ 5
   pub found : fragmentOf 8 seven-and-eight ≡ some (piece 8 (3 ∷ 4 ∷ 5 ∷ []))
   pub not-found : fragmentOf 9 seven-and-eight ≡ none
   -- in arrival order, and where it stands
@@ -51,7 +52,7 @@ pub record Pieces : Type 0 where
   pub both-joined : joined (piece 7 (1 ∷ 2 ∷ [])) (3 ∷ []) ≡ 3 ∷ 0 ∷ 1 ∷ 2 ∷ 3 ∷ []
 
 pub piece-cases : Pieces
-unfolding isOf without heldBytes fragmentOf growIn holdFirst fits middle joined
+unfolding isOf without fragmentBytes fragmentOf growIn holdFirst fits middle joined
 piece-cases = record {
   its-own = (refl, refl);
   without-one = refl;
@@ -83,7 +84,7 @@ abbrev front : Bytes
 front = 0x00 ∷ 0x00 ∷ 0x07 ∷ 0x00 ∷ 0x00 ∷ 0x00 ∷ 0x30 ∷ 0x00 ∷ []
 
 abbrev beside : List Fragment → Known → Known
-beside fs k = record { plt-seen = k .plt-seen; packages = k .packages; maps = k .maps; room = k .room; carousels = k .carousels; fragments = fs }
+beside fs k = record { plt-seen = k .plt-seen; packages = k .packages; map-heads = k .map-heads; map-room = k .map-room; data-set = k .data-set; fragments = fs }
 
 abbrev of-six : ℕ → Bytes → Fragment
 of-six flags b = record { identifier = 6; flags = flags; body = b }
@@ -92,7 +93,7 @@ abbrev nothing : Known → Learnt
 nothing k = record { known = k; lost = 0 }
 
 abbrev packet : ℕ → Bytes → Bytes
-packet kind s = 0x7F ∷ 0x03 ∷ 0x00 ∷ 0x00 ∷ 0x00 ∷ 0x00 ∷ 0x61 ∷ 0x00 ∷ kind ∷ 0x00 ∷ 0x06 ∷ 1 ∷ 2 ∷ 3 ∷ 4 ∷ 5 ∷ 6 ∷ 7 ∷ 8 ∷ s
+packet payload-type s = 0x7F ∷ 0x03 ∷ 0x00 ∷ 0x00 ∷ 0x00 ∷ 0x00 ∷ 0x61 ∷ 0x00 ∷ payload-type ∷ 0x00 ∷ 0x06 ∷ 1 ∷ 2 ∷ 3 ∷ 4 ∷ 5 ∷ 6 ∷ 7 ∷ 8 ∷ s
 
 pub record Payloads : Type 0 where
   pub last-joins : last limits 6 M (beside (of-six 0 front ∷ []) was) ≡ nothing (beside [] in-second)

@@ -7,9 +7,9 @@ use mathlib.Core.Option.{none, some}
 use lib.ListN.{replicate, drop}
 use Rattle.meaning.specs.Bytes.{Bytes}
 use Rattle.meaning.specs.Sets.{Words}
-use Rattle.meaning.specs.Tables.{Table}
 use Rattle.meaning.specs.Messages.{Message}
-use Rattle.meaning.specs.Learn.{Fragment, Known, Learnt, kindNumber, kindOf, assetsIn, assetNumbers, lists, over, placeFor, listed, learnMpt, insertPackage, learnPlt, learnTable, learnTables, learnMessage, learnMessages}
+use Rattle.meaning.specs.Tables.{Table, kindNumber, kindOf}
+use Rattle.meaning.specs.Learn.{Fragment, Known, Learnt, assetsIn, assetNumbers, lists, over, placeFor, listed, learnMpt, insertPackage, learnPlt, learnTable, learnTables, learnMessage, learnMessages}
 use Rattle.meaning.specs.declared.Part.the-variants.{Caption, Carousel, Other}
 use Rattle.meaning.proofs.Examples.{hvc1, stpp, E, M, M₁, pltWith}
 
@@ -48,7 +48,7 @@ abbrev pub some-fragment : List Fragment
 some-fragment = record { identifier = 7; flags = 1; body = 1 ∷ 2 ∷ [] } ∷ []
 
 abbrev pub knowing : Bool → List (ℕ × ℕ) → List (ℕ × ℕ) → List ℕ → Words → Known
-knowing seen packages maps room words = record { plt-seen = seen; packages = packages; maps = maps; room = room; carousels = words; fragments = some-fragment }
+knowing seen packages maps map-room words = record { plt-seen = seen; packages = packages; map-heads = maps; map-room = map-room; data-set = words; fragments = some-fragment }
 
 abbrev pub was : Known
 was = knowing false ((9, 5) ∷ []) ((5, 1) ∷ []) (0x77 ∷ 1 ∷ replicate 1022 0) (4 ∷ 2 ∷ [])

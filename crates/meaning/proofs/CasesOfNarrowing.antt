@@ -7,7 +7,8 @@ use mathlib.Core.Option.{none, some}
 use lib.ListN.{replicate, drop}
 use Rattle.meaning.specs.Bytes.{Bytes}
 use Rattle.meaning.specs.Tables.{Table}
-use Rattle.meaning.specs.Narrow.{wanted, mptWithout, isService, lastOf, pltOnly, newBody, tableBytes, narrowTable, relength, paBytes, narrowPa, paMessage, payloadBytes, narrowPayload, narrowPacket, narrowedPacket, isPart, byPart, stayed, went, tableParts, changeTable, changePayload, changePacket}
+use Rattle.meaning.specs.Wishes.{wanted}
+use Rattle.meaning.specs.Narrow.{mptWithout, isService, lastOf, pltOnly, newBody, tableBytes, narrowTable, relength, paBytes, narrowPa, paMessage, payloadBytes, narrowPayload, narrowPacket, narrowedPacket, isPart, byPart, stayed, went, tableParts, changeTable, changePayload, changePacket}
 use Rattle.meaning.specs.declared.Part.the-variants.{Caption, Carousel, Other}
 use Rattle.meaning.specs.declared.Service.the-variants.{Every}
 use Rattle.meaning.specs.declared.Options.{Options}
@@ -40,12 +41,12 @@ all-on = record { service = Every; caption = true; carousel = true; eit = true }
 
 pub record Bodies : Type 0 where
   pub captions : (wanted noCaptions Caption ≡ false) × (wanted noCaptions Carousel ≡ true) × (wanted noCaptions Other ≡ true)
-  pub carousels : (wanted noCarousels Caption ≡ true) × (wanted noCarousels Carousel ≡ false)
+  pub data-set : (wanted noCarousels Caption ≡ true) × (wanted noCarousels Carousel ≡ false)
   -- the rest stays in order, the count follows, and so do bytes after the last entry
   pub caption-goes : mptWithout noCaptions three ≡ some (front ++ (2 ∷ E 0x11 hvc1 0xF1 0x00 ++ (E 0x33 aapp 0xF1 0x40 ++ more)))
   pub carousel-goes : mptWithout noCarousels three ≡ some (front ++ (2 ∷ E 0x11 hvc1 0xF1 0x00 ++ (E 0x22 stpp 0xF1 0x30 ++ more)))
   pub nothing-goes : mptWithout all-on three ≡ none
-  pub services : (isService 7 (some 7) ≡ true) × (isService 7 (some 8) ≡ false) × (isService 0 none ≡ false)
+  pub firsts : (isService 7 (some 7) ≡ true) × (isService 7 (some 8) ≡ false) × (isService 0 none ≡ false)
   -- the last entry of the service at any location
   pub last-stays : pltOnly 0x0401 packages ≡ some (1 ∷ at5 ++ more)
   pub no-such : pltOnly 0x0403 packages ≡ none
@@ -64,11 +65,11 @@ pub body-cases : Bodies
 unfolding mptWithout isService lastOf pltOnly newBody tableBytes narrowTable
 body-cases = record {
   captions = (refl, refl, refl);
-  carousels = (refl, refl);
+  data-set = (refl, refl);
   caption-goes = refl;
   carousel-goes = refl;
   nothing-goes = refl;
-  services = (refl, refl, refl);
+  firsts = (refl, refl, refl);
   last-stays = refl;
   no-such = refl;
   last-of = refl;
@@ -99,8 +100,8 @@ narrowed = 0x3E ∷ 0x55 ∷ 0x00 ∷ 0x00 ∷ 0x07 ∷ 0x00 ∷ 0x00 ∷ 0x00 �
 
 -- of a packet's first four bytes only the type is read; the length follows
 abbrev packet : ℕ → ℕ → ℕ → Bytes → Bytes
-packet length header kind s =
-    0x7E ∷ 0x03 ∷ 0x00 ∷ length ∷ 0x00 ∷ 0x00 ∷ header ∷ 0x00 ∷ kind ∷ 0x00 ∷ 0x05 ∷ 1 ∷ 2 ∷ 3 ∷ 4 ∷ 5 ∷ 6 ∷ 7 ∷ 8 ∷ s
+packet length header payload-type s =
+    0x7E ∷ 0x03 ∷ 0x00 ∷ length ∷ 0x00 ∷ 0x00 ∷ header ∷ 0x00 ∷ payload-type ∷ 0x00 ∷ 0x05 ∷ 1 ∷ 2 ∷ 3 ∷ 4 ∷ 5 ∷ 6 ∷ 7 ∷ 8 ∷ s
 
 -- the PLT of 01's example 7, or another table, alone in its message
 abbrev alone-in : ℕ → Bytes → Bytes

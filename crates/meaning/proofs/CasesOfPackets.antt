@@ -7,7 +7,7 @@ use mathlib.Core.Option.{Option, none, some}
 use lib.ListN.{replicate}
 use Rattle.meaning.specs.Bytes.{Bytes}
 use Rattle.meaning.specs.Packets.{sizeOf, isType, candidate, followed, stepOf, cut, cutPast}
-use Rattle.meaning.specs.Mmtp.{Place, byKind, compressed, placeOf, extension, Head, mmtpHead, Mmtp, mmtpOf, isSignalling}
+use Rattle.meaning.specs.Mmtp.{Offset, byHeaderType, compressed, offsetOf, extension, MmtpHeader, mmtpHeader, Mmtp, mmtpOf, isSignalling}
 use Rattle.meaning.specs.declared.Step.the-variants.{Packet, Skip, Keep}
 
 -- ---- 01, "Finding packets": a packet of five bytes
@@ -58,25 +58,25 @@ abbrev ip : ℕ → ℕ → ℕ → Bytes
 ip b n port = b ∷ replicate n 0 ++ (0x00 ∷ port ∷ [])
 
 pub record Places : Type 0 where
-  pub full-header : (byKind 0x20 ≡ some (23, false)) × (byKind 0x60 ≡ some (45, false))
-  pub no-header : (byKind 0x21 ≡ some (3, true)) × (byKind 0x61 ≡ some (3, true))
-  pub other-header : byKind 0x22 ≡ none
-  pub kind-is-there : (compressed (0x00 ∷ 0x00 ∷ 0x61 ∷ []) ≡ some (3, true)) × (compressed (0x00 ∷ 0x61 ∷ []) ≡ none)
-  pub by-type : placeOf 0x03 (0x00 ∷ 0x00 ∷ 0x20 ∷ []) ≡ some (23, false)
-  pub v4 : placeOf 0x01 (ip 0x45 21 122) ≡ some (28, false)
-  pub v4-clock : placeOf 0x01 (ip 0x45 21 123) ≡ none
-  pub v4-port-cut : placeOf 0x01 (ip 0x46 21 122) ≡ none
-  pub v6 : placeOf 0x02 (ip 0x60 41 122) ≡ some (48, false)
-  pub v6-clock : placeOf 0x02 (ip 0x60 41 123) ≡ none
-  pub control : placeOf 0xFE (0x00 ∷ 0x00 ∷ 0x61 ∷ []) ≡ none
+  pub full-header : (byHeaderType 0x20 ≡ some (23, false)) × (byHeaderType 0x60 ≡ some (45, false))
+  pub no-header : (byHeaderType 0x21 ≡ some (3, true)) × (byHeaderType 0x61 ≡ some (3, true))
+  pub other-header : byHeaderType 0x22 ≡ none
+  pub header-type-is-there : (compressed (0x00 ∷ 0x00 ∷ 0x61 ∷ []) ≡ some (3, true)) × (compressed (0x00 ∷ 0x61 ∷ []) ≡ none)
+  pub by-type : offsetOf 0x03 (0x00 ∷ 0x00 ∷ 0x20 ∷ []) ≡ some (23, false)
+  pub v4 : offsetOf 0x01 (ip 0x45 21 122) ≡ some (28, false)
+  pub v4-clock : offsetOf 0x01 (ip 0x45 21 123) ≡ none
+  pub v4-port-cut : offsetOf 0x01 (ip 0x46 21 122) ≡ none
+  pub v6 : offsetOf 0x02 (ip 0x60 41 122) ≡ some (48, false)
+  pub v6-clock : offsetOf 0x02 (ip 0x60 41 123) ≡ none
+  pub control : offsetOf 0xFE (0x00 ∷ 0x00 ∷ 0x61 ∷ []) ≡ none
 
 pub places : Places
-unfolding byKind compressed placeOf
+unfolding byHeaderType compressed offsetOf
 places = record {
   full-header = (refl, refl);
   no-header = (refl, refl);
   other-header = refl;
-  kind-is-there = (refl, refl);
+  header-type-is-there = (refl, refl);
   by-type = refl;
   v4 = refl;
   v4-clock = refl;
@@ -91,8 +91,8 @@ places = record {
 abbrev head : ℕ → Bytes
 head flags = flags ∷ 0x42 ∷ 0x81 ∷ 0x23 ∷ 1 ∷ 2 ∷ 3 ∷ 4 ∷ 5 ∷ 6 ∷ 7 ∷ 8 ∷ []
 
-abbrev told : Head
-told = record { identifier = 0x8123; kind = 2 }
+abbrev told : MmtpHeader
+told = record { identifier = 0x8123; payload-type = 2 }
 
 -- a counter, and an extension of type 0x0909 with two bytes
 abbrev counter : Bytes
@@ -105,27 +105,27 @@ abbrev packet : ℕ → Bytes → Bytes
 packet header s = 0x7F ∷ 0x03 ∷ 0x00 ∷ 0x00 ∷ 0x00 ∷ 0x00 ∷ header ∷ s
 
 abbrev read : Bytes → Option Mmtp
-read payload = some (record { identifier = 0x8123; kind = 2; rewritable = true; payload = payload })
+read payload = some (record { identifier = 0x8123; payload-type = 2; rewritable = true; payload = payload })
 
 pub record Heads : Type 0 where
-  pub twelve-bytes : mmtpHead (head 0x00 ++ (7 ∷ [])) ≡ some (told, 7 ∷ [])
-  pub with-counter : mmtpHead (head 0x20 ++ (counter ++ (7 ∷ []))) ≡ some (told, 7 ∷ [])
-  pub with-extension : mmtpHead (head 0x02 ++ (extra ++ (7 ∷ []))) ≡ some (told, 7 ∷ [])
-  pub with-both : mmtpHead (head 0x22 ++ (counter ++ (extra ++ (7 ∷ [])))) ≡ some (told, 7 ∷ [])
-  pub counter-cut : mmtpHead (head 0x20 ++ (1 ∷ 1 ∷ 1 ∷ [])) ≡ none
+  pub twelve-bytes : mmtpHeader (head 0x00 ++ (7 ∷ [])) ≡ some (told, 7 ∷ [])
+  pub with-counter : mmtpHeader (head 0x20 ++ (counter ++ (7 ∷ []))) ≡ some (told, 7 ∷ [])
+  pub with-extension : mmtpHeader (head 0x02 ++ (extra ++ (7 ∷ []))) ≡ some (told, 7 ∷ [])
+  pub with-both : mmtpHeader (head 0x22 ++ (counter ++ (extra ++ (7 ∷ [])))) ≡ some (told, 7 ∷ [])
+  pub counter-cut : mmtpHeader (head 0x20 ++ (1 ∷ 1 ∷ 1 ∷ [])) ≡ none
   pub extension-alone : extension (extra ++ (7 ∷ [])) ≡ some (5 ∷ 5 ∷ [], 7 ∷ [])
   pub whole : mmtpOf (packet 0x61 (head 0x00 ++ (7 ∷ 8 ∷ []))) ≡ read (7 ∷ 8 ∷ [])
   -- a head that ends at the last byte is read; one byte less passes
   pub no-payload : mmtpOf (packet 0x21 (head 0x00)) ≡ read []
   pub head-cut : mmtpOf (packet 0x21 (0x00 ∷ 0x42 ∷ 0x81 ∷ 0x23 ∷ 1 ∷ 2 ∷ 3 ∷ 4 ∷ 5 ∷ 6 ∷ 7 ∷ [])) ≡ none
-  pub fixed : mmtpOf (packet 0x20 (replicate 20 0 ++ head 0x00)) ≡ some (record { identifier = 0x8123; kind = 2; rewritable = false; payload = [] })
+  pub fixed : mmtpOf (packet 0x20 (replicate 20 0 ++ head 0x00)) ≡ some (record { identifier = 0x8123; payload-type = 2; rewritable = false; payload = [] })
   pub offset-not-there : mmtpOf (packet 0x60 (head 0x00)) ≡ none
   pub three-bytes : mmtpOf (0x7F ∷ 0x03 ∷ 0x00 ∷ []) ≡ none
-  pub signalling : isSignalling (record { identifier = 0; kind = 2; rewritable = true; payload = [] }) ≡ true
-  pub others : isSignalling (record { identifier = 2; kind = 0; rewritable = true; payload = [] }) ≡ false
+  pub signalling : isSignalling (record { identifier = 0; payload-type = 2; rewritable = true; payload = [] }) ≡ true
+  pub others : isSignalling (record { identifier = 2; payload-type = 0; rewritable = true; payload = [] }) ≡ false
 
 pub heads : Heads
-unfolding mmtpHead extension mmtpOf
+unfolding mmtpHeader extension mmtpOf
 heads = record {
   twelve-bytes = refl;
   with-counter = refl;

@@ -7,7 +7,7 @@ use mathlib.Core.Option.{none, some}
 use lib.ListN.{length, take, drop, replicate}
 use Rattle.meaning.specs.Bytes.{Bytes}
 use Rattle.meaning.specs.Record.{State}
-use Rattle.meaning.specs.Push.{fresh}
+use Rattle.meaning.specs.Start.{fresh}
 use Rattle.meaning.specs.Programs.{optionsOf, inputRefused, chunk, programLimits, Sums, pushAll, digits, item, refusedLine, sumsLine, filterWrites, sumsWrites}
 use Rattle.meaning.specs.declared.Service.the-variants.{Every, Only}
 use Rattle.meaning.specs.declared.Options.{Options}

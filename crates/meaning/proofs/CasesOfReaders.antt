@@ -6,9 +6,9 @@ use mathlib.Core.List.{List, [], _∷_}
 use mathlib.Core.Option.{none, some}
 use lib.Dec.{leb}
 use Rattle.meaning.specs.Bytes.{Bytes, be16, be16At, be32At, put16, put32}
-use Rattle.meaning.specs.Lists.{keep, all, any, count, sum}
-use Rattle.meaning.specs.Sets.{Words, inSet, withId, withoutId, howMany}
 use Rattle.meaning.specs.Writing.{Wrote}
+use Rattle.meaning.specs.Sets.{Words, inSet, withId, withoutId, howMany}
+use Rattle.meaning.specs.Lists.{keep, all, any, count, sum}
 use Rattle.meaning.specs.Readers.{Reader, _>>=_, give, refuse, byte, u8, u16, u32, bytes, counted8, counted16, counted32, announced, many, raw, walk, walkPast}
 
 abbrev three : Bytes

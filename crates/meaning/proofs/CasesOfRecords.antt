@@ -5,9 +5,10 @@ use mathlib.Core.Bool.{Bool, true, false}
 use mathlib.Core.List.{List, [], _∷_, _++_}
 use lib.ListN.{replicate}
 use Rattle.meaning.specs.Bytes.{Bytes}
-use Rattle.meaning.specs.Learn.{Limits, Fragment, Known}
-use Rattle.meaning.specs.Record.{State, slots, Record, packPair, pairOf, packHead, headIdentifier, headFlags, headLength, recordOf, fragmentsIn, stateOf, rising, distinct, soundRooms, soundHeld, soundPackages, soundMaps, soundFragments, sound}
-use Rattle.meaning.specs.Sound.{services, identifiers, bodies}
+use Rattle.meaning.specs.Learn.{Fragment, Known}
+use Rattle.meaning.specs.Record.{State, slots, Record, packPair, pairOf, fragmentHead, fragmentIdentifier, fragmentFlags, fragmentLength, recordOf, fragmentsIn, stateOf, bodiesOf}
+use Rattle.meaning.specs.Soundness.{rising, distinct, soundRooms, soundHeld, soundPackages, soundMaps, soundFragments, sound, firsts, identifiers}
+use Rattle.meaning.specs.declared.Limits.{Limits}
 use Rattle.meaning.specs.declared.Service.the-variants.{Every, Only}
 use Rattle.meaning.specs.declared.Options.{Options}
 
@@ -19,17 +20,17 @@ piece = record { identifier = 2; flags = 3; body = 7 ∷ 8 ∷ [] }
 pub record Packed : Type 0 where
   pub filled-up : slots 4 (7 ∷ 8 ∷ []) ≡ 7 ∷ 8 ∷ 0 ∷ 0 ∷ []
   pub pair : (packPair (1, 2) ≡ 0x10002) × (pairOf 0x10002 ≡ (1, 2)) × (pairOf 0xFFFF ≡ (0, 0xFFFF))
-  pub head : packHead piece ≡ 0x2030000000002
-  pub parts : (headIdentifier 0x2030000000004 ≡ 2) × (headFlags 0x2030000000004 ≡ 3) × (headLength 0x2030000000004 ≡ 4)
+  pub head : fragmentHead piece ≡ 0x2030000000002
+  pub parts : (fragmentIdentifier 0x2030000000004 ≡ 2) × (fragmentFlags 0x2030000000004 ≡ 3) × (fragmentLength 0x2030000000004 ≡ 4)
   pub in-turn : fragmentsIn (0x2030000000002 ∷ 0x4050000000001 ∷ []) (7 ∷ 8 ∷ 9 ∷ 0 ∷ []) ≡ piece ∷ record { identifier = 4; flags = 5; body = 9 ∷ [] } ∷ []
   pub rises : (rising (1 ∷ 2 ∷ 5 ∷ []) ≡ true) × (rising (1 ∷ 1 ∷ []) ≡ false) × (rising (1 ∷ 3 ∷ 2 ∷ []) ≡ false)
   pub none-twice : (distinct (3 ∷ 1 ∷ 2 ∷ []) ≡ true) × (distinct (3 ∷ 1 ∷ 3 ∷ []) ≡ false) × (distinct (3 ∷ 1 ∷ 1 ∷ []) ≡ false)
-  pub firsts : services ((1, 2) ∷ (3, 4) ∷ []) ≡ 1 ∷ 3 ∷ []
+  pub firsts : firsts ((1, 2) ∷ (3, 4) ∷ []) ≡ 1 ∷ 3 ∷ []
   pub of-fragments : identifiers (piece ∷ record { identifier = 4; flags = 5; body = 9 ∷ [] } ∷ []) ≡ 2 ∷ 4 ∷ []
-  pub one-after-the-other : bodies (piece ∷ record { identifier = 4; flags = 5; body = 9 ∷ [] } ∷ []) ≡ 7 ∷ 8 ∷ 9 ∷ []
+  pub one-after-the-other : bodiesOf (piece ∷ record { identifier = 4; flags = 5; body = 9 ∷ [] } ∷ []) ≡ 7 ∷ 8 ∷ 9 ∷ []
 
 pub packed : Packed
-unfolding slots packPair pairOf packHead headIdentifier headFlags headLength fragmentsIn rising distinct bodies
+unfolding slots packPair pairOf fragmentHead fragmentIdentifier fragmentFlags fragmentLength fragmentsIn rising distinct bodiesOf
 packed = record {
   filled-up = refl;
   pair = (refl, refl, refl);
@@ -54,22 +55,22 @@ options = record { service = Only 1; caption = true; carousel = true; eit = true
 abbrev state : State
 state = record {
   held = 0x7F ∷ 0x01 ∷ [];
-  known = record { plt-seen = true; packages = (1, 5) ∷ (2, 6) ∷ []; maps = (5, 1) ∷ []; room = 0x77 ∷ 1 ∷ []; carousels = 4 ∷ []; fragments = piece ∷ [] };
+  known = record { plt-seen = true; packages = (1, 5) ∷ (2, 6) ∷ []; map-heads = (5, 1) ∷ []; map-room = 0x77 ∷ 1 ∷ []; data-set = 4 ∷ []; fragments = piece ∷ [] };
 }
 
 abbrev holding : ℕ → ℕ → ℕ → ℕ → Record
-holding held packages maps fragments = record {
+holding held-count package-count map-count fragment-count = record {
   limits = limits;
   options = options;
-  held = held;
+  held-count = held-count;
   plt-seen = true;
-  package-count = packages;
-  map-count = maps;
-  fragment-count = fragments;
-  carousels = 4 ∷ [];
+  package-count = package-count;
+  map-count = map-count;
+  fragment-count = fragment-count;
+  data-set = 4 ∷ [];
   packages = 0x10005 ∷ 0x20006 ∷ replicate 253 0;
-  maps = 0x50001 ∷ replicate 63 0;
-  fragments = 0x2030000000002 ∷ replicate 255 0;
+  map-heads = 0x50001 ∷ replicate 63 0;
+  fragment-heads = 0x2030000000002 ∷ replicate 255 0;
 }
 
 pub record Kept : Type 0 where

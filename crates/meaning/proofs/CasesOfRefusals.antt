@@ -2,7 +2,10 @@
 use Prim.Native.Nat.{ℕ}
 use mathlib.Core.Path.{_≡_, refl}
 use mathlib.Core.Bool.{Bool, true, false}
-use Rattle.meaning.specs.Refusals.{numberOf, answerNumber, narrowingNumber, narrowingLength, packetLimit, goodWork, goodFragments, goodMaps, startRefusal, narrowRefusal}
+use Rattle.meaning.specs.Narrow.{narrowRefusal}
+use Rattle.meaning.specs.Rooms.{packetLimit, goodWorkRoom, goodFragmentRoom, goodMapRoom}
+use Rattle.meaning.specs.Refusals.{numberOf, answerNumber, narrowingNumber, narrowingLength}
+use Rattle.meaning.specs.Start.{startRefusal}
 use Rattle.meaning.specs.declared.Refusal.the-variants.{WorkRoom, FragmentRoom, MapRoom, Unsound, Long, Short, Tally, Input}
 use Rattle.meaning.specs.declared.Narrowing.{Narrowing}
 use Rattle.meaning.specs.declared.Answer.the-variants.{Done, Refused}
@@ -29,10 +32,10 @@ numbers = record {
 pub record Rooms : Type 0 where
   -- the smaller of 65,539 and W/2 rounded down
   pub limits : (packetLimit 4096 ≡ 2048) × (packetLimit 4097 ≡ 2048) × (packetLimit 131078 ≡ 65539) × (packetLimit 131080 ≡ 65539)
-  pub work : (goodWork 4095 ≡ false) × (goodWork 4096 ≡ true) × (goodWork 131078 ≡ true) × (goodWork 131079 ≡ false)
-  pub total : (goodFragments 0 0 ≡ false) × (goodFragments 1 1 ≡ true) × (goodFragments 16777216 1 ≡ true) × (goodFragments 16777217 1 ≡ false)
-  pub most : (goodFragments 9 0 ≡ false) × (goodFragments 9 9 ≡ true) × (goodFragments 9 10 ≡ false)
-  pub maps : (goodMaps 32767 ≡ false) × (goodMaps 32768 ≡ true) × (goodMaps 32769 ≡ false)
+  pub work : (goodWorkRoom 4095 ≡ false) × (goodWorkRoom 4096 ≡ true) × (goodWorkRoom 131078 ≡ true) × (goodWorkRoom 131079 ≡ false)
+  pub total : (goodFragmentRoom 0 0 ≡ false) × (goodFragmentRoom 1 1 ≡ true) × (goodFragmentRoom 16777216 1 ≡ true) × (goodFragmentRoom 16777217 1 ≡ false)
+  pub most : (goodFragmentRoom 9 0 ≡ false) × (goodFragmentRoom 9 9 ≡ true) × (goodFragmentRoom 9 10 ≡ false)
+  pub maps : (goodMapRoom 32767 ≡ false) × (goodMapRoom 32768 ≡ true) × (goodMapRoom 32769 ≡ false)
   pub start : startRefusal 4096 1 1 32768 ≡ 0
   -- the lowest number that applies
   pub start-work : startRefusal 4095 0 0 0 ≡ 1
@@ -41,7 +44,7 @@ pub record Rooms : Type 0 where
   pub narrowing : (narrowRefusal 65539 65539 ≡ 0) × (narrowRefusal 65540 65540 ≡ 5) × (narrowRefusal 9 8 ≡ 6) × (narrowRefusal 65540 8 ≡ 5)
 
 pub rooms : Rooms
-unfolding packetLimit goodWork goodFragments goodMaps startRefusal narrowRefusal
+unfolding packetLimit goodWorkRoom goodFragmentRoom goodMapRoom startRefusal narrowRefusal
 rooms = record {
   limits = (refl, refl, refl, refl);
   work = (refl, refl, refl, refl);

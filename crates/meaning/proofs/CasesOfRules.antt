@@ -5,8 +5,9 @@ use mathlib.Core.Bool.{Bool, true, false}
 use mathlib.Core.List.{List, [], _∷_, _++_}
 use mathlib.Core.Option.{none, some}
 use lib.ListN.{replicate}
+use Rattle.meaning.specs.Wishes.{ours, copiesAll}
 use Rattle.meaning.specs.Learn.{Known, Listed}
-use Rattle.meaning.specs.Rules.{ours, copiesAll, listOf, keptBy, droppedBy, inDropSet, drops, ready}
+use Rattle.meaning.specs.Rules.{listOf, keptBy, droppedBy, inDropSet, drops, ready}
 use Rattle.meaning.specs.declared.Part.the-variants.{Caption, Carousel, Other}
 use Rattle.meaning.specs.declared.Service.{Service}
 use Rattle.meaning.specs.declared.Service.the-variants.{Every, Only}
@@ -22,9 +23,9 @@ pub record Services : Type 0 where
   pub not-with-service : copiesAll (wishes (Only 7) true true true) ≡ false
   pub one-wish-off : (copiesAll (wishes Every false true true) ≡ false) × (copiesAll (wishes Every true false true) ≡ false) × (copiesAll (wishes Every true true false) ≡ false)
 
-pub services : Services
+pub firsts : Services
 unfolding copiesAll
-services = record { each-is = refl; named = (refl, refl); copies = refl; not-with-service = refl; one-wish-off = (refl, refl, refl) }
+firsts = record { each-is = refl; named = (refl, refl); copies = refl; not-with-service = refl; one-wish-off = (refl, refl, refl) }
 
 -- ---- service 1 on 5 with captions on 0x77 and video on 0x78, service 2 on 6 with 0x78 and a carousel on 0x79; data 0, 2 and 65
 
@@ -35,9 +36,9 @@ abbrev knowing : Bool → List (ℕ × ℕ) → List (ℕ × ℕ) → Known
 knowing seen packages maps = record {
   plt-seen = seen;
   packages = packages;
-  maps = maps;
-  room = 0x77 ∷ 0 ∷ 0x78 ∷ 2 ∷ replicate 508 0 ++ (0x78 ∷ 2 ∷ 0x79 ∷ 1 ∷ []);
-  carousels = 5 ∷ 2 ∷ [];
+  map-heads = maps;
+  map-room = 0x77 ∷ 0 ∷ 0x78 ∷ 2 ∷ replicate 508 0 ++ (0x78 ∷ 2 ∷ 0x79 ∷ 1 ∷ []);
+  data-set = 5 ∷ 2 ∷ [];
   fragments = [];
 }
 

@@ -7,10 +7,9 @@ use native.Mathlib.Omega.{arith}
 use lib.ListN.{length, drop}
 use Rattle.meaning.specs.Bytes.{Bytes}
 use Rattle.meaning.specs.Lists.{any, sum}
-use Rattle.meaning.specs.Learn.{Fragment, Known, heldBytes}
-use Rattle.meaning.specs.Record.{rising, distinct}
+use Rattle.meaning.specs.Learn.{Fragment, Known, fragmentBytes}
+use Rattle.meaning.specs.Soundness.{rising, distinct, HoldsPackages, HoldsMaps, HoldsFragments, Holds}
 use Rattle.meaning.specs.Less.{Fewer, Thinned}
-use Rattle.meaning.specs.Sound.{HoldsPackages, HoldsMaps, HoldsFragments, Holds}
 use Rattle.meaning.specs.declared.Service.the-variants.{Only}
 use Rattle.meaning.specs.declared.Options.{Options}
 use Rattle.meaning.proofs.ListLaws.{clash}
@@ -35,10 +34,10 @@ abbrev piece : Fragment
 piece = record { identifier = 7; flags = 255; body = 1 ∷ 2 ∷ [] }
 
 abbrev known : Known
-known = record { plt-seen = true; packages = (1, 65535) ∷ (2, 9) ∷ []; maps = (0x700, 9) ∷ (5, 255) ∷ []; room = []; carousels = []; fragments = piece ∷ [] }
+known = record { plt-seen = true; packages = (1, 65535) ∷ (2, 9) ∷ []; map-heads = (0x700, 9) ∷ (5, 255) ∷ []; map-room = []; data-set = []; fragments = piece ∷ [] }
 
 pub held-at-limits : Holds 2 known
-unfolding rising distinct heldBytes
+unfolding rising distinct fragmentBytes
 held-at-limits = record {
   packages-hold = record { few = omega arith; rise = refl; small = (omega arith, (omega arith, tt)) };
   maps-hold = record { few = omega arith; once = refl; small = (omega arith, (omega arith, tt)) };
@@ -53,7 +52,7 @@ pub record TooMany : Type 0 where
   pub maps : (ms : List (ℕ × ℕ)) → length ms ≡ 65 → HoldsMaps ms → ⊥
   pub assets-of-a-map : HoldsMaps ((5, 256) ∷ []) → ⊥
   pub fragments : (T : ℕ) (fs : List Fragment) → length fs ≡ 257 → HoldsFragments T fs → ⊥
-  pub fragment-bytes : (T : ℕ) (fs : List Fragment) → heldBytes fs ≡ T + 1 → HoldsFragments T fs → ⊥
+  pub fragment-bytes : (T : ℕ) (fs : List Fragment) → fragmentBytes fs ≡ T + 1 → HoldsFragments T fs → ⊥
   pub fragment-flags : HoldsFragments 9 (record { identifier = 7; flags = 256; body = [] } ∷ []) → ⊥
   -- the first wants EIT, the second does not
   pub wishes : Fewer (record { service = Only 1; caption = true; carousel = true; eit = true }) (record { service = Only 1; caption = true; carousel = true; eit = false }) → ⊥

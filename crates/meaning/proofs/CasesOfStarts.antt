@@ -6,10 +6,15 @@ use mathlib.Core.List.{List, [], _∷_, _++_}
 use lib.ListN.{length, replicate}
 use lib.Dec.{eqb}
 use Rattle.meaning.specs.Bytes.{Bytes}
-use Rattle.meaning.specs.Learn.{Limits}
 use Rattle.meaning.specs.Rules.{dropped}
-use Rattle.meaning.specs.Record.{Record, stateOf, sound}
-use Rattle.meaning.specs.Push.{noWords, fresh, countsOf, lengthRefusal, soundRefusal, pushRefusal, blank, started, called, droppedNow, callRefusal}
+use Rattle.meaning.specs.Record.{Record, stateOf}
+use Rattle.meaning.specs.Soundness.{sound, soundRefusal}
+use Rattle.meaning.specs.Calls.{countsOf}
+use Rattle.meaning.specs.Start.{noWords, fresh, blank, started}
+use Rattle.meaning.specs.Push.{lengthRefusal, pushRefusal, called}
+use Rattle.meaning.specs.Dropped.{droppedNow}
+use Rattle.meaning.specs.Series.{callRefusal}
+use Rattle.meaning.specs.declared.Limits.{Limits}
 use Rattle.meaning.specs.declared.Service.the-variants.{Every}
 use Rattle.meaning.specs.declared.Options.{Options}
 use Rattle.meaning.specs.declared.Counts.{Counts}
@@ -22,18 +27,18 @@ abbrev zeros : ℕ → List ℕ
 zeros n = replicate n 0
 
 abbrev started-record : ℕ → Record
-started-record held = record {
+started-record held-count = record {
   limits = limits;
   options = noCaptions;
-  held = held;
+  held-count = held-count;
   plt-seen = false;
   package-count = 0;
   map-count = 0;
   fragment-count = 0;
-  carousels = noWords;
+  data-set = noWords;
   packages = zeros 255;
-  maps = zeros 64;
-  fragments = zeros 256;
+  map-heads = zeros 64;
+  fragment-heads = zeros 256;
 }
 
 abbrev packet12 : Bytes
@@ -55,7 +60,7 @@ pub record Answers : Type 0 where
   pub call-held : (callRefusal limits (record { held = 1 ∷ 2 ∷ []; known = fresh [] .known }) (packet12, 6) ≡ 6)
       × (callRefusal limits (record { held = 1 ∷ 2 ∷ []; known = fresh [] .known }) (packet12, 7) ≡ 0)
   -- all zero, and unsound with any rooms
-  pub blank-zero : (blank .held ≡ 0) × (blank .plt-seen ≡ false) × (blank .package-count ≡ 0) × (blank .limits .work ≡ 0) × (blank .options .eit ≡ false)
+  pub blank-zero : (blank .held-count ≡ 0) × (blank .plt-seen ≡ false) × (blank .package-count ≡ 0) × (blank .limits .work ≡ 0) × (blank .options .eit ≡ false)
   pub blank-unsound : (soundRefusal blank 0 0 32768 ≡ 4) × (soundRefusal blank 4096 10 32768 ≡ 4)
   pub start : started limits noCaptions (zeros 32768) ≡ record { number = 0; out = []; counts = counted 0 0 0; handed = started-record 0 }
   pub no-start : started limits noCaptions (zeros 32767) ≡ record { number = 3; out = []; counts = counted 0 0 0; handed = blank }
@@ -91,7 +96,7 @@ answers = record {
 }
 
 -- of a sound record, what the rules drop in the state that it and the rooms hold
-pub dropped-in-state : (r : Record) (work room : Bytes) (maps : List ℕ) → sound r (length work) (length room) (length maps) ≡ true
-    → droppedNow r work room maps ≡ dropped (r .options) (stateOf r work room maps .known)
+pub dropped-in-state : (r : Record) (work map-room : Bytes) (maps : List ℕ) → sound r (length work) (length map-room) (length maps) ≡ true
+    → droppedNow r work map-room maps ≡ dropped (r .options) (stateOf r work map-room maps .known)
 unfolding droppedNow soundRefusal
-dropped-in-state r work room maps e = ap (λ (b : Bool). cond (eqb (cond b 0 4) 0) (dropped (r .options) (stateOf r work room maps .known)) 0) e
+dropped-in-state r work map-room maps e = ap (λ (b : Bool). cond (eqb (cond b 0 4) 0) (dropped (r .options) (stateOf r work map-room maps .known)) 0) e

@@ -57,8 +57,8 @@ plain = record { part = Caption; carrier = some 0xF130; bytes-of = E 0x22 stpp 0
 pub record Assets : Type 0 where
   pub no-time-scale : clockRelation (5 ∷ 0 ∷ nine) ≡ some ([], nine)
   pub time-scale : clockRelation (relation ++ nine) ≡ some (1 ∷ 2 ∷ 3 ∷ 4 ∷ [], nine)
-  pub no-relation : asset (E 0x11 hvc1 0xF1 0x00 ++ nine) ≡ some (record { kind = hvc1; carrier = some 0xF100 }, nine)
-  pub all-announced : asset (rich ++ nine) ≡ some (record { kind = aapp; carrier = some 0xF201 }, nine)
+  pub no-relation : asset (E 0x11 hvc1 0xF1 0x00 ++ nine) ≡ some (record { asset-type = hvc1; carrier = some 0xF100 }, nine)
+  pub all-announced : asset (rich ++ nine) ≡ some (record { asset-type = aapp; carrier = some 0xF201 }, nine)
   pub same : (sameBytes stpp stpp ≡ true) × (sameBytes stpp (0x73 ∷ 0x74 ∷ 0x70 ∷ 0x71 ∷ []) ≡ false)
   pub one-longer : (sameBytes stpp (stpp ++ nine) ≡ false) × (sameBytes (stpp ++ nine) stpp ≡ false)
   pub kinds : (partOf stpp ≡ Caption) × (partOf aapp ≡ Carousel) × (partOf hvc1 ≡ Other)
@@ -92,9 +92,9 @@ pub record Bodies : Type 0 where
   pub descriptors : mptFront (front ++ nine) ≡ some (0xDD ∷ [], nine)
   pub one-entry : mpt (front ++ (1 ∷ E 0x22 stpp 0xF1 0x30 ++ nine)) ≡ some (record { front = front; entries = plain ∷ [] }, nine)
   pub one-missing : mpt (front ++ (2 ∷ E 0x22 stpp 0xF1 0x30)) ≡ none
-  pub name-and-place : packageFields (pack ++ nine) ≡ some ((4 ∷ 1 ∷ [], some 0xF001), nine)
-  pub a-package : packageEntry (pack ++ nine) ≡ some (record { name = 4 ∷ 1 ∷ []; place = some 0xF001; bytes-of = pack }, nine)
-  pub one-package : plt (1 ∷ pack ++ nine) ≡ some (record { name = 4 ∷ 1 ∷ []; place = some 0xF001; bytes-of = pack } ∷ [], nine)
+  pub name-and-carrier : packageFields (pack ++ nine) ≡ some ((4 ∷ 1 ∷ [], some 0xF001), nine)
+  pub a-package : packageEntry (pack ++ nine) ≡ some (record { name = 4 ∷ 1 ∷ []; carrier = some 0xF001; bytes-of = pack }, nine)
+  pub one-package : plt (1 ∷ pack ++ nine) ≡ some (record { name = 4 ∷ 1 ∷ []; carrier = some 0xF001; bytes-of = pack } ∷ [], nine)
   pub two-counted : plt (2 ∷ pack) ≡ none
   pub two-bytes : serviceOf (4 ∷ 1 ∷ []) ≡ some 0x0401
   pub other-names : (serviceOf [] ≡ none) × (serviceOf (4 ∷ []) ≡ none) × (serviceOf (4 ∷ 1 ∷ 0 ∷ []) ≡ none)
@@ -105,7 +105,7 @@ body-cases = record {
   descriptors = refl;
   one-entry = refl;
   one-missing = refl;
-  name-and-place = refl;
+  name-and-carrier = refl;
   a-package = refl;
   one-package = refl;
   two-counted = refl;

@@ -41,7 +41,7 @@ asked o k = refl
 -- ---- service 1 is named, and the PLT has one other service, whose MPT is on p
 
 abbrev other : ℕ → Known
-other p = record { plt-seen = true; packages = (2, p) ∷ []; maps = []; room = []; carousels = []; fragments = [] }
+other p = record { plt-seen = true; packages = (2, p) ∷ []; map-heads = []; map-room = []; data-set = []; fragments = [] }
 
 abbrev first : Options
 first = record { service = Only 1; caption = true; carousel = true; eit = true }
@@ -62,7 +62,7 @@ last-counts = asked first (other 0xFFFF) ∙ counted-one (drops first (other 0xF
 -- ---- nothing is known, and EIT is off
 
 abbrev nobody : Known
-nobody = record { plt-seen = false; packages = []; maps = []; room = []; carousels = []; fragments = [] }
+nobody = record { plt-seen = false; packages = []; map-heads = []; map-room = []; data-set = []; fragments = [] }
 
 abbrev no-eit : Options
 no-eit = record { service = Only 1; caption = true; carousel = true; eit = false }

@@ -7,10 +7,11 @@ use mathlib.Core.Option.{none, some}
 use lib.ListN.{replicate}
 use Rattle.meaning.specs.Bytes.{Bytes}
 use Rattle.meaning.specs.Narrow.{changeTable}
-use Rattle.meaning.specs.Learn.{Limits}
 use Rattle.meaning.specs.Record.{State}
-use Rattle.meaning.specs.Push.{push, fresh}
+use Rattle.meaning.specs.Start.{fresh}
+use Rattle.meaning.specs.Push.{push}
 use Rattle.meaning.specs.Programs.{sumsWrites}
+use Rattle.meaning.specs.declared.Limits.{Limits}
 use Rattle.meaning.specs.declared.Service.the-variants.{Every, Only}
 use Rattle.meaning.specs.declared.Options.{Options}
 use Rattle.meaning.specs.declared.Counts.{Counts}

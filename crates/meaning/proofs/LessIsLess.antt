@@ -8,13 +8,15 @@ use lib.Dec.{eqb}
 use Rattle.meaning.specs.Bytes.{Bytes}
 use Rattle.meaning.specs.Packets.{cut}
 use Rattle.meaning.specs.Mmtp.{mmtpOf}
+use Rattle.meaning.specs.Wishes.{copiesAll}
 use Rattle.meaning.specs.Narrow.{narrowPacket, narrowedPacket}
-use Rattle.meaning.specs.Learn.{Limits, Known, learn}
-use Rattle.meaning.specs.Rules.{copiesAll}
-use Rattle.meaning.specs.Refusals.{packetLimit}
+use Rattle.meaning.specs.Rooms.{packetLimit}
+use Rattle.meaning.specs.Learn.{Known, learn}
 use Rattle.meaning.specs.Record.{State}
-use Rattle.meaning.specs.Push.{withheld, Passed, passOne, pass, filtered, push, Lent, callRefusal, Run, runOn, run}
+use Rattle.meaning.specs.Push.{withheld, Passed, passOne, pass, filtered, push}
+use Rattle.meaning.specs.Series.{Lent, callRefusal, Series, seriesOn, series}
 use Rattle.meaning.specs.Less.{Fewer, Thinned}
+use Rattle.meaning.specs.declared.Limits.{Limits}
 use Rattle.meaning.specs.declared.Options.{Options}
 use Rattle.meaning.proofs.ListLaws.{clash}
 use Rattle.meaning.proofs.NarrowLaws.{packet-narrows}
@@ -95,23 +97,23 @@ module _ (L : Limits) {o₁ o₂ : Options} (fewer : Fewer o₁ o₂) where
     -- ---- demand 3: any series of calls, each with its chunk and the length of its output
 
     pub less-is-less : (st : State) (cs : List Lent)
-        → Thinned (narrowedPacket o₁) (run L o₁ st cs .out) (run L o₂ st cs .out) × (run L o₁ st cs .state ≡ run L o₂ st cs .state)
-    unfolding run
+        → Thinned (narrowedPacket o₁) (series L o₁ st cs .out) (series L o₂ st cs .out) × (series L o₁ st cs .state ≡ series L o₂ st cs .state)
+    unfolding series
     less-is-less st [] = (thinned-nil, refl)
     less-is-less st (c ∷ cs) =
         go (eqb (callRefusal L st c) 0) (less-is-less st cs)
-        (subst (λ (z : State). Thinned (narrowedPacket o₁) (run L o₁ (push L o₁ st (c .0) .state) cs .out) (run L o₂ z cs .out) × (run L o₁ (push L o₁ st (c .0) .state) cs .state ≡ run L o₂ z cs .state))
+        (subst (λ (z : State). Thinned (narrowedPacket o₁) (series L o₁ (push L o₁ st (c .0) .state) cs .out) (series L o₂ z cs .out) × (series L o₁ (push L o₁ st (c .0) .state) cs .state ≡ series L o₂ z cs .state))
         (push-state st (c .0)) (less-is-less (push L o₁ st (c .0) .state) cs))
       where
-        r₁ : Run
-        r₁ = run L o₁ (push L o₁ st (c .0) .state) cs
+        r₁ : Series
+        r₁ = series L o₁ (push L o₁ st (c .0) .state) cs
 
-        r₂ : Run
-        r₂ = run L o₂ (push L o₂ st (c .0) .state) cs
+        r₂ : Series
+        r₂ = series L o₂ (push L o₂ st (c .0) .state) cs
 
-        go : (a : Bool) → Thinned (narrowedPacket o₁) (run L o₁ st cs .out) (run L o₂ st cs .out) × (run L o₁ st cs .state ≡ run L o₂ st cs .state)
+        go : (a : Bool) → Thinned (narrowedPacket o₁) (series L o₁ st cs .out) (series L o₂ st cs .out) × (series L o₁ st cs .state ≡ series L o₂ st cs .state)
             → Thinned (narrowedPacket o₁) (r₁ .out) (r₂ .out) × (r₁ .state ≡ r₂ .state)
-            → Thinned (narrowedPacket o₁) (cond a (runOn (push L o₁ st (c .0) .out) r₁) (run L o₁ st cs) .out) (cond a (runOn (push L o₂ st (c .0) .out) r₂) (run L o₂ st cs) .out)
-            × (cond a (runOn (push L o₁ st (c .0) .out) r₁) (run L o₁ st cs) .state ≡ cond a (runOn (push L o₂ st (c .0) .out) r₂) (run L o₂ st cs) .state)
+            → Thinned (narrowedPacket o₁) (cond a (seriesOn (push L o₁ st (c .0) .out) r₁) (series L o₁ st cs) .out) (cond a (seriesOn (push L o₂ st (c .0) .out) r₂) (series L o₂ st cs) .out)
+            × (cond a (seriesOn (push L o₁ st (c .0) .out) r₁) (series L o₁ st cs) .state ≡ cond a (seriesOn (push L o₂ st (c .0) .out) r₂) (series L o₂ st cs) .state)
         go true skipped done = (thinned-append (push-thinned st (c .0)) (done .0), done .1)
         go false skipped done = skipped

@@ -28,7 +28,7 @@ pub mod NarrowLaws
 pub mod RuleLaws
 pub mod CountLaws
 pub mod LessIsLess
-pub mod Holds
-pub mod SoundLaws
+pub mod SoundnessKept
+pub mod SoundnessLaws
 pub mod SpareLaws
 pub mod Statements

@@ -12,7 +12,7 @@ use lib.Seq.{take-at, drop-at, length-take-le}
 use borrow.Author.Tests.{le-leb, lt-leb}
 use Rattle.meaning.specs.Bytes.{Bytes}
 use Rattle.meaning.specs.Readers.{Out, Reader, bind, _>>=_, give, refuse, byte, u8, u16, u32, bytes, counted8, counted16, counted32, announced, many, raw}
-use Rattle.meaning.specs.Mmtp.{extension, mmtpHead}
+use Rattle.meaning.specs.Mmtp.{extension, mmtpHeader}
 use Rattle.meaning.specs.Messages.{isLong, messageBody, message}
 use Rattle.meaning.specs.Tables.{elsewhere, locationBody, location, clockRelation, asset, entry, mptFront, mpt, packageFields, packageEntry, plt, table, paHead}
 
@@ -137,9 +137,9 @@ extension-local : Local extension
 unfolding extension
 extension-local = bind-local u16-local (λ _. counted16-local)
 
-pub mmtpHead-local : Local mmtpHead
-unfolding mmtpHead
-mmtpHead-local =
+pub mmtpHeader-local : Local mmtpHeader
+unfolding mmtpHeader
+mmtpHeader-local =
     bind-local u8-local (λ f. bind-local u8-local (λ t. bind-local u16-local (λ p. bind-local u32-local (λ _. bind-local u32-local (λ _.
     bind-local (announced-local (bytes-local 4) (f / 32 % 2)) (λ _. bind-local (announced-local extension-local (f / 2 % 2)) (λ _. give-local _)))))))
 

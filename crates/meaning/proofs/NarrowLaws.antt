@@ -11,14 +11,15 @@ use lib.Seq.{take-at, drop-at, length-take-le, getD-take}
 use lib.Dec.{leb, eqb}
 use borrow.Author.Tests.{le-leb, leb-true, eqb-true}
 use Rattle.meaning.specs.Bytes.{Bytes, be16, be16At, put16, put32}
+use Rattle.meaning.specs.Lists.{isSome}
 use Rattle.meaning.specs.Readers.{Out, give, byte, u16, u32, bytes, counted32}
-use Rattle.meaning.specs.Mmtp.{Place, byKind, compressed, udp, placeOf, Head, mmtpHead, Mmtp, mmtpFrom, mmtpAt, mmtpOf, isSignalling}
+use Rattle.meaning.specs.Mmtp.{Offset, byHeaderType, compressed, udp, offsetOf, MmtpHeader, mmtpHeader, Mmtp, mmtpFrom, mmtpAt, mmtpOf, isSignalling}
 use Rattle.meaning.specs.Messages.{Message, message, messageBody, isLong, indicator, aggregated}
-use Rattle.meaning.specs.Narrow.{narrowPa, paOf, paMessage, payloadBytes, payloadFor, narrowPayload, packetBytes, packetFor, narrowPacket, narrowTable, isSome}
+use Rattle.meaning.specs.Narrow.{narrowPa, paOf, paMessage, payloadBytes, payloadFor, narrowPayload, packetBytes, packetFor, narrowPacket, narrowTable}
 use Rattle.meaning.specs.Less.{Fewer}
 use Rattle.meaning.specs.declared.Options.{Options}
 use Rattle.meaning.proofs.ListLaws.{clash, and-both}
-use Rattle.meaning.proofs.Local.{mmtpHead-local}
+use Rattle.meaning.proofs.Local.{mmtpHeader-local}
 use Rattle.meaning.proofs.Framed.{before}
 use Rattle.meaning.proofs.TableLaws.{Narrows, narrows-again, be16-put, be16-small, table-narrows}
 use Rattle.meaning.proofs.PaLaws.{pa-narrows}
@@ -219,22 +220,22 @@ udp-fixed : (header : ℕ) (s : Bytes) (at : ℕ) (w : Bool) → udp header s �
 unfolding udp
 udp-fixed header s at w e = go (leb (header + 4) (length s)) (eqb (be16At s (header + 2)) 123) e
   where
-    go : (a b : Bool) → cond {A = Place} a (cond {A = Place} b none (some (header + 8, false))) none ≡ some (at, w) → w ≡ false
+    go : (a b : Bool) → cond {A = Offset} a (cond {A = Offset} b none (some (header + 8, false))) none ≡ some (at, w) → w ≡ false
     go false b q = absurd (Option·none-ne-some _ q)
     go true true q = absurd (Option·none-ne-some _ q)
     go true false q = sym (ap (λ z. z .1) (Option·some-injective _ _ q))
 
--- a place that may be rewritten is at 3, and stays there whatever follows the first three bytes
+-- an offset that may be rewritten is at 3, and stays there whatever follows the first three bytes
 pub record Rewritable (type : ℕ) (s : Bytes) (at : ℕ) : Type 0 where
   pub three : at ≡ 3
   pub long : 3 ≤ length s
-  pub again : (t : Bytes) → 3 ≤ length t → getD t 2 0 ≡ getD s 2 0 → placeOf type t ≡ some (3, true)
+  pub again : (t : Bytes) → 3 ≤ length t → getD t 2 0 ≡ getD s 2 0 → offsetOf type t ≡ some (3, true)
 
-kind-place : (k at : ℕ) → byKind k ≡ some (at, true) → (at ≡ 3) × (byKind k ≡ some (3, true))
-unfolding byKind
-kind-place k at e = go (eqb k 0x21) (eqb k 0x61) (eqb k 0x20) (eqb k 0x60) e
+header-type-offset : (k at : ℕ) → byHeaderType k ≡ some (at, true) → (at ≡ 3) × (byHeaderType k ≡ some (3, true))
+unfolding byHeaderType
+header-type-offset k at e = go (eqb k 0x21) (eqb k 0x61) (eqb k 0x20) (eqb k 0x60) e
   where
-    by : Bool → Bool → Bool → Bool → Place
+    by : Bool → Bool → Bool → Bool → Offset
     by a b c d = cond a (some (3, true)) (cond b (some (3, true)) (cond c (some (23, false)) (cond d (some (45, false)) none)))
 
     go : (a b c d : Bool) → by a b c d ≡ some (at, true) → (at ≡ 3) × (by a b c d ≡ some (3, true))
@@ -244,34 +245,34 @@ kind-place k at e = go (eqb k 0x21) (eqb k 0x61) (eqb k 0x20) (eqb k 0x60) e
     go false false false true q = clash (let z : false ≡ true = ap (λ z. z .1) (Option·some-injective _ _ q) in cc)
     go false false false false q = absurd (Option·none-ne-some _ q)
 
-compressed-place : (s : Bytes) (at : ℕ) → compressed s ≡ some (at, true)
+compressed-offset : (s : Bytes) (at : ℕ) → compressed s ≡ some (at, true)
     → (at ≡ 3) × (3 ≤ length s) × ((t : Bytes) → 3 ≤ length t → getD t 2 0 ≡ getD s 2 0 → compressed t ≡ some (3, true))
 unfolding compressed
-compressed-place s at e = go (leb 3 (length s)) refl e
+compressed-offset s at e = go (leb 3 (length s)) refl e
   where
-    go : (a : Bool) → leb 3 (length s) ≡ a → cond {A = Place} a (byKind (getD s 2 0)) none ≡ some (at, true)
-        → (at ≡ 3) × (3 ≤ length s) × ((t : Bytes) → 3 ≤ length t → getD t 2 0 ≡ getD s 2 0 → cond {A = Place} (leb 3 (length t)) (byKind (getD t 2 0)) none ≡ some (3, true))
+    go : (a : Bool) → leb 3 (length s) ≡ a → cond {A = Offset} a (byHeaderType (getD s 2 0)) none ≡ some (at, true)
+        → (at ≡ 3) × (3 ≤ length s) × ((t : Bytes) → 3 ≤ length t → getD t 2 0 ≡ getD s 2 0 → cond {A = Offset} (leb 3 (length t)) (byHeaderType (getD t 2 0)) none ≡ some (3, true))
     go false ea q = absurd (Option·none-ne-some _ q)
     go true ea q =
-        let k = kind-place (getD s 2 0) at q in
+        let k = header-type-offset (getD s 2 0) at q in
         (k .0, leb-true _ _ ea, λ t l g. rw (le-leb 3 (length t) l, g) (k .1))
 
-place-by : (type : ℕ) (s : Bytes) → placeOf type s
+offset-by : (type : ℕ) (s : Bytes) → offsetOf type s
     ≡ cond (eqb type 0x03) (compressed s) (cond (eqb type 0x01) (udp (getD s 0 0 % 16 * 4) s) (cond (eqb type 0x02) (udp 40 s) none))
-unfolding placeOf
-place-by type s = refl
+unfolding offsetOf
+offset-by type s = refl
 
-pub rewritable-place : (type : ℕ) (s : Bytes) (at : ℕ) → placeOf type s ≡ some (at, true) → Rewritable type s at
-rewritable-place type s at e = go (eqb type 0x03) refl (eqb type 0x01) refl (eqb type 0x02) refl (place-by type s) e
+pub rewritable-offset : (type : ℕ) (s : Bytes) (at : ℕ) → offsetOf type s ≡ some (at, true) → Rewritable type s at
+rewritable-offset type s at e = go (eqb type 0x03) refl (eqb type 0x01) refl (eqb type 0x02) refl (offset-by type s) e
   where
-    by : Bytes → Bool → Bool → Bool → Place
+    by : Bytes → Bool → Bool → Bool → Offset
     by t a b c = cond a (compressed t) (cond b (udp (getD t 0 0 % 16 * 4) t) (cond c (udp 40 t) none))
 
     go : (a : Bool) → eqb type 0x03 ≡ a → (b : Bool) → eqb type 0x01 ≡ b → (c : Bool) → eqb type 0x02 ≡ c
-        → placeOf type s ≡ by s (eqb type 0x03) (eqb type 0x01) (eqb type 0x02) → placeOf type s ≡ some (at, true) → Rewritable type s at
+        → offsetOf type s ≡ by s (eqb type 0x03) (eqb type 0x01) (eqb type 0x02) → offsetOf type s ≡ some (at, true) → Rewritable type s at
     go true ea b eb c ec w q =
-        let k = compressed-place s at (sym (w ∙ ap (λ (z : Bool). by s z (eqb type 0x01) (eqb type 0x02)) ea) ∙ q) in
-        record { three = k .0; long = k .1; again = λ t l g. place-by type t ∙ ap (λ (z : Bool). by t z (eqb type 0x01) (eqb type 0x02)) ea ∙ k .2 t l g }
+        let k = compressed-offset s at (sym (w ∙ ap (λ (z : Bool). by s z (eqb type 0x01) (eqb type 0x02)) ea) ∙ q) in
+        record { three = k .0; long = k .1; again = λ t l g. offset-by type t ∙ ap (λ (z : Bool). by t z (eqb type 0x01) (eqb type 0x02)) ea ∙ k .2 t l g }
     go false ea true eb c ec w q =
         clash (let z = udp-fixed (getD s 0 0 % 16 * 4) s at true (sym (w ∙ ap₂ (λ (x y : Bool). by s x y (eqb type 0x02)) ea eb) ∙ q) in cc)
     go false ea false eb true ec w q =
@@ -281,7 +282,7 @@ rewritable-place type s at e = go (eqb type 0x03) refl (eqb type 0x01) refl (eqb
 
 -- the packet with another payload
 abbrev pub withPayload : Mmtp → Bytes → Mmtp
-withPayload m y = record { identifier = m .identifier; kind = m .kind; rewritable = m .rewritable; payload = y }
+withPayload m y = record { identifier = m .identifier; payload-type = m .payload-type; rewritable = m .rewritable; payload = y }
 
 pub record PacketSplit (p : Bytes) (m : Mmtp) : Type 0 where
   pub again : (y : Bytes) → mmtpOf (packetBytes p m y) ≡ some (withPayload m y)
@@ -307,9 +308,9 @@ packet-parts a t l k f m g = record {
 }
 
 -- the head behind the first three bytes of the front reads the same whatever payload follows
-read-again : (t : ℕ) (pl part : Bytes) (m : Mmtp) (h : Head) (y : Bytes) → Rewritable t pl 3
-    → ((y : Bytes) → mmtpHead (part ++ y) ≡ some (h, y)) → h .identifier ≡ m .identifier → h .kind ≡ m .kind → m .rewritable ≡ true
-    → mmtpAt (placeOf t ((take 3 pl ++ part) ++ y)) ((take 3 pl ++ part) ++ y) ≡ some (withPayload m y)
+read-again : (t : ℕ) (pl part : Bytes) (m : Mmtp) (h : MmtpHeader) (y : Bytes) → Rewritable t pl 3
+    → ((y : Bytes) → mmtpHeader (part ++ y) ≡ some (h, y)) → h .identifier ≡ m .identifier → h .payload-type ≡ m .payload-type → m .rewritable ≡ true
+    → mmtpAt (offsetOf t ((take 3 pl ++ part) ++ y)) ((take 3 pl ++ part) ++ y) ≡ some (withPayload m y)
 read-again t pl part m h y r g ei ek ew =
     let ev : true ≡ m .rewritable = sym ew in
     let l3 : length (take 3 pl) ≡ 3 = length-take-le 3 pl (r .long) in
@@ -319,25 +320,25 @@ read-again t pl part m h y r g ei ek ew =
     ap (λ (z : Bytes). getD z 2 0) (append-assoc (take 3 pl) part y) ∙ List·getD-append (take 3 pl) (part ++ y) 0 2 (omega arith) ∙ getD-take 3 pl 2 0 (omega arith) in
     let rest : drop 3 s ≡ part ++ y = ap (drop 3) (append-assoc (take 3 pl) part y) ∙ drop-at (take 3 pl) (part ++ y) 3 l3 in
     rw (r .again s long third, le-leb 3 (length s) long, rest, g y)
-    (λ i. some (record { identifier = ei i; kind = ek i; rewritable = ev i; payload = y }))
+    (λ i. some (record { identifier = ei i; payload-type = ek i; rewritable = ev i; payload = y }))
 
-four : (a t n : ℕ) (s : Bytes) → mmtpOf (a ∷ t ∷ (put16 n ++ s)) ≡ mmtpAt (placeOf t s) s
+four : (a t n : ℕ) (s : Bytes) → mmtpOf (a ∷ t ∷ (put16 n ++ s)) ≡ mmtpAt (offsetOf t s) s
 unfolding mmtpOf put16
 four a t n s = let l : 4 ≤ 4 + length s = omega arith in rw (le-leb 4 (length (a ∷ t ∷ n / 256 % 256 ∷ n % 256 ∷ s)) (omega arith))
 
-packet-whole : (a t l k : ℕ) (pl : Bytes) (at : ℕ) (h : Head) (m : Mmtp) → placeOf t pl ≡ some (at, true) → mmtpHead (drop at pl) ≡ some (h, m .payload)
-    → h .identifier ≡ m .identifier → h .kind ≡ m .kind → m .rewritable ≡ true → PacketSplit (a ∷ t ∷ l ∷ k ∷ pl) m
+packet-whole : (a t l k : ℕ) (pl : Bytes) (at : ℕ) (h : MmtpHeader) (m : Mmtp) → offsetOf t pl ≡ some (at, true) → mmtpHeader (drop at pl) ≡ some (h, m .payload)
+    → h .identifier ≡ m .identifier → h .payload-type ≡ m .payload-type → m .rewritable ≡ true → PacketSplit (a ∷ t ∷ l ∷ k ∷ pl) m
 unfolding mmtpOf
 packet-whole a t l k pl at h m ep eh ei ek ew =
-    let r = rewritable-place t pl at ep in
-    let eh3 : mmtpHead (drop 3 pl) ≡ some (h, m .payload) = ap (λ (n : ℕ). mmtpHead (drop n pl)) (sym (r .three)) ∙ eh in
-    let u = mmtpHead-local (drop 3 pl) h (m .payload) eh3 in
+    let r = rewritable-offset t pl at ep in
+    let eh3 : mmtpHeader (drop 3 pl) ≡ some (h, m .payload) = ap (λ (n : ℕ). mmtpHeader (drop n pl)) (sym (r .three)) ∙ eh in
+    let u = mmtpHeader-local (drop 3 pl) h (m .payload) eh3 in
     let f : Bytes = take 3 pl ++ u .part in
     let whole : f ++ m .payload ≡ pl = append-assoc (take 3 pl) (u .part) (m .payload) ∙ ap (λ (z : Bytes). take 3 pl ++ z) (sym (u .whole)) ∙ take-append-drop 3 pl in
     subst (λ (z : Bytes). PacketSplit (a ∷ t ∷ l ∷ k ∷ z) m) whole
     (packet-parts a t l k f m (λ y. long a t f y (read-again t pl (u .part) m h y (subst (Rewritable t pl) (r .three) r) (u .again) ei ek ew)))
   where
-    long : (a t : ℕ) (f y : Bytes) {o : Option Mmtp} → mmtpAt (placeOf t (f ++ y)) (f ++ y) ≡ o → mmtpOf (a ∷ t ∷ (put16 (length (f ++ y)) ++ (f ++ y))) ≡ o
+    long : (a t : ℕ) (f y : Bytes) {o : Option Mmtp} → mmtpAt (offsetOf t (f ++ y)) (f ++ y) ≡ o → mmtpOf (a ∷ t ∷ (put16 (length (f ++ y)) ++ (f ++ y))) ≡ o
     long a t f y e = four a t (length (f ++ y)) (f ++ y) ∙ e
 
 -- what was read of a packet that may be rewritten
@@ -348,20 +349,20 @@ packet-split (a ∷ []) m e w = absurd (Option·none-ne-some _ e)
 packet-split (a ∷ t ∷ []) m e w = absurd (Option·none-ne-some _ e)
 packet-split (a ∷ t ∷ l ∷ []) m e w = absurd (Option·none-ne-some _ e)
 packet-split (a ∷ t ∷ l ∷ k ∷ pl) m e w =
-    go (placeOf t pl) refl (sym (ap (λ (b : Bool). cond b (mmtpAt (placeOf t pl) pl) none) (le-leb 4 (length (a ∷ t ∷ l ∷ k ∷ pl)) (omega arith))) ∙ e)
+    go (offsetOf t pl) refl (sym (ap (λ (b : Bool). cond b (mmtpAt (offsetOf t pl) pl) none) (le-leb 4 (length (a ∷ t ∷ l ∷ k ∷ pl)) (omega arith))) ∙ e)
   where
-    headed : (at : ℕ) (v : Bool) → placeOf t pl ≡ some (at, v) → (o : Out Head) → mmtpHead (drop at pl) ≡ o → mmtpFrom v o ≡ some m → PacketSplit (a ∷ t ∷ l ∷ k ∷ pl) m
+    headed : (at : ℕ) (v : Bool) → offsetOf t pl ≡ some (at, v) → (o : Out MmtpHeader) → mmtpHeader (drop at pl) ≡ o → mmtpFrom v o ≡ some m → PacketSplit (a ∷ t ∷ l ∷ k ∷ pl) m
     headed at v ep none eo q = absurd (Option·none-ne-some _ q)
     headed at v ep (some (h, y)) eo q =
         let z = Option·some-injective _ _ q in
         let ev : v ≡ true = ap (λ x. x .rewritable) z ∙ w in
-        packet-whole a t l k pl at h m (ep ∙ ap (λ (b : Bool). some (at, b)) ev) (eo ∙ ap (λ x. some (h, x .payload)) z) (ap (λ x. x .identifier) z) (ap (λ x. x .kind) z) w
+        packet-whole a t l k pl at h m (ep ∙ ap (λ (b : Bool). some (at, b)) ev) (eo ∙ ap (λ x. some (h, x .payload)) z) (ap (λ x. x .identifier) z) (ap (λ x. x .payload-type) z) w
 
-    placed : (at : ℕ) (v : Bool) → placeOf t pl ≡ some (at, v) → (b : Bool) → cond b (mmtpFrom v (mmtpHead (drop at pl))) none ≡ some m → PacketSplit (a ∷ t ∷ l ∷ k ∷ pl) m
+    placed : (at : ℕ) (v : Bool) → offsetOf t pl ≡ some (at, v) → (b : Bool) → cond b (mmtpFrom v (mmtpHeader (drop at pl))) none ≡ some m → PacketSplit (a ∷ t ∷ l ∷ k ∷ pl) m
     placed at v ep false q = absurd (Option·none-ne-some _ q)
-    placed at v ep true q = headed at v ep (mmtpHead (drop at pl)) refl q
+    placed at v ep true q = headed at v ep (mmtpHeader (drop at pl)) refl q
 
-    go : (o : Place) → placeOf t pl ≡ o → mmtpAt o pl ≡ some m → PacketSplit (a ∷ t ∷ l ∷ k ∷ pl) m
+    go : (o : Offset) → offsetOf t pl ≡ o → mmtpAt o pl ≡ some m → PacketSplit (a ∷ t ∷ l ∷ k ∷ pl) m
     go none ep q = absurd (Option·none-ne-some _ q)
     go (some (at, v)) ep q = placed at v ep (leb at (length pl)) q
 

@@ -12,10 +12,10 @@ use lib.Seq.{take-at, drop-at, length-take-le}
 use lib.Dec.{leb, ltb}
 use borrow.Author.Tests.{le-leb, leb-true}
 use Rattle.meaning.specs.Bytes.{Bytes, put16}
-use Rattle.meaning.specs.Lists.{any}
+use Rattle.meaning.specs.Lists.{any, isSome}
 use Rattle.meaning.specs.Readers.{Out, give, byte, bytes, many, raw, walk}
 use Rattle.meaning.specs.Tables.{Table, table, PaHead, paHead, paFrom, pa}
-use Rattle.meaning.specs.Narrow.{newBody, tableBytes, newTable, tableAfter, tableChanges, isSome, relength, paBytes, paFor, narrowPa}
+use Rattle.meaning.specs.Narrow.{newBody, tableBytes, newTable, tableAfter, tableChanges, relength, paBytes, paFor, narrowPa}
 use Rattle.meaning.specs.Less.{Fewer}
 use Rattle.meaning.specs.declared.Options.{Options}
 use Rattle.meaning.proofs.ListLaws.{clash, and-both, and-true, or-either, or-left, or-right, or-neither}

@@ -9,9 +9,9 @@ use lib.Dec.{eqb}
 use Rattle.meaning.specs.Sets.{inSet}
 use Rattle.meaning.specs.Lists.{any}
 use Rattle.meaning.specs.Mmtp.{Mmtp, isSignalling}
-use Rattle.meaning.specs.Narrow.{wanted}
+use Rattle.meaning.specs.Wishes.{wanted, ours}
 use Rattle.meaning.specs.Learn.{Known, Listed, lists}
-use Rattle.meaning.specs.Rules.{ours, listOf, listsIt, assetsOf, keptBy, droppedBy, inDropSet, drops, ready}
+use Rattle.meaning.specs.Rules.{listOf, listsIt, assetsOf, keptBy, droppedBy, inDropSet, drops, ready}
 use Rattle.meaning.specs.Push.{withheld}
 use Rattle.meaning.specs.Less.{Fewer}
 use Rattle.meaning.specs.declared.Part.{Part}
@@ -64,15 +64,15 @@ module _ {o₁ o₂ : Options} (fewer : Fewer o₁ o₂) where
   set-under k q =
       and-under (not (eqb q 0) && droppers o₂) (not (keepers o₂)) (not (eqb q 0) && droppers o₁) (not (keepers o₁))
       (and-under (not (eqb q 0)) (droppers o₂) (not (eqb q 0)) (droppers o₁) (λ e. e)
-      (or-under (any (droppedBy o₂ (lists k) q) (k .packages)) (not (o₂ .carousel) && inSet (k .carousels) q)
-      (any (droppedBy o₁ (lists k) q) (k .packages)) (not (o₁ .carousel) && inSet (k .carousels) q)
+      (or-under (any (droppedBy o₂ (lists k) q) (k .packages)) (not (o₂ .carousel) && inSet (k .data-set) q)
+      (any (droppedBy o₁ (lists k) q) (k .packages)) (not (o₁ .carousel) && inSet (k .data-set) q)
       (any-under (droppedBy o₂ (lists k) q) (droppedBy o₁ (lists k) q) (dropped-under (lists k) q) (k .packages))
-      (and-under (not (o₂ .carousel)) (inSet (k .carousels) q) (not (o₁ .carousel)) (inSet (k .carousels) q)
+      (and-under (not (o₂ .carousel)) (inSet (k .data-set) q) (not (o₁ .carousel)) (inSet (k .data-set) q)
       (contra (o₁ .carousel) (o₂ .carousel) (fewer .carousel-too)) (λ e. e))))
       (contra (keepers o₁) (keepers o₂) (any-under (keptBy o₁ (lists k) q) (keptBy o₂ (lists k) q) (kept-under (lists k) q) (k .packages)))
     where
       droppers : Options → Bool
-      droppers o = any (droppedBy o (lists k) q) (k .packages) || (not (o .carousel) && inSet (k .carousels) q)
+      droppers o = any (droppedBy o (lists k) q) (k .packages) || (not (o .carousel) && inSet (k .data-set) q)
 
       keepers : Options → Bool
       keepers o = any (keptBy o (lists k) q) (k .packages)

@@ -10,13 +10,13 @@ use Rattle.meaning.specs.Bytes.{Bytes}
 use Rattle.meaning.specs.Lists.{keep, count}
 use Rattle.meaning.specs.Packets.{cut}
 use Rattle.meaning.specs.Tables.{Mpt, mpt, Table, table}
-use Rattle.meaning.specs.Narrow.{wanted, wantedEntry, mptBody, newBody, tableBytes, narrowTable, narrowPayload, narrowPacket, narrowedPacket, isPart}
-use Rattle.meaning.specs.Learn.{Limits}
-use Rattle.meaning.specs.Rules.{copiesAll}
-use Rattle.meaning.specs.Refusals.{packetLimit}
+use Rattle.meaning.specs.Wishes.{wanted, wantedEntry, copiesAll}
+use Rattle.meaning.specs.Narrow.{mptBody, newBody, tableBytes, narrowTable, narrowPayload, narrowPacket, narrowedPacket, isPart}
+use Rattle.meaning.specs.Rooms.{packetLimit}
 use Rattle.meaning.specs.Record.{State}
 use Rattle.meaning.specs.Push.{push, filtered}
 use Rattle.meaning.specs.Less.{Fewer}
+use Rattle.meaning.specs.declared.Limits.{Limits}
 use Rattle.meaning.specs.declared.Part.{Part}
 use Rattle.meaning.specs.declared.Options.{Options}
 use Rattle.meaning.proofs.ListLaws.{keep-sublist, stay-go}

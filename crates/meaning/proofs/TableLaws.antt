@@ -12,10 +12,11 @@ use lib.Seq.{take-at, drop-at, length-take-le}
 use lib.Dec.{leb, eqb}
 use borrow.Author.Tests.{le-leb, leb-true}
 use Rattle.meaning.specs.Bytes.{Bytes, be16, put16}
-use Rattle.meaning.specs.Lists.{keep, all}
+use Rattle.meaning.specs.Lists.{keep, all, isSome}
 use Rattle.meaning.specs.Readers.{Out, _>>=_, give, byte, u8, u16, bytes, counted16, many, raw}
 use Rattle.meaning.specs.Tables.{Entry, entry, mptFront, Mpt, mpt, Package, packageEntry, plt, serviceOf, Table, table, isMpt, isPlt}
-use Rattle.meaning.specs.Narrow.{wanted, wantedEntry, mptBody, mptKeeping, mptWithout, isService, lastOf, pltKeeping, pltOnly, pltFor, newBody, tableBytes, newTable, tableFrom, isSome}
+use Rattle.meaning.specs.Wishes.{wanted, wantedEntry}
+use Rattle.meaning.specs.Narrow.{mptBody, mptKeeping, mptWithout, isService, lastOf, pltKeeping, pltOnly, pltFor, newBody, tableBytes, newTable, tableFrom}
 use Rattle.meaning.specs.Less.{Fewer}
 use Rattle.meaning.specs.declared.Part.{Part}
 use Rattle.meaning.specs.declared.Part.the-variants.{Caption, Carousel, Other}
@@ -66,7 +67,7 @@ u8-split (c ∷ s) n r e =
     let q = Option·some-injective _ _ e in
     (c, ap (λ z. c ∷ z .1) q, sym (ap (λ z. z .0) q))
 
--- an MPT's body in its parts, and that any entries in the place of its own read again
+-- an MPT's body in its parts, and that any entries instead of its own read again
 pub record MptSplit (b : Bytes) (m : Mpt) (more : Bytes) : Type 0 where
   pub number : ℕ
   pub whole : b ≡ m .front ++ number ∷ (flatten (map (λ e. e .bytes-of) (m .entries)) ++ more)

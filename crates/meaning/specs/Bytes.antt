@@ -10,7 +10,7 @@ Bytes = List ℕ
 unfoldable pub be16 : ℕ → ℕ → ℕ
 be16 high low = (high * 256 + low) % 65536
 
--- The numbers of sixteen and of thirty-two bits that stand at a place of a run of bytes.
+-- The numbers of sixteen and of thirty-two bits that stand at an offset of a run of bytes.
 unfoldable pub be16At : Bytes → ℕ → ℕ
 unfolding be16
 be16At s at = be16 (getD s at 0) (getD s (at + 1) 0)

@@ -1,29 +1,24 @@
 -- What is learned from packets, and how: 01, "What is learned". No wish comes in.
-use Prim.Native.Nat.{ℕ, zero, suc, _+_, _*_, _%_}
-use mathlib.Core.Bool.{Bool, true, cond, not, _&&_}
+use Prim.Native.Nat.{ℕ, _+_, _*_, _%_, zero, suc}
+use mathlib.Core.Bool.{Bool, cond, true, _&&_, not}
 use mathlib.Core.List.{List, [], _∷_, _++_, map}
 use mathlib.Core.Option.{Option, none, some}
 use lib.ListN.{length, take, drop}
-use lib.Dec.{leb, ltb, eqb}
+use lib.Dec.{eqb, leb, ltb}
 use Rattle.meaning.specs.Bytes.{Bytes}
 use Rattle.meaning.specs.Sets.{Words, inSet, withId}
 use Rattle.meaning.specs.Lists.{keep, sum}
 use Rattle.meaning.specs.Readers.{Out, Walk}
 use Rattle.meaning.specs.Mmtp.{Mmtp, mmtpOf, isSignalling}
-use Rattle.meaning.specs.Messages.{Message, messages, indicator}
-use Rattle.meaning.specs.Tables.{Entry, Mpt, mpt, Package, plt, serviceOf, Table, isMpt, isPlt, PaHead, pa}
+use Rattle.meaning.specs.Messages.{indicator, Message, messages}
+use Rattle.meaning.specs.Tables.{kindNumber, kindOf, Entry, Mpt, mpt, Package, plt, serviceOf, Table, isMpt, isPlt, PaHead, pa}
 use Rattle.meaning.specs.declared.Part.{Part}
-use Rattle.meaning.specs.declared.Part.the-variants.{Caption, Carousel, Other}
+use Rattle.meaning.specs.declared.Limits.{Limits}
 
 -- ---- what is known
 
--- The rooms' lengths W and T, and one message's limit M.
-pub record Limits : Type 0 where
-  pub work : ℕ
-  pub total : ℕ
-  pub most : ℕ
-
--- A message that has begun: its identifier, the low six bits of its first byte, and the bodies so far.
+-- A message that has begun: its identifier, its flags and the bodies so far. A first's flags are the low six bits of its first byte; in a
+-- record that is handed in they may be any byte.
 pub record Fragment : Type 0 where
   pub identifier : ℕ
   pub flags : ℕ
@@ -34,11 +29,11 @@ pub record Known : Type 0 where
   -- service and MPT identifier, services rising
   pub packages : List (ℕ × ℕ)
   -- MPT identifier and number of assets, in the order of their places in the map room
-  pub maps : List (ℕ × ℕ)
+  pub map-heads : List (ℕ × ℕ)
   -- the numbers of the map room
-  pub room : List ℕ
+  pub map-room : List ℕ
   -- the data-carousel identifiers
-  pub carousels : Words
+  pub data-set : Words
   pub fragments : List Fragment
 
 -- What is known, and how many maps were lost on the way.
@@ -50,16 +45,6 @@ abbrev pub learnt : Known → Learnt
 learnt k = record { known = k; lost = 0 }
 
 -- ---- the map room: place i is its numbers 512 i to 512 i + 511, an asset two of them
-
-unfoldable pub kindNumber : Part → ℕ
-kindNumber Caption = 0
-kindNumber Carousel = 1
-kindNumber Other = 2
-
-unfoldable pub kindOf : ℕ → Part
-kindOf zero = Caption
-kindOf (suc zero) = Carousel
-kindOf (suc (suc n)) = Other
 
 abbrev pub Listed : Type 0
 Listed = List (ℕ × Part)
@@ -80,16 +65,16 @@ assetNumbers ((p, part) ∷ as′) = p ∷ kindNumber part ∷ assetNumbers as�
 -- All lists, each with its MPT's identifier.
 unfoldable pub listsIn : List (ℕ × ℕ) → List ℕ → List (ℕ × Listed)
 unfolding assetsIn
-listsIn [] room = []
-listsIn ((p, n) ∷ ms) room = (p, assetsIn n room) ∷ listsIn ms (drop 512 room)
+listsIn [] map-room = []
+listsIn ((p, n) ∷ ms) map-room = (p, assetsIn n map-room) ∷ listsIn ms (drop 512 map-room)
 
 unfoldable pub lists : Known → List (ℕ × Listed)
 unfolding listsIn
-lists k = listsIn (k .maps) (k .room)
+lists k = listsIn (k .map-heads) (k .map-room)
 
--- Numbers written over those at a place of a room.
+-- Numbers written over those of the map room from one on.
 unfoldable pub over : List ℕ → ℕ → List ℕ → List ℕ
-over room at ns = take at room ++ (ns ++ drop (at + length ns) room)
+over map-room at ns = take at map-room ++ (ns ++ drop (at + length ns) map-room)
 
 -- The place of an identifier's list: where it stands, or the first that is free.
 unfoldable pub placeFor : ℕ → List (ℕ × ℕ) → ℕ
@@ -112,17 +97,17 @@ unfolding over assetNumbers
 withList p as′ k i = record {
   plt-seen = k .plt-seen;
   packages = k .packages;
-  maps = take i (k .maps) ++ ((p, length as′) ∷ drop (suc i) (k .maps));
-  room = over (k .room) (512 * i) (assetNumbers as′);
-  carousels = k .carousels;
+  map-heads = take i (k .map-heads) ++ ((p, length as′) ∷ drop (suc i) (k .map-heads));
+  map-room = over (k .map-room) (512 * i) (assetNumbers as′);
+  data-set = k .data-set;
   fragments = k .fragments;
 }
 
 abbrev pub mptFrom : ℕ → Out Mpt → Known → Learnt
 mptFrom p none k = learnt k
 mptFrom p (some (m, more)) k =
-    cond (ltb (placeFor p (k .maps)) 64)
-    (learnt (withList p (listed (m .entries)) k (placeFor p (k .maps))))
+    cond (ltb (placeFor p (k .map-heads)) 64)
+    (learnt (withList p (listed (m .entries)) k (placeFor p (k .map-heads))))
     (record { known = k; lost = 1 })
 
 unfoldable pub learnMpt : ℕ → Bytes → Known → Learnt
@@ -145,15 +130,15 @@ addPackage (some s) (some p) ps = insertPackage s p ps
 unfoldable pub packagesIn : List Package → List (ℕ × ℕ) → List (ℕ × ℕ)
 unfolding serviceOf insertPackage
 packagesIn [] ps = ps
-packagesIn (x ∷ xs) ps = packagesIn xs (addPackage (serviceOf (x .name)) (x .place) ps)
+packagesIn (x ∷ xs) ps = packagesIn xs (addPackage (serviceOf (x .name)) (x .carrier) ps)
 
 abbrev pub withPackages : List (ℕ × ℕ) → Known → Known
 withPackages ps k = record {
   plt-seen = true;
   packages = ps;
-  maps = k .maps;
-  room = k .room;
-  carousels = k .carousels;
+  map-heads = k .map-heads;
+  map-room = k .map-room;
+  data-set = k .data-set;
   fragments = k .fragments;
 }
 
@@ -185,13 +170,13 @@ abbrev pub paTables : Option (PaHead × Walk (Table × Bytes)) → List (Table �
 paTables none = []
 paTables (some (h, w)) = w .found
 
-abbrev pub withCarousel : ℕ → Known → Known
-withCarousel p k = record {
+abbrev pub withData : ℕ → Known → Known
+withData p k = record {
   plt-seen = k .plt-seen;
   packages = k .packages;
-  maps = k .maps;
-  room = k .room;
-  carousels = withId (k .carousels) p;
+  map-heads = k .map-heads;
+  map-room = k .map-room;
+  data-set = withId (k .data-set) p;
   fragments = k .fragments;
 }
 
@@ -200,7 +185,7 @@ unfoldable pub learnMessage : ℕ → Message → Known → Learnt
 unfolding learnTables pa withId
 learnMessage p m k =
     cond (eqb (m .number) 0) (learnTables p (paTables (pa (m .body))) k)
-    (cond (eqb (m .number) 0x8003) (learnt (withCarousel p k)) (learnt k))
+    (cond (eqb (m .number) 0x8003) (learnt (withData p k)) (learnt k))
 
 unfoldable pub learnMessages : ℕ → List Message → Known → Learnt
 unfolding learnMessage
@@ -213,9 +198,9 @@ abbrev pub withFragments : List Fragment → Known → Known
 withFragments fs k = record {
   plt-seen = k .plt-seen;
   packages = k .packages;
-  maps = k .maps;
-  room = k .room;
-  carousels = k .carousels;
+  map-heads = k .map-heads;
+  map-room = k .map-room;
+  data-set = k .data-set;
   fragments = fs;
 }
 
@@ -226,9 +211,9 @@ unfoldable pub without : ℕ → List Fragment → List Fragment
 unfolding keep isOf
 without p fs = keep (λ f. not (isOf p f)) fs
 
-unfoldable pub heldBytes : List Fragment → ℕ
+unfoldable pub fragmentBytes : List Fragment → ℕ
 unfolding sum
-heldBytes fs = sum (map (λ f. length (f .body)) fs)
+fragmentBytes fs = sum (map (λ f. length (f .body)) fs)
 
 unfoldable pub fragmentOf : ℕ → List Fragment → Option Fragment
 unfolding isOf
@@ -245,17 +230,17 @@ growIn p b (f ∷ fs) = cond (isOf p f) (grown f b ∷ fs) (f ∷ growIn p b fs)
 
 -- A first drops what was held of its identifier, then is held if fewer than 256 others are and there is room. M is not tested.
 unfoldable pub holdFirst : Limits → ℕ → ℕ → Bytes → List Fragment → List Fragment
-unfolding without heldBytes
+unfolding without fragmentBytes
 holdFirst L p flags b fs =
     let others = without p fs in
-    cond (ltb (length others) 256 && leb (heldBytes others + length b) (L .total))
+    cond (ltb (length others) 256 && leb (fragmentBytes others + length b) (L .total))
     (others ++ (record { identifier = p; flags = flags % 64; body = b } ∷ []))
     others
 
 -- Whether a body keeps the fragment within M and all within T; a middle or last that does not discards the fragment.
 unfoldable pub fits : Limits → Fragment → Bytes → List Fragment → Bool
-unfolding heldBytes
-fits L f b fs = leb (length (f .body) + length b) (L .most) && leb (heldBytes fs + length b) (L .total)
+unfolding fragmentBytes
+fits L f b fs = leb (length (f .body) + length b) (L .most) && leb (fragmentBytes fs + length b) (L .total)
 
 abbrev pub middleOf : Option Fragment → Limits → ℕ → Bytes → List Fragment → List Fragment
 middleOf none L p b fs = fs
@@ -291,7 +276,7 @@ byIndicator (suc (suc (suc n))) L p flags s k = last L p (drop 1 s) k
 unfoldable pub observe : Limits → ℕ → Bytes → Known → Learnt
 unfolding inSet indicator holdFirst middle last learnMessages messages without
 observe L p [] k = learnt k
-observe L p (flags ∷ s) k = cond (inSet (k .carousels) p) (learnt k) (byIndicator (indicator flags) L p flags s k)
+observe L p (flags ∷ s) k = cond (inSet (k .data-set) p) (learnt k) (byIndicator (indicator flags) L p flags s k)
 
 -- ---- a packet: only signalling is observed
 

@@ -1,7 +1,8 @@
--- What the definitions do with lists: those that pass a test, whether all or any do, how many, and sums.
+-- What the definitions do with lists and options: those that pass a test, whether all or any do, how many, and sums.
 use Prim.Native.Nat.{ℕ, _+_}
-use mathlib.Core.Bool.{Bool, true, false, cond, _&&_, _||_}
+use mathlib.Core.Bool.{Bool, cond, true, false, _&&_, _||_}
 use mathlib.Core.List.{List, [], _∷_}
+use mathlib.Core.Option.{Option, none, some}
 
 module _ {A : Type 0} where
   -- Those that pass, in order.
@@ -26,3 +27,7 @@ module _ {A : Type 0} where
 unfoldable pub sum : List ℕ → ℕ
 sum [] = 0
 sum (n ∷ ns) = n + sum ns
+
+abbrev pub isSome : {A : Type 0} → Option A → Bool
+isSome none = false
+isSome (some a) = true

@@ -1,11 +1,11 @@
 -- The messages of a signalling payload: 01, "What is learned".
-use Prim.Native.Nat.{ℕ, zero, suc, _/_, _%_}
-use mathlib.Core.Bool.{Bool, true, false, cond, _&&_, _||_}
+use Prim.Native.Nat.{ℕ, _/_, _%_, zero, suc}
+use mathlib.Core.Bool.{Bool, cond, true, false, _&&_, _||_}
 use mathlib.Core.List.{List, [], _∷_}
 use mathlib.Core.Option.{none, some}
-use lib.Dec.{leb, eqb}
+use lib.Dec.{eqb, leb}
 use Rattle.meaning.specs.Bytes.{Bytes}
-use Rattle.meaning.specs.Readers.{Reader, Out, _>>=_, give, byte, u16, counted16, counted32, walk}
+use Rattle.meaning.specs.Readers.{Out, Reader, _>>=_, give, byte, u16, counted16, counted32, many, walk}
 
 -- ---- the first byte of a payload
 

@@ -1,29 +1,22 @@
 -- Narrowing: tables, payloads and packets with what is not wanted left out. 01, "Narrowing".
 use Prim.Native.Nat.{ℕ, _-_}
-use mathlib.Core.Bool.{Bool, true, false, cond, not, _&&_}
+use mathlib.Core.Bool.{Bool, cond, true, false, _&&_, not}
 use mathlib.Core.List.{List, [], _∷_, _++_, map, flatten}
 use mathlib.Core.Option.{Option, none, some, Option·map, Option·getD}
 use lib.ListN.{length, take, drop}
-use lib.Dec.{ltb, eqb}
+use lib.Dec.{eqb, leb, ltb}
 use Rattle.meaning.specs.Bytes.{Bytes, put16, put32}
-use Rattle.meaning.specs.Lists.{keep, all, any, count}
+use Rattle.meaning.specs.Lists.{keep, all, any, count, isSome}
 use Rattle.meaning.specs.Readers.{Out, Walk}
 use Rattle.meaning.specs.Mmtp.{Mmtp, mmtpOf, isSignalling}
-use Rattle.meaning.specs.Messages.{Message, message, indicator, aggregated}
+use Rattle.meaning.specs.Messages.{indicator, aggregated, Message, message}
 use Rattle.meaning.specs.Tables.{Entry, Mpt, mpt, Package, plt, serviceOf, Table, table, isMpt, isPlt, PaHead, pa}
+use Rattle.meaning.specs.Wishes.{wanted, wantedEntry}
 use Rattle.meaning.specs.declared.Part.{Part}
 use Rattle.meaning.specs.declared.Part.the-variants.{Caption, Carousel, Other}
 use Rattle.meaning.specs.declared.Service.{Service}
 use Rattle.meaning.specs.declared.Service.the-variants.{Every, Only}
 use Rattle.meaning.specs.declared.Options.{Options}
-
-abbrev pub wanted : Options → Part → Bool
-wanted o Caption = o .caption
-wanted o Carousel = o .carousel
-wanted o Other = true
-
-abbrev pub wantedEntry : Options → Entry → Bool
-wantedEntry o e = wanted o (e .part)
 
 -- ---- an MPT without what is not wanted: the rest stays in order, the count follows
 
@@ -97,10 +90,6 @@ narrowTable o t = tableFrom o 0 (table t)
 -- A table as narrowing leaves it.
 abbrev pub tableAfter : Options → ℕ → Table × Bytes → Bytes
 tableAfter o p t = Option·getD (newTable o p (t .0)) (t .1)
-
-abbrev pub isSome : {A : Type 0} → Option A → Bool
-isSome none = false
-isSome (some a) = true
 
 abbrev pub tableChanges : Options → ℕ → Table × Bytes → Bool
 tableChanges o p t = isSome (newTable o p (t .0))
@@ -253,3 +242,8 @@ changePayload o p s = Option·map (changeOf o (partsOfMessage (paMessage s))) (n
 unfoldable pub changePacket : Options → Bytes → Option Change
 unfolding narrowPacket mmtpOf paMessage pa tablesParts stayed went
 changePacket o p = Option·map (changeOf o (partsOfPacket (mmtpOf p))) (narrowPacket o p)
+
+-- ---- refused by the lengths of the input and of the output
+
+unfoldable pub narrowRefusal : ℕ → ℕ → ℕ
+narrowRefusal n out-length = cond (leb n 65539) (cond (leb n out-length) 0 6) 5

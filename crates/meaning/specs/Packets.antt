@@ -1,16 +1,16 @@
 -- Finding packets in a run of bytes: 01, "Finding packets".
-use Prim.Native.Nat.{ℕ, zero, suc, _+_, _-_}
+use Prim.Native.Nat.{ℕ, _+_, zero, suc, _-_}
 use mathlib.Core.Bool.{Bool, cond, _&&_, _||_}
 use mathlib.Core.List.{List, [], _∷_}
-use lib.ListN.{length, take, getD}
-use lib.Dec.{leb, ltb, eqb}
+use lib.ListN.{getD, length, take}
+use lib.Dec.{eqb, leb, ltb}
 use Rattle.meaning.specs.Bytes.{Bytes, be16At}
 use Rattle.meaning.specs.declared.Step.{Step}
 use Rattle.meaning.specs.declared.Step.the-variants.{Packet, Skip, Keep}
 
 -- ---- what stands at the front of a run
 
--- The size of the packet whose head is at the front of s, the head's four bytes included.
+-- The size of the packet whose header is at the front of s, the header's four bytes included.
 unfoldable pub sizeOf : Bytes → ℕ
 unfolding be16At
 sizeOf s = 4 + be16At s 2

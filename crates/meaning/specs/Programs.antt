@@ -1,18 +1,21 @@
 -- What the two programs write for what they read: 01, the paragraph after the examples.
-use Prim.Native.Nat.{ℕ, zero, suc, _+_, _/_, _%_}
-use mathlib.Core.Bool.{Bool, true, cond, _||_}
+use Prim.Native.Nat.{ℕ, _+_, _/_, _%_, zero, suc}
+use mathlib.Core.Bool.{Bool, cond, true, _||_}
 use mathlib.Core.List.{List, [], _∷_, _++_, flatten}
 use mathlib.Core.Option.{none, some}
 use lib.ListN.{length, take, drop, replicate}
-use lib.Dec.{ltb, eqb}
+use lib.Dec.{eqb, ltb}
 use Rattle.meaning.specs.Bytes.{Bytes, be16At}
 use Rattle.meaning.specs.Readers.{Reader, walk}
-use Rattle.meaning.specs.Learn.{Limits}
 use Rattle.meaning.specs.Record.{State}
-use Rattle.meaning.specs.Push.{push, fresh, addCounts, countsOf}
+use Rattle.meaning.specs.Calls.{countsOf}
+use Rattle.meaning.specs.Start.{fresh}
+use Rattle.meaning.specs.Push.{push}
+use Rattle.meaning.specs.Tally.{addCounts}
 use Rattle.meaning.specs.declared.Service.{Service}
 use Rattle.meaning.specs.declared.Service.the-variants.{Every, Only}
 use Rattle.meaning.specs.declared.Options.{Options}
+use Rattle.meaning.specs.declared.Limits.{Limits}
 use Rattle.meaning.specs.declared.Counts.{Counts}
 
 -- ---- the input: a flag byte, a service in two bytes, the stream

@@ -1,7 +1,5 @@
 -- Refusal numbers: 01, "Refusal numbers". The lowest that applies is given, 0 for none.
-use Prim.Native.Nat.{ℕ, _/_, min}
-use mathlib.Core.Bool.{Bool, cond, _&&_}
-use lib.Dec.{leb, eqb}
+use Prim.Native.Nat.{ℕ}
 use Rattle.meaning.specs.declared.Refusal.{Refusal}
 use Rattle.meaning.specs.declared.Refusal.the-variants.{WorkRoom, FragmentRoom, MapRoom, Unsound, Long, Short, Tally, Input}
 use Rattle.meaning.specs.declared.Narrowing.{Narrowing}
@@ -35,27 +33,3 @@ unfoldable pub narrowingLength : Narrowing → ℕ
 narrowingLength (Narrowing.Refused r) = 0
 narrowingLength Narrowing.Unchanged = 0
 narrowingLength (Narrowing.Changed n) = n
-
--- ---- rooms
-
--- The packet limit P of a work room of W bytes.
-unfoldable pub packetLimit : ℕ → ℕ
-packetLimit W = min 65539 (W / 2)
-
-unfoldable pub goodWork : ℕ → Bool
-goodWork W = leb 4096 W && leb W 131078
-
-unfoldable pub goodFragments : ℕ → ℕ → Bool
-goodFragments T M = leb 1 T && leb T 16777216 && leb 1 M && leb M T
-
-unfoldable pub goodMaps : ℕ → Bool
-goodMaps n = eqb n 32768
-
--- Of a start: W, T, M and the length of the map room.
-unfoldable pub startRefusal : ℕ → ℕ → ℕ → ℕ → ℕ
-unfolding goodWork goodFragments goodMaps
-startRefusal W T M n = cond (goodWork W) (cond (goodFragments T M) (cond (goodMaps n) 0 3) 2) 1
-
--- Of narrowing: the lengths of the input and of the output.
-unfoldable pub narrowRefusal : ℕ → ℕ → ℕ
-narrowRefusal n room = cond (leb n 65539) (cond (leb n room) 0 6) 5

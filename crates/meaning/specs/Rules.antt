@@ -1,39 +1,22 @@
 -- What follows from what is known: 01, "Keep, drop, ready".
 use Prim.Native.Nat.{ℕ}
-use mathlib.Core.Bool.{Bool, true, false, cond, not, _&&_, _||_}
+use mathlib.Core.Bool.{Bool, cond, true, _&&_, _||_, not}
 use mathlib.Core.List.{List, [], _∷_}
 use mathlib.Core.Option.{Option, none, some}
 use lib.Dec.{eqb}
 use Rattle.meaning.specs.Sets.{inSet, howMany}
-use Rattle.meaning.specs.Lists.{all, any}
-use Rattle.meaning.specs.Narrow.{wanted}
+use Rattle.meaning.specs.Lists.{all, any, isSome}
+use Rattle.meaning.specs.Wishes.{wanted, ours}
 use Rattle.meaning.specs.Learn.{Known, Listed, lists}
 use Rattle.meaning.specs.declared.Part.{Part}
 use Rattle.meaning.specs.declared.Service.{Service}
 use Rattle.meaning.specs.declared.Service.the-variants.{Every, Only}
 use Rattle.meaning.specs.declared.Options.{Options}
 
--- Each service is ours where none is named.
-abbrev pub ours : Service → ℕ → Bool
-ours Every s = true
-ours (Only n) s = eqb n s
-
-abbrev pub everyService : Service → Bool
-everyService Every = true
-everyService (Only n) = false
-
--- Copy-all: no service, all three wishes on.
-unfoldable pub copiesAll : Options → Bool
-copiesAll o = everyService (o .service) && o .caption && o .carousel && o .eit
-
 -- The list held for an MPT identifier.
 unfoldable pub listOf : ℕ → List (ℕ × Listed) → Option Listed
 listOf p [] = none
 listOf p (l ∷ ls) = cond (eqb (l .0) p) (some (l .1)) (listOf p ls)
-
-abbrev pub isHeld : Option Listed → Bool
-isHeld none = false
-isHeld (some as′) = true
 
 abbrev pub assetsOf : Option Listed → Listed
 assetsOf none = []
@@ -65,7 +48,7 @@ unfoldable pub inDropSet : Options → Known → ℕ → Bool
 unfolding any keptBy droppedBy inSet lists
 inDropSet o k q =
     not (eqb q 0)
-    && (any (droppedBy o (lists k) q) (k .packages) || (not (o .carousel) && inSet (k .carousels) q))
+    && (any (droppedBy o (lists k) q) (k .packages) || (not (o .carousel) && inSet (k .data-set) q))
     && not (any (keptBy o (lists k) q) (k .packages))
 
 -- EIT off drops 0x8000 even when kept.
@@ -82,8 +65,8 @@ dropped o k = howMany (drops o k) 65536
 
 -- The service's, which must be in the PLT; or all.
 abbrev pub needsMet : Service → List (ℕ × ℕ) → List (ℕ × Listed) → Bool
-needsMet Every ps ls = all (λ pkg. isHeld (listOf (pkg .1) ls)) ps
-needsMet (Only s) ps ls = any (λ pkg. eqb (pkg .0) s && isHeld (listOf (pkg .1) ls)) ps
+needsMet Every ps ls = all (λ pkg. isSome (listOf (pkg .1) ls)) ps
+needsMet (Only s) ps ls = any (λ pkg. eqb (pkg .0) s && isSome (listOf (pkg .1) ls)) ps
 
 unfoldable pub ready : Service → Known → Bool
 unfolding all any listOf lists

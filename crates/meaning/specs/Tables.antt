@@ -1,11 +1,12 @@
 -- The tables of a PA message, with their entries, as ARIB STD-B60 and ISO/IEC 23008-1 lay them out: 01, "What is learned".
-use Prim.Native.Nat.{ℕ, zero, suc, _%_}
-use mathlib.Core.Bool.{Bool, true, false, cond, _&&_}
+use Prim.Native.Nat.{ℕ, _%_, zero, suc}
+use mathlib.Core.Bool.{Bool, cond, true, false, _&&_}
 use mathlib.Core.List.{List, [], _∷_}
 use mathlib.Core.Option.{Option, none, some}
-use lib.Dec.{leb, eqb}
+use lib.Dec.{eqb, leb}
 use Rattle.meaning.specs.Bytes.{Bytes, be16}
-use Rattle.meaning.specs.Readers.{Reader, Out, _>>=_, give, refuse, byte, u8, u16, bytes, counted8, counted16, announced, many, raw, Walk, walk}
+use Rattle.meaning.specs.Lists.{count}
+use Rattle.meaning.specs.Readers.{Out, Reader, _>>=_, give, refuse, byte, u8, u16, bytes, counted8, counted16, announced, many, raw, Walk, walk}
 use Rattle.meaning.specs.declared.Part.{Part}
 use Rattle.meaning.specs.declared.Part.the-variants.{Caption, Carousel, Other}
 
@@ -37,7 +38,7 @@ location = do
 -- ---- an asset of an MPT
 
 pub record Asset : Type 0 where
-  pub kind : Bytes
+  pub asset-type : Bytes
   -- the identifier of its first type 0 location
   pub carrier : Option ℕ
 
@@ -66,7 +67,7 @@ asset = do
   location-count ← u8
   locations ← many location-count location
   asset-descriptors ← counted16
-  give (record { kind = asset-type; carrier = firstOf locations })
+  give (record { asset-type = asset-type; carrier = firstOf locations })
 
 unfoldable pub sameBytes : Bytes → Bytes → Bool
 sameBytes [] [] = true
@@ -77,9 +78,20 @@ sameBytes (a ∷ s) (b ∷ t) = eqb a b && sameBytes s t
 -- `stpp` is caption, `aapp` carousel.
 unfoldable pub partOf : Bytes → Part
 unfolding sameBytes
-partOf kind =
-    cond (sameBytes kind (0x73 ∷ 0x74 ∷ 0x70 ∷ 0x70 ∷ [])) Caption
-    (cond (sameBytes kind (0x61 ∷ 0x61 ∷ 0x70 ∷ 0x70 ∷ [])) Carousel Other)
+partOf asset-type =
+    cond (sameBytes asset-type (0x73 ∷ 0x74 ∷ 0x70 ∷ 0x70 ∷ [])) Caption
+    (cond (sameBytes asset-type (0x61 ∷ 0x61 ∷ 0x70 ∷ 0x70 ∷ [])) Carousel Other)
+
+-- A kind's number: captions, carousels, others.
+unfoldable pub kindNumber : Part → ℕ
+kindNumber Caption = 0
+kindNumber Carousel = 1
+kindNumber Other = 2
+
+unfoldable pub kindOf : ℕ → Part
+kindOf zero = Caption
+kindOf (suc zero) = Carousel
+kindOf (suc (suc n)) = Other
 
 -- ---- the body of an MPT: what stands before the count of entries, the entries, and what follows them
 
@@ -92,7 +104,7 @@ unfoldable pub entry : Reader Entry
 unfolding raw asset partOf
 entry = do
   a ← raw asset
-  give (record { part = partOf (a .0 .kind); carrier = a .0 .carrier; bytes-of = a .1 })
+  give (record { part = partOf (a .0 .asset-type); carrier = a .0 .carrier; bytes-of = a .1 })
 
 unfoldable pub mptFront : Reader Bytes
 unfolding u8 counted8 counted16
@@ -117,21 +129,21 @@ mpt = do
 
 pub record Package : Type 0 where
   pub name : Bytes
-  pub place : Option ℕ
+  pub carrier : Option ℕ
   pub bytes-of : Bytes
 
 unfoldable pub packageFields : Reader (Bytes × Option ℕ)
 unfolding counted8 location
 packageFields = do
   package-id ← counted8
-  place ← location
-  give (package-id, place)
+  carrier ← location
+  give (package-id, carrier)
 
 unfoldable pub packageEntry : Reader Package
 unfolding raw packageFields
 packageEntry = do
   p ← raw packageFields
-  give (record { name = p .0 .0; place = p .0 .1; bytes-of = p .1 })
+  give (record { name = p .0 .0; carrier = p .0 .1; bytes-of = p .1 })
 
 unfoldable pub plt : Reader (List Package)
 unfolding u8 many packageEntry

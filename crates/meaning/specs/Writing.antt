@@ -5,7 +5,7 @@ use mathlib.Core.List.{_++_}
 use lib.ListN.{length, take, drop}
 use Rattle.meaning.specs.Bytes.{Bytes}
 
--- y was written at `to` of d, which is d′ now; `past` is the place after it.
+-- y was written at `to` of d, which is d′ now; `past` is the offset after it.
 pub record Wrote (y d : Bytes) (to : ℕ) (d′ : Bytes) (past : ℕ) : Type 0 where
   pub end : past ≡ to + length y
   pub front : take past d′ ≡ take to d ++ y

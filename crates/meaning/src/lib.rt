@@ -14,6 +14,13 @@ pub struct Options {
     pub eit: bool,
 }
 
+// The limits of a start: the lengths of the work room and of the fragment room, and the most bytes of one message.
+pub struct Limits {
+    pub work: usize,
+    pub total: usize,
+    pub most: usize,
+}
+
 // An asset's kind.
 pub enum Part {
     Caption,
@@ -21,7 +28,7 @@ pub enum Part {
     Other,
 }
 
-// What stands at a place of a run of bytes: a packet of so many bytes, no start, or bytes to keep for the next call.
+// What stands at an offset of a run of bytes: a packet of so many bytes, no start, or bytes to keep for the next call.
 pub enum Step {
     Packet(usize),
     Skip,

@@ -14,9 +14,8 @@ use Rattle.meaning.specs.Bytes.{Bytes}
 use Rattle.meaning.specs.Writing.{Wrote}
 use Rattle.meaning.specs.Mmtp.{Mmtp, mmtpOf}
 use Rattle.meaning.specs.Tables.{table, pa}
+use Rattle.meaning.specs.Narrow.{changeOf, newBody, newTable, narrowTable, partsOfTable, changeTable, tablesParts, paMessage, partsOfMessage, payloadBytes, narrowPayload, changePayload, packetBytes, packetFor, narrowPacket, partsOfPacket, changePacket, narrowRefusal}
 use Rattle.meaning.specs.Narrow as meant
-use Rattle.meaning.specs.Narrow.{changeOf, newBody, newTable, narrowTable, partsOfTable, changeTable, tablesParts, paMessage, partsOfMessage, payloadBytes, narrowPayload, changePayload, packetBytes, packetFor, narrowPacket, partsOfPacket, changePacket}
-use Rattle.meaning.specs.Refusals.{narrowRefusal}
 use Rattle.meaning.specs.declared.Narrowing.{Narrowing}
 use Rattle.meaning.specs.declared.Part.{Part}
 use Rattle.meaning.specs.declared.Options.{Options}
@@ -26,7 +25,7 @@ use Rattle.tables.specs.declared.pa.Table as code
 use Rattle.tlv.specs.Answers.{MmtpIs}
 use Rattle.tlv.specs.declared.Mmtp as read
 use Rattle.narrowing.specs.Tables.{ChangeIs, isChange, tablesIn, tablesChange, afterTable}
-use Rattle.narrowing.specs.Answers.{zeros, NarrowedAs, RefusedAs, isRefused, PaPlace, bodyAfter, packetWith, Rows, noRows, countedIn, Below}
+use Rattle.narrowing.specs.Answers.{zeros, NarrowedAs, RefusedAs, isRefused, PaFound, bodyAfter, packetWith, Rows, noRows, countedIn, CountsBelow}
 use Rattle.narrowing.specs.declared.table.Change.{Change}
 use Rattle.tables.proofs.WalkLaws.{tableAt, part-table}
 use Rattle.narrowing.proofs.CountLaws.{counted-rows, below-more, tally-start}
@@ -35,30 +34,30 @@ use Rattle.narrowing.proofs.PayloadLaws.{pa-narrowed}
 
 -- ---- the refusal
 
-module _ (n room : ℕ) where
-  pub too-long : 65539 < n → narrowRefusal n room ≡ 5
+module _ (n out-length : ℕ) where
+  pub too-long : 65539 < n → narrowRefusal n out-length ≡ 5
   unfolding narrowRefusal
   too-long h = rw (lt-leb n 65539 h)
 
-  pub too-short : n ≤ 65539 → room < n → narrowRefusal n room ≡ 6
+  pub too-short : n ≤ 65539 → out-length < n → narrowRefusal n out-length ≡ 6
   unfolding narrowRefusal
-  too-short h k = rw (le-leb n 65539 h, lt-leb n room k)
+  too-short h k = rw (le-leb n 65539 h, lt-leb n out-length k)
 
-  pub accepted : n ≤ 65539 → n ≤ room → narrowRefusal n room ≡ 0
+  pub accepted : n ≤ 65539 → n ≤ out-length → narrowRefusal n out-length ≡ 0
   unfolding narrowRefusal
-  accepted h k = rw (le-leb n 65539 h, le-leb n room k)
+  accepted h k = rw (le-leb n 65539 h, le-leb n out-length k)
 
-  -- what is not refused is short enough, and there is room
-  fits-in : (a b : Bool) → leb n 65539 ≡ a → leb n room ≡ b → _≡_ {A = ℕ} (cond a (cond b 0 6) 5) 0 → (n ≤ 65539) × (n ≤ room)
-  fits-in true true ea eb q = (leb-true n 65539 ea, leb-true n room eb)
+  -- what is not refused is short enough, and there is out-length
+  fits-in : (a b : Bool) → leb n 65539 ≡ a → leb n out-length ≡ b → _≡_ {A = ℕ} (cond a (cond b 0 6) 5) 0 → (n ≤ 65539) × (n ≤ out-length)
+  fits-in true true ea eb q = (leb-true n 65539 ea, leb-true n out-length eb)
   fits-in true false ea eb q = absurd (omega (arith, q))
   fits-in false b ea eb q = absurd (omega (arith, q))
 
-  pub not-refused : (r : Narrowing) → RefusedAs (narrowRefusal n room) r → isRefused r ≡ false
-      → (narrowRefusal n room ≡ 0) × (n ≤ 65539) × (n ≤ room)
+  pub not-refused : (r : Narrowing) → RefusedAs (narrowRefusal n out-length) r → isRefused r ≡ false
+      → (narrowRefusal n out-length ≡ 0) × (n ≤ 65539) × (n ≤ out-length)
   unfolding narrowRefusal
   not-refused (Narrowing.Refused x) h q = clash (cc)
-  not-refused Narrowing.Unchanged h q = (let k = fits-in (leb n 65539) (leb n room) refl refl h in (h, k .0, k .1))
+  not-refused Narrowing.Unchanged h q = (let k = fits-in (leb n 65539) (leb n out-length) refl refl h in (h, k .0, k .1))
   not-refused (Narrowing.Changed k) h q = absurd h
 
 -- ---- the answers; q, s and w are what is returned
@@ -81,7 +80,7 @@ module _ (x : ℕ) (n : Option meant.Change) (d : Bytes) (q : Narrowing) (s w : 
 -- ---- a table
 
 -- no counts yet
-pub rows-low : Options → Below noRows (18446744073709551615 - 256)
+pub rows-low : Options → CountsBelow noRows (18446744073709551615 - 256)
 rows-low o = below-more noRows (256 * 0) _ (tally-start [] 0 o (omega arith) .low) (omega arith)
 
 pub part-short : (n : ℕ) (s : Bytes) → length (take n s) ≤ length s
@@ -122,7 +121,7 @@ abbrev message-in : Bytes → ℕ → Bytes
 message-in s end = take (end - 9) (drop 9 s)
 
 -- the kinds of the entries of its tables
-pub parts-there : (s : Bytes) (end tables : ℕ) → PaPlace s end tables → partsOfMessage (paMessage s) ≡ tablesParts (tablesIn (drop tables (message-in s end)) .found)
+pub parts-there : (s : Bytes) (end tables : ℕ) → PaFound s end tables → partsOfMessage (paMessage s) ≡ tablesParts (tablesIn (drop tables (message-in s end)) .found)
 unfolding pa
 parts-there s end tables h = rw (h .body-is, h .heads .entries-read)
 
@@ -131,7 +130,7 @@ module _ (o : Options) (p : ℕ) (s : Bytes) where
   unfolding changePayload
   payload-stays e = ap (λ (x : Option Bytes). Option·map (changeOf o (partsOfMessage (paMessage s))) x) e
 
-  pub payload-changes : (end tables : ℕ) (h : PaPlace s end tables) → tablesChange o p (drop tables (message-in s end)) ≡ true
+  pub payload-changes : (end tables : ℕ) (h : PaFound s end tables) → tablesChange o p (drop tables (message-in s end)) ≡ true
       → changePayload o p s
       ≡ some (changeOf o (tablesParts (tablesIn (drop tables (message-in s end)) .found)) (payloadBytes s (bodyAfter o p (message-in s end) tables (h .entries))))
   unfolding changePayload
@@ -148,20 +147,20 @@ pub unread-stays : (o : Options) (p : Bytes) → mmtpOf p ≡ none → changePac
 unfolding changePacket narrowPacket
 unread-stays o p e = rw e
 
--- from a place within on
+-- from an offset within on
 pub rest-whole : (p : Bytes) (body : ℕ) → take (length p - body) (drop body p) ≡ drop body p
 rest-whole p body = ap (λ (m : ℕ). take m (drop body p)) (sym (length-drop body p)) ∙ take-length (drop body p)
 
 -- a packet with another payload, by where its payload starts
 pub same-packets : (p : Bytes) (body q k : ℕ) (w : Bool) → body ≤ length p → (x : Option Bytes)
-    → Option·map (packetBytes p (record { identifier = q; kind = k; rewritable = w; payload = drop body p })) x ≡ Option·map (packetWith p body) x
+    → Option·map (packetBytes p (record { identifier = q; payload-type = k; rewritable = w; payload = drop body p })) x ≡ Option·map (packetWith p body) x
 unfolding packetBytes packetWith
 same-packets p body q k w h none = refl
 same-packets p body q k w h (some y) = let z : length p - length (drop body p) ≡ body = omega (arith, length-drop body p, h) in rw z
 
 module _ (o : Options) (p : Bytes) (body q k : ℕ) (w : Bool) (h : MmtpIs (mmtpOf p) p (read.Mmtp.Read body q k w)) where
   abbrev there : Mmtp
-  there = record { identifier = q; kind = k; rewritable = w; payload = drop body p }
+  there = record { identifier = q; payload-type = k; rewritable = w; payload = drop body p }
 
   packet-is : changePacket o p ≡ Option·map (changeOf o (partsOfMessage (paMessage (drop body p)))) (packetFor o p (some there))
   unfolding changePacket narrowPacket
@@ -170,8 +169,8 @@ module _ (o : Options) (p : Bytes) (body q k : ℕ) (w : Bool) (h : MmtpIs (mmtp
   packet-off : (eqb k 2 && w) ≡ false → changePacket o p ≡ none
   packet-off e = packet-is ∙ rw e
 
-  pub other-kind : (k ≡ 2 → ⊥) → changePacket o p ≡ none
-  other-kind n = packet-off (ap (λ (a : Bool). a && w) (ne-eqb k 2 n))
+  pub other-payload-type : (k ≡ 2 → ⊥) → changePacket o p ≡ none
+  other-payload-type n = packet-off (ap (λ (a : Bool). a && w) (ne-eqb k 2 n))
 
   pub not-rewritable : w ≡ false → changePacket o p ≡ none
   not-rewritable e = packet-off (and-off (eqb k 2) w e)

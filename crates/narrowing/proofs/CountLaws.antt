@@ -15,7 +15,8 @@ use Rattle.meaning.specs.Bytes.{Bytes}
 use Rattle.meaning.specs.Lists.{keep, count}
 use Rattle.meaning.specs.Readers.{Out, bind, many, raw}
 use Rattle.meaning.specs.Tables.{Entry, entry, mptFront, Mpt, mpt, Table, table, isMpt}
-use Rattle.meaning.specs.Narrow.{wanted, isPart, byPart, stayed, went, partsFrom, tableParts, tablesParts, partsOfTable}
+use Rattle.meaning.specs.Wishes.{wanted}
+use Rattle.meaning.specs.Narrow.{isPart, byPart, stayed, went, partsFrom, tableParts, tablesParts, partsOfTable}
 use Rattle.meaning.specs.declared.Part.{Part}
 use Rattle.meaning.specs.declared.Part.the-variants.{Caption, Carousel, Other}
 use Rattle.meaning.specs.declared.Options.{Options}
@@ -30,7 +31,7 @@ use Rattle.tables.specs.declared.locations.Carrier.{Carrier}
 use Rattle.narrowing.specs.Tables.{Exact, tablesIn}
 use Rattle.tables.proofs.WalkLaws.{tableAt, part-table, walk-next, walk-stops}
 use Rattle.narrowing.proofs.ExactLaws.{bodyOf, exact-table}
-use Rattle.narrowing.specs.Answers.{Rows, zeros, kindPlace, rowPlace, bumped, countedIn, noRows, Below, partsRead}
+use Rattle.narrowing.specs.Answers.{Rows, zeros, kindNumber, rowNumber, bumped, countedIn, noRows, CountsBelow, partsRead}
 
 -- ---- what is counted
 
@@ -38,7 +39,7 @@ use Rattle.narrowing.specs.Answers.{Rows, zeros, kindPlace, rowPlace, bu
 pub counted-both : (o : Options) (rows : Rows) (ps qs : List Part) → countedIn o rows (ps ++ qs) ≡ countedIn o (countedIn o rows ps) qs
 unfolding countedIn
 counted-both o rows [] qs = refl
-counted-both o rows (part ∷ ps) qs = counted-both o (bumped rows (rowPlace o part) (kindPlace part)) ps qs
+counted-both o rows (part ∷ ps) qs = counted-both o (bumped rows (rowNumber o part) (kindNumber part)) ps qs
 
 -- some kinds, on top of a row
 abbrev onTop : ℕ → ℕ → ℕ → List Part → List ℕ
@@ -55,7 +56,7 @@ on-both o [] a b c d e f = simp add-zero
 on-both o (part ∷ ps) a b c d e f = go part (wanted o part) (on-both o ps)
   where
     go : (q : Part) (w : Bool) → OnBoth o ps
-        → countedIn o (bumped ((a ∷ b ∷ c ∷ []) ∷ (d ∷ e ∷ f ∷ []) ∷ []) (cond w 0 1) (kindPlace q)) ps
+        → countedIn o (bumped ((a ∷ b ∷ c ∷ []) ∷ (d ∷ e ∷ f ∷ []) ∷ []) (cond w 0 1) (kindNumber q)) ps
         ≡ onTop a b c (cond w (q ∷ keep (wanted o) ps) (keep (wanted o) ps))
         ∷ onTop d e f (cond (not w) (q ∷ keep (λ part. not (wanted o part)) ps) (keep (λ part. not (wanted o part)) ps)) ∷ []
     go Caption true h = h (a + 1) b c d e f ∙ simp (add-assoc, zero-add)
@@ -80,10 +81,10 @@ set-either (x ∷ l) zero (suc j) v d = inr refl
 set-either (x ∷ l) (suc i) zero v d = inr refl
 set-either (x ∷ l) (suc i) (suc j) v d = set-either l i j v d
 
-pub below-more : (rows : Rows) (n m : ℕ) → Below rows n → n ≤ m → Below rows m
+pub below-more : (rows : Rows) (n m : ℕ) → CountsBelow rows n → n ≤ m → CountsBelow rows m
 below-more rows n m h l = (h .0, λ i j. omega (arith, h .1 i j))
 
-pub below-bumped : (rows : Rows) (row kind n m : ℕ) → Below rows n → n < m → Below (bumped rows row kind) m
+pub below-bumped : (rows : Rows) (row kind n m : ℕ) → CountsBelow rows n → n < m → CountsBelow (bumped rows row kind) m
 below-bumped rows row kind n m h l = (
   length-set rows row _ ∙ h .0,
   λ i j. elim (set-either rows row i (set (getD rows row []) kind (getD (getD rows row []) kind 0 + 1)) []) [
@@ -95,11 +96,11 @@ below-bumped rows row kind n m h l = (
   ],
 )
 
-pub below-counted : (o : Options) (rows : Rows) (ps : List Part) (n m : ℕ) → Below rows n → n + length ps ≤ m → Below (countedIn o rows ps) m
+pub below-counted : (o : Options) (rows : Rows) (ps : List Part) (n m : ℕ) → CountsBelow rows n → n + length ps ≤ m → CountsBelow (countedIn o rows ps) m
 unfolding countedIn
 below-counted o rows [] n m h l = below-more rows n m h (omega arith)
 below-counted o rows (part ∷ ps) n m h l =
-    below-counted o _ ps (n + 1) m (below-bumped rows (rowPlace o part) (kindPlace part) n (n + 1) h (omega arith)) (omega arith)
+    below-counted o _ ps (n + 1) m (below-bumped rows (rowNumber o part) (kindNumber part) n (n + 1) h (omega arith)) (omega arith)
 
 -- ---- the entries of an MPT
 
@@ -117,11 +118,11 @@ pub record Counting (b : Bytes) (at count : ℕ) (o : Options) (counts t : Rows)
   pub same : countedIn o counts (partsRead (many count entry (drop at b))) ≡ countedIn o t (partsRead (many left entry (drop from b)))
   pub reads : IsSome (many left entry (drop from b))
   pub few : left ≤ most
-  pub low : Below t (most - left)
+  pub low : CountsBelow t (most - left)
 
 module _ (b : Bytes) (at count : ℕ) (o : Options) (counts : Rows) where
   -- none counted yet
-  pub start : IsSome (many count entry (drop at b)) → count ≤ most → Below counts (most - count) → Counting b at count o counts counts at count
+  pub start : IsSome (many count entry (drop at b)) → count ≤ most → CountsBelow counts (most - count) → Counting b at count o counts counts at count
   start s f l = record { same = refl; reads = s; few = f; low = l }
 
   module _ (t : Rows) (from left : ℕ) (i : Counting b at count o counts t from left) where
@@ -131,7 +132,7 @@ module _ (b : Bytes) (at count : ℕ) (o : Options) (counts : Rows) where
 
     -- one more is counted
     pub turn : (e : ℕ) (part : Part) (c : Carrier) → 0 < left → AssetIs b from (Asset.Entry e part c)
-        → Counting b at count o counts (bumped t (rowPlace o part) (kindPlace part)) e (left - 1)
+        → Counting b at count o counts (bumped t (rowNumber o part) (kindNumber part)) e (left - 1)
     unfolding countedIn
     turn e part c h l =
         let n = many-next entry (drop from b) left _ (drop e b) h (l .2 .1) in
@@ -140,7 +141,7 @@ module _ (b : Bytes) (at count : ℕ) (o : Options) (counts : Rows) where
           same = i .same ∙ ap (λ z. countedIn o t (partsRead z)) n ∙ ap (countedIn o t) (x .1);
           reads = x .0;
           few = omega (arith, i .few);
-          low = below-bumped t (rowPlace o part) (kindPlace part) (most - left) (most - (left - 1)) (i .low) (omega (arith, i .few));
+          low = below-bumped t (rowNumber o part) (kindNumber part) (most - left) (most - (left - 1)) (i .low) (omega (arith, i .few));
         }
 
     -- each can be read
@@ -225,7 +226,7 @@ none-low n (suc (suc i)) j = omega arith
 -- The tables from `tables` to `at` are counted in t. A table has four bytes at least and fewer than 256 entries.
 pub record Tallying (s : Bytes) (tables : ℕ) (o : Options) (t : Rows) (at : ℕ) : Type 0 where
   pub same : countedIn o noRows (tablesParts (tablesIn (drop tables s) .found)) ≡ countedIn o t (tablesParts (tablesIn (drop at s) .found))
-  pub low : Below t (256 * at)
+  pub low : CountsBelow t (256 * at)
   pub within : at ≤ length s
 
 module _ (s : Bytes) (tables : ℕ) (o : Options) where
@@ -235,7 +236,7 @@ module _ (s : Bytes) (tables : ℕ) (o : Options) where
 
   module _ (t : Rows) (at : ℕ) (i : Tallying s tables o t at) where
     -- there is room for a table's entries
-    pub tally-room : length s ≤ 65539 → Below t (most - 256)
+    pub tally-room : length s ≤ 65539 → CountsBelow t (most - 256)
     tally-room h = below-more t (256 * at) (most - 256) (i .low) (omega (arith, i .within))
 
     -- one more is counted

@@ -1,4 +1,4 @@
--- Bytes that are one table and nothing more: how they read, and that the bytes of a table at a place of a PA body are such. Rests on
+-- Bytes that are one table and nothing more: how they read, and that the bytes of a table at an offset of a PA body are such. Rests on
 -- Framed of `meaning`, PaLaws and WalkLaws of `tables`.
 use Prim.Native.Nat.{ℕ, _+_, _-_, _≤_}
 use mathlib.Core.Path.{_≡_, refl, ap}

@@ -9,8 +9,8 @@ use native.Mathlib.Omega.{arith}
 use lib.ListN.{length, drop}
 use Rattle.meaning.specs.Bytes.{Bytes}
 use Rattle.meaning.specs.Writing.{Wrote}
-use Rattle.meaning.specs.Narrow.{Change, changeTable}
-use Rattle.meaning.specs.Refusals.{numberOf, narrowRefusal}
+use Rattle.meaning.specs.Narrow.{Change, changeTable, narrowRefusal}
+use Rattle.meaning.specs.Refusals.{numberOf}
 use Rattle.meaning.specs.declared.Refusal.{Refusal}
 use Rattle.meaning.specs.declared.Refusal.the-variants.{WorkRoom, FragmentRoom, MapRoom, Unsound, Long, Short, Tally, Input}
 use Rattle.meaning.specs.declared.Narrowing.{Narrowing}

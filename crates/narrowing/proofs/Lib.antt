@@ -6,6 +6,6 @@ pub mod TableLaws
 pub mod CountLaws
 pub mod WalkLaws
 pub mod PayloadLaws
-pub mod PlaceLaws
+pub mod FoundLaws
 pub mod AnswerLaws
 pub mod Examples

@@ -10,11 +10,12 @@ use native.Mathlib.Omega.{arith}
 use lib.ListN.{length, take, drop, getD, length-append, length-drop}
 use lib.Seq.{length-take-le}
 use Rattle.meaning.specs.Bytes.{Bytes}
-use Rattle.meaning.specs.Lists.{keep, all}
 use Rattle.meaning.specs.Writing.{Wrote}
+use Rattle.meaning.specs.Lists.{keep, all}
 use Rattle.meaning.specs.Readers.{Out, bind, give, many, raw}
 use Rattle.meaning.specs.Tables.{Entry, entry, mptFront, mpt}
-use Rattle.meaning.specs.Narrow.{wanted, wantedEntry, mptBody, mptWithout}
+use Rattle.meaning.specs.Wishes.{wanted, wantedEntry}
+use Rattle.meaning.specs.Narrow.{mptBody, mptWithout}
 use Rattle.meaning.specs.declared.Part.{Part}
 use Rattle.meaning.specs.declared.Options.{Options}
 use Rattle.meaning.proofs.ListLaws.{keep-length, keep-all}

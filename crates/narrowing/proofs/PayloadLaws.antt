@@ -21,7 +21,7 @@ use Rattle.meaning.proofs.ListLaws.{and-both, clash}
 use Rattle.meaning.proofs.Framed.{before}
 use Rattle.meaning.proofs.Writes.{wrote-patch}
 use Rattle.narrowing.specs.Tables.{tablesChange}
-use Rattle.narrowing.specs.Answers.{startsPa, PaPlace, NoPa, bodyAfter, packetWith}
+use Rattle.narrowing.specs.Answers.{startsPa, PaFound, NoPa, bodyAfter, packetWith}
 
 -- ---- a payload that holds no PA message
 
@@ -196,7 +196,7 @@ no-pa-stays o p payload n = go (paMessage payload) refl
     go none e = refl
     go (some b) e = rw (n b e)
 
-module _ (o : Options) (p : ℕ) (payload : Bytes) (end tables : ℕ) (h : PaPlace payload end tables) where
+module _ (o : Options) (p : ℕ) (payload : Bytes) (end tables : ℕ) (h : PaFound payload end tables) where
   pub pa-stays : tablesChange o p (drop tables (take (end - 9) (drop 9 payload))) ≡ false → narrowPayload o p payload ≡ none
   unfolding narrowPayload narrowPa pa tablesChange
   pa-stays e = rw (h .body-is, h .heads .entries-read, e)

@@ -8,10 +8,10 @@ use mathlib.Core.Option.{Option, none, some}
 use native.Mathlib.Omega.{arith}
 use lib.ListN.{length, take, drop, getD}
 use Rattle.meaning.specs.Bytes.{Bytes}
+use Rattle.meaning.specs.Writing.{Wrote}
 use Rattle.meaning.specs.Readers.{many}
 use Rattle.meaning.specs.Tables.{Package, packageEntry, plt, serviceOf}
 use Rattle.meaning.specs.Narrow.{isService, lastOf, pltOnly}
-use Rattle.meaning.specs.Writing.{Wrote}
 use Rattle.meaning.proofs.Reading.{u8-none, many-none, many-next, behind, behind-nothing, behind-one}
 use Rattle.octets.proofs.ByteLaws.{u8-at, rest-of}
 use Rattle.meaning.proofs.Writes.{wrote-then}
@@ -36,17 +36,17 @@ last-more s [] p o = refl
 last-more s (q ∷ pre) p o = last-more s pre p (cond (isService s (serviceOf (q .name))) (some (q .bytes-of)) o)
 
 -- What the code holds: nothing where start is 0, else the bytes from start to end.
-abbrev held : Bytes → ℕ → ℕ → Option Bytes
-held b zero end = none
-held b (suc start) end = some (take (end - suc start) (drop (suc start) b))
+abbrev entryAt : Bytes → ℕ → ℕ → Option Bytes
+entryAt b zero end = none
+entryAt b (suc start) end = some (take (end - suc start) (drop (suc start) b))
 
-held-none : (b : Bytes) (start end : ℕ) → start ≡ 0 → held b start end ≡ none
-held-none b zero end h = refl
-held-none b (suc start) end h = absurd (omega arith)
+entry-none : (b : Bytes) (start end : ℕ) → start ≡ 0 → entryAt b start end ≡ none
+entry-none b zero end h = refl
+entry-none b (suc start) end h = absurd (omega arith)
 
-held-some : (b : Bytes) (start end : ℕ) → 1 ≤ start → held b start end ≡ some (take (end - start) (drop start b))
-held-some b zero end h = absurd (omega arith)
-held-some b (suc start) end h = refl
+entry-some : (b : Bytes) (start end : ℕ) → 1 ≤ start → entryAt b start end ≡ some (take (end - start) (drop start b))
+entry-some b zero end h = absurd (omega arith)
+entry-some b (suc start) end h = refl
 
 -- no count
 pub plt-none : (s : ℕ) (b : Bytes) → length b ≡ 0 → pltOnly s b ≡ none
@@ -57,7 +57,7 @@ plt-none s b h = rw (u8-none b 0 (omega arith))
 pub record Sofar (s : ℕ) (b : Bytes) (left from start end : ℕ) : Type 0 where
   pub pre : List Package
   pub reads : plt b ≡ behind pre (many left packageEntry (drop from b))
-  pub last : lastOf s pre none ≡ held b start end
+  pub last : lastOf s pre none ≡ entryAt b start end
   pub one : 1 ≤ from
   pub in-b : from ≤ length b
   pub in-order : start ≤ end
@@ -86,7 +86,7 @@ module _ (s : ℕ) (b : Bytes) where
 
     module _ (e : ℕ) (name : Named) (c : Carrier) (h : 0 < left) (p : PackageIs b from (read.Package.Entry e name c)) where
       abbrev row : Package
-      row = record { name = p .2 .0; place = p .2 .1; bytes-of = take (e - from) (drop from b) }
+      row = record { name = p .2 .0; carrier = p .2 .1; bytes-of = take (e - from) (drop from b) }
 
       more : plt b ≡ behind (i .pre ++ row ∷ []) (many (left - 1) packageEntry (drop e b))
       more = i .reads ∙ rw (many-next packageEntry (drop from b) left row (drop e b) h (p .2 .2)) (behind-one (i .pre) row (many (left - 1) packageEntry (drop e b)))
@@ -100,7 +100,7 @@ module _ (s : ℕ) (b : Bytes) where
           record {
             pre = i .pre ++ row ∷ [];
             reads = more;
-            last = rw (last-more s (i .pre) row none, test, t, held-some b from e (i .one));
+            last = rw (last-more s (i .pre) row none, test, t, entry-some b from e (i .one));
             one = omega (arith, i .one);
             in-b = p .0;
             in-order = omega arith;
@@ -123,7 +123,7 @@ module _ (s : ℕ) (b : Bytes) where
     -- none left, and none is of the service
     pub none-of : left ≡ 0 → begin ≡ 0 → pltOnly s b ≡ none
     unfolding pltOnly many
-    none-of z h = rw (i .reads, z, append-nil (i .pre), i .last, held-none b begin end h)
+    none-of z h = rw (i .reads, z, append-nil (i .pre), i .last, entry-none b begin end h)
 
     -- none left, and the last of the service stays
     pub one-of : left ≡ 0 → (begin ≡ 0 → ⊥) → PltIs s b (PltChange.One begin end from)
@@ -131,7 +131,7 @@ module _ (s : ℕ) (b : Bytes) where
     one-of z h =
         let k : 1 ≤ begin = omega arith in (
           record { first = k; ends = i .in-order; before = i .in-read; within = i .in-b },
-          rw (i .reads, z, append-nil (i .pre), i .last, held-some b begin end k),
+          rw (i .reads, z, append-nil (i .pre), i .last, entry-some b begin end k),
         )
 
 -- the body with one entry, written in three parts

@@ -16,7 +16,7 @@ use Rattle.meaning.specs.Narrow.{mptBody, mptWithout, pltFor, newBody, tableByt
 use Rattle.meaning.specs.declared.Options.{Options}
 use Rattle.meaning.proofs.ListLaws.{clash}
 use Rattle.meaning.proofs.Writes.{wrote-then}
-use Rattle.narrowing.specs.Bodies.{MptLess, oneEntry, PltPlace}
+use Rattle.narrowing.specs.Bodies.{MptLess, oneEntry, PltBounds}
 use Rattle.narrowing.specs.Tables.{ChangeIs, isChange, Exact, afterTable}
 use Rattle.narrowing.specs.declared.table.Change.{Change}
 use Rattle.narrowing.proofs.ExactLaws.{bodyOf, exact-table}
@@ -57,7 +57,7 @@ module _ (n : Option Bytes) (o : Options) (b : Bytes) (change : Change) (h : Cha
         rw (as-mpt .0, m .narrowed) (simp length-append (omega (arith, l, m .size-is, length-drop end b)))
 
   module _ (start end past : ℕ) (q : change ≡ Change.Plt start end past) where
-    pub as-plt : PltPlace b start end past × (n ≡ some (oneEntry b start end past))
+    pub as-plt : PltBounds b start end past × (n ≡ some (oneEntry b start end past))
     as-plt = rw q at h
 
     pub plt-length : 1 + (end - start) + (length b - past) ≡ length (Option·getD n b)

@@ -11,11 +11,11 @@ use lib.Seq.{take-at, drop-at, drop-drop, length-take-le, take-take, take-add}
 use lib.Dec.{ltb}
 use borrow.Author.Tests.{lt-ltb, le-ltb}
 use Rattle.meaning.specs.Bytes.{Bytes, put16}
-use Rattle.meaning.specs.Lists.{any}
+use Rattle.meaning.specs.Writing.{Wrote}
+use Rattle.meaning.specs.Lists.{any, isSome}
 use Rattle.meaning.specs.Readers.{raw, Walk, stop}
 use Rattle.meaning.specs.Tables.{Table, table}
-use Rattle.meaning.specs.Writing.{Wrote}
-use Rattle.meaning.specs.Narrow.{newBody, tableBytes, newTable, tableAfter, tableChanges, isSome, relength, paBytes}
+use Rattle.meaning.specs.Narrow.{newBody, tableBytes, newTable, tableAfter, tableChanges, relength, paBytes}
 use Rattle.meaning.proofs.Statements.{same-wishes}
 use Rattle.meaning.specs.declared.Options.{Options}
 use Rattle.meaning.proofs.Local.{table-local}
@@ -28,9 +28,9 @@ use Rattle.tables.specs.Answers.{TableIs}
 use Rattle.tables.specs.declared.pa.Table.the-variants.{To}
 use Rattle.tables.proofs.WalkLaws.{tableAt, raw-at, part-table, walk-next}
 use Rattle.narrowing.specs.declared.table.Change.{Change}
-use Rattle.narrowing.specs.Tables.{ChangeIs, isChange, afterTable, tablesIn, tablesChange, tablesAfter, tablesBytes, Heads}
+use Rattle.narrowing.specs.Tables.{ChangeIs, isChange, afterTable, tablesIn, tablesChange, tablesAfter, tablesBytes, HeadEntries}
 
--- ---- the table at a place, and the walk from there
+-- ---- the table at an offset, and the walk from there
 
 module _ (s : Bytes) (at e : ℕ) (t : TableIs (table (drop at s)) s at (To e)) where
   -- its own bytes
@@ -209,7 +209,7 @@ pub record HeadsSofar (o : Options) (p : ℕ) (s : Bytes) (tables : ℕ) (es : L
   pub passed : 1 + length y ≡ entry
   pub inside : entry ≤ tables
 
-heads-start : (o : Options) (p : ℕ) (s : Bytes) (tables : ℕ) (es : List Bytes) → Heads s tables es → HeadsSofar o p s tables es 1 tables []
+heads-start : (o : Options) (p : ℕ) (s : Bytes) (tables : ℕ) (es : List Bytes) → HeadEntries s tables es → HeadsSofar o p s tables es 1 tables []
 heads-start o p s tables es h =
     let sp = head-split s (record { count = getD s 0 0; entries = es }) (drop tables s) (h .entries-read) in
     let l : length (flatten es) ≡ tables - 1 = omega (arith, ap length (sp .whole), length-append (flatten es) (drop tables s), length-drop tables s, h .within, h .one) in
@@ -312,9 +312,9 @@ pub record HeadsWritten (o : Options) (p : ℕ) (s : Bytes) (tables : ℕ) (d₀
   pub whole : entry < tables → entry + 4 ≤ tables
   pub sofar : Bytes
   pub wrote : Wrote sofar d₀ to d put
-  pub heads : (es : List Bytes) → Heads s tables es → HeadsSofar o p s tables es entry at sofar
+  pub heads : (es : List Bytes) → HeadEntries s tables es → HeadsSofar o p s tables es entry at sofar
 
-pub heads-begin : (o : Options) (p : ℕ) (s : Bytes) (tables : ℕ) (d : Bytes) (to : ℕ) (es : List Bytes) → Heads s tables es → to + (tables - 1) ≤ length d → HeadsWritten o p s tables d to d tables 1 to
+pub heads-begin : (o : Options) (p : ℕ) (s : Bytes) (tables : ℕ) (d : Bytes) (to : ℕ) (es : List Bytes) → HeadEntries s tables es → to + (tables - 1) ≤ length d → HeadsWritten o p s tables d to d tables 1 to
 heads-begin o p s tables d to es h r =
     record {
       within = h .within;
@@ -340,21 +340,21 @@ module _ (o : Options) (p : ℕ) (s : Bytes) (tables : ℕ) (d₀ : Bytes) (to :
       omega (arith, w .end, h .room, h .whole l, length-take-le (entry + 2 - entry) (drop entry s) (omega (arith, length-drop entry s, h .fits, h .whole l)))
 
   pub heads-rest : {d′ : Bytes} {r : ℕ} → table (drop at s) ≡ none → Wrote (take (tables - entry) (drop entry s)) d put d′ r
-      → (es : List Bytes) → Heads s tables es → Wrote (flatten (relength es (tablesAfter o p (drop tables s)))) d₀ to d′ r
+      → (es : List Bytes) → HeadEntries s tables es → Wrote (flatten (relength es (tablesAfter o p (drop tables s)))) d₀ to d′ r
   heads-rest e w es x = rw (← heads-stop o p s tables es entry at (h .sofar) (h .heads es x) (h .fits) e) (wrote-then (h .wrote) w)
 
-  pub heads-done : tables ≤ entry → (es : List Bytes) → Heads s tables es → Wrote (flatten (relength es (tablesAfter o p (drop tables s)))) d₀ to d put
+  pub heads-done : tables ≤ entry → (es : List Bytes) → HeadEntries s tables es → Wrote (flatten (relength es (tablesAfter o p (drop tables s)))) d₀ to d put
   heads-done l es x = rw (← heads-end o p s tables es entry at (h .sofar) (h .heads es x) (h .fits) l) (h .wrote)
 
   -- two bytes and the new length
-  pub heads-next : (es : List Bytes) → Heads s tables es → (e n : ℕ) → TableIs (table (drop at s)) s at (To e) → entry < tables
+  pub heads-next : (es : List Bytes) → HeadEntries s tables es → (e n : ℕ) → TableIs (table (drop at s)) s at (To e) → entry < tables
       → n ≡ length (Option·getD (newBody o p (getD s at 0) (part s at e)) (part s at e))
       → (d₁ d₂ : Bytes) (a b : ℕ) → Wrote (take (entry + 2 - entry) (drop entry s)) d put d₁ a → Wrote (put16 n) d₁ a d₂ b → length d₂ ≡ length d
       → HeadsWritten o p s tables d₀ to d₂ e (entry + 4) b
   heads-next es x e n t l q d₁ d₂ a b u v k =
       let two : entry + 2 - entry ≡ 2 = omega arith in
       let w : Wrote (take 2 (drop entry s) ++ put16 n) d put d₂ b = wrote-then (rw two at u) v in
-      let turn : (es : List Bytes) → Heads s tables es → HeadsSofar o p s tables es (entry + 4) e (h .sofar ++ (take 2 (drop entry s) ++ put16 n)) =
+      let turn : (es : List Bytes) → HeadEntries s tables es → HeadsSofar o p s tables es (entry + 4) e (h .sofar ++ (take 2 (drop entry s) ++ put16 n)) =
       λ es x. heads-turn o p s tables es entry at (h .sofar) (h .heads es x) (h .fits) e t n l (q ∙ ap (λ (b : Bytes). length (Option·getD (newBody o p (getD s at 0) b) b)) (part-is s at e)) in
       let two-long : length (take 2 (drop entry s)) ≡ 2 = length-take-le 2 (drop entry s) (omega (arith, length-drop entry s, h .fits, h .whole l)) in
       record {
@@ -374,9 +374,9 @@ first-byte : (s : Bytes) → 1 ≤ length s → take (1 - 0) (drop 0 s) ≡ getD
 first-byte [] h = absurd (omega arith)
 first-byte (a ∷ s) h = refl
 
-module _ (s : Bytes) (tables : ℕ) (es : List Bytes) (h : Heads s tables es) (d d₁ d₂ : Bytes) (to a b : ℕ) (u : Wrote (take (1 - 0) (drop 0 s)) d to d₁ a) where
-  -- the entries keep their place
-  pub body-room : (o : Options) (p : ℕ) → ((es : List Bytes) → Heads s tables es → Wrote (flatten (relength es (tablesAfter o p (drop tables s)))) d₁ a d₂ b)
+module _ (s : Bytes) (tables : ℕ) (es : List Bytes) (h : HeadEntries s tables es) (d d₁ d₂ : Bytes) (to a b : ℕ) (u : Wrote (take (1 - 0) (drop 0 s)) d to d₁ a) where
+  -- the entries stay where they are
+  pub body-room : (o : Options) (p : ℕ) → ((es : List Bytes) → HeadEntries s tables es → Wrote (flatten (relength es (tablesAfter o p (drop tables s)))) d₁ a d₂ b)
       → to + length s ≤ length d₂ → b + (length s - tables) ≤ length d₂
   body-room o p w r =
       let sp = head-split s (record { count = getD s 0 0; entries = es }) (drop tables s) (h .entries-read) in

@@ -12,14 +12,15 @@ use Rattle.meaning.specs.Writing.{Wrote}
 use Rattle.meaning.specs.Readers.{Out}
 use Rattle.meaning.specs.Messages.{indicator, aggregated}
 use Rattle.meaning.specs.Tables.{Entry, paHead}
-use Rattle.meaning.specs.Narrow.{Change, wanted, narrowPayload, paMessage, paBytes}
+use Rattle.meaning.specs.Wishes.{wanted}
+use Rattle.meaning.specs.Narrow.{Change, narrowPayload, paMessage, paBytes}
 use Rattle.meaning.specs.Refusals.{numberOf}
 use Rattle.meaning.specs.declared.Narrowing.{Narrowing}
 use Rattle.meaning.specs.declared.Part.{Part}
 use Rattle.meaning.specs.declared.Part.the-variants.{Caption, Carousel, Other}
 use Rattle.meaning.specs.declared.Options.{Options}
 use Rattle.tables.specs.declared.fields.End.{End}
-use Rattle.narrowing.specs.Tables.{tablesIn, tablesAfter, tablesChange, Heads}
+use Rattle.narrowing.specs.Tables.{tablesIn, tablesAfter, tablesChange, HeadEntries}
 use Rattle.narrowing.specs.declared.narrow.Pa.{Pa}
 
 abbrev pub zeros : List ℕ
@@ -44,12 +45,12 @@ isRefused Narrowing.Unchanged = false
 isRefused (Narrowing.Changed k) = false
 
 -- The PA message of a payload: its body is the payload's bytes from 9 to `end`, and the body's tables start at `tables`.
-pub record PaPlace (payload : Bytes) (end tables : ℕ) : Type 0 where
+pub record PaFound (payload : Bytes) (end tables : ℕ) : Type 0 where
   pub nine : 9 ≤ end
   pub within : end ≤ length payload
   pub body-is : paMessage payload ≡ some (take (end - 9) (drop 9 payload))
   pub entries : List Bytes
-  pub heads : Heads (take (end - 9) (drop 9 payload)) tables entries
+  pub heads : HeadEntries (take (end - 9) (drop 9 payload)) tables entries
 
 -- Whether a payload is whole and unaggregated, and its message's number that of a PA message.
 unfoldable pub startsPa : Bytes → Bool
@@ -72,13 +73,13 @@ abbrev pub NoPa : Bytes → Type 0
 NoPa payload = (b : Bytes) → paMessage payload ≡ some b → paHead b ≡ none
 
 abbrev pub PaIs : Bytes → Pa → Type 0
-PaIs payload (Pa.Found end tables) = PaPlace payload end tables
+PaIs payload (Pa.Found end tables) = PaFound payload end tables
 PaIs payload Pa.Nothing = NoPa payload
 
 -- The PA message of a payload that narrowing changes.
 abbrev pub ChangedPaIs : Options → ℕ → Bytes → Pa → Type 0
 ChangedPaIs o p payload (Pa.Found end tables) =
-    PaPlace payload end tables × (tablesChange o p (drop tables (take (end - 9) (drop 9 payload))) ≡ true)
+    PaFound payload end tables × (tablesChange o p (drop tables (take (end - 9) (drop 9 payload))) ≡ true)
 ChangedPaIs o p payload Pa.Nothing = narrowPayload o p payload ≡ none
 
 -- The narrowed bytes at `to` of the output, or the output as it was.
@@ -91,29 +92,29 @@ RewroteAs n d to d′ End.Nothing = (n ≡ none) × (d′ ≡ d)
 abbrev pub Rows : Type 0
 Rows = List (List ℕ)
 
-abbrev pub kindPlace : Part → ℕ
-kindPlace Caption = 0
-kindPlace Carousel = 1
-kindPlace Other = 2
+abbrev pub kindNumber : Part → ℕ
+kindNumber Caption = 0
+kindNumber Carousel = 1
+kindNumber Other = 2
 
-abbrev pub rowPlace : Options → Part → ℕ
-rowPlace o part = cond (wanted o part) 0 1
+abbrev pub rowNumber : Options → Part → ℕ
+rowNumber o part = cond (wanted o part) 0 1
 
--- one more at a place of a row
+-- one more of a kind in a row
 abbrev pub bumped : Rows → ℕ → ℕ → Rows
 bumped rows row kind = set rows row (set (getD rows row []) kind (getD (getD rows row []) kind 0 + 1))
 
 -- the kinds of some entries, counted on top of rows that were there
 unfoldable pub countedIn : Options → Rows → List Part → Rows
 countedIn o rows [] = rows
-countedIn o rows (part ∷ ps) = countedIn o (bumped rows (rowPlace o part) (kindPlace part)) ps
+countedIn o rows (part ∷ ps) = countedIn o (bumped rows (rowNumber o part) (kindNumber part)) ps
 
 abbrev pub noRows : Rows
 noRows = zeros ∷ zeros ∷ []
 
 -- no count passes a bound
-abbrev pub Below : Rows → ℕ → Type 0
-Below rows n = (length rows ≡ 2) × ((i : ℕ) (j : ℕ) → getD (getD rows i []) j 0 ≤ n)
+abbrev pub CountsBelow : Rows → ℕ → Type 0
+CountsBelow rows n = (length rows ≡ 2) × ((i : ℕ) (j : ℕ) → getD (getD rows i []) j 0 ≤ n)
 
 -- the kinds of the entries that were read
 abbrev pub partsRead : Out (List Entry) → List Part

@@ -10,7 +10,8 @@ use Rattle.meaning.specs.Bytes.{Bytes}
 use Rattle.meaning.specs.Lists.{keep}
 use Rattle.meaning.specs.Readers.{Out, many}
 use Rattle.meaning.specs.Tables.{Entry, entry}
-use Rattle.meaning.specs.Narrow.{wantedEntry, mptBody, mptWithout, pltOnly}
+use Rattle.meaning.specs.Wishes.{wantedEntry}
+use Rattle.meaning.specs.Narrow.{mptBody, mptWithout, pltOnly}
 use Rattle.meaning.specs.declared.Options.{Options}
 use Rattle.tables.specs.declared.packages.Named.{Named}
 use Rattle.narrowing.specs.declared.mpt.Walk.{Walk}
@@ -57,12 +58,12 @@ isNamed Named.Other s = false
 abbrev pub oneEntry : Bytes → ℕ → ℕ → ℕ → Bytes
 oneEntry b start end past = 1 ∷ (take (end - start) (drop start b) ++ drop past b)
 
-pub record PltPlace (b : Bytes) (start end past : ℕ) : Type 0 where
+pub record PltBounds (b : Bytes) (start end past : ℕ) : Type 0 where
   pub first : 1 ≤ start
   pub ends : start ≤ end
   pub before : end ≤ past
   pub within : past ≤ length b
 
 abbrev pub PltIs : ℕ → Bytes → PltChange → Type 0
-PltIs s b (PltChange.One start end past) = PltPlace b start end past × (pltOnly s b ≡ some (oneEntry b start end past))
+PltIs s b (PltChange.One start end past) = PltBounds b start end past × (pltOnly s b ≡ some (oneEntry b start end past))
 PltIs s b PltChange.Same = pltOnly s b ≡ none

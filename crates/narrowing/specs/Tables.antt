@@ -12,13 +12,13 @@ use Rattle.meaning.specs.Readers.{Walk, walk, raw}
 use Rattle.meaning.specs.Tables.{Table, table, paHead}
 use Rattle.meaning.specs.Narrow.{mptWithout, newTable, tableFrom, tableAfter, tableChanges}
 use Rattle.meaning.specs.declared.Options.{Options}
-use Rattle.narrowing.specs.Bodies.{MptLess, PltPlace, oneEntry}
+use Rattle.narrowing.specs.Bodies.{MptLess, PltBounds, oneEntry}
 use Rattle.narrowing.specs.declared.table.Change.{Change}
 
 -- n is what narrowing makes of the body b.
 abbrev pub ChangeIs : Option Bytes → Options → Bytes → Change → Type 0
 ChangeIs n o b (Change.Mpt front end kept size) = (n ≡ mptWithout o b) × MptLess o b front end kept size
-ChangeIs n o b (Change.Plt start end past) = PltPlace b start end past × (n ≡ some (oneEntry b start end past))
+ChangeIs n o b (Change.Plt start end past) = PltBounds b start end past × (n ≡ some (oneEntry b start end past))
 ChangeIs n o b Change.Same = n ≡ none
 
 abbrev pub isChange : Change → Bool
@@ -55,7 +55,7 @@ unfolding flatten
 tablesBytes o p r = flatten (tablesAfter o p r) ++ tablesIn r .left
 
 -- es are the head's entries, which stand between the first byte of s and its tables.
-pub record Heads (s : Bytes) (tables : ℕ) (es : List Bytes) : Type 0 where
+pub record HeadEntries (s : Bytes) (tables : ℕ) (es : List Bytes) : Type 0 where
   pub entries-read : paHead s ≡ some (record { count = getD s 0 0; entries = es }, drop tables s)
   pub one : 1 ≤ tables
   pub within : tables ≤ length s

@@ -7,9 +7,10 @@ ghost use mathlib.Core.Option.{IsSome};
 ghost use Rattle.meaning.specs.Bytes.{Bytes};
 ghost use Rattle.meaning.specs.Readers.{many};
 ghost use Rattle.meaning.specs.Tables.{entry, table};
-ghost use Rattle.meaning.specs.Narrow.{wanted, tablesParts, partsOfTable};
+ghost use Rattle.meaning.specs.Wishes.{wanted};
+ghost use Rattle.meaning.specs.Narrow.{tablesParts, partsOfTable};
 ghost use Rattle.narrowing.specs.Tables.{Exact, tablesIn};
-ghost use Rattle.narrowing.specs.Answers.{Below, noRows, countedIn, kindPlace, rowPlace, bumped, partsRead};
+ghost use Rattle.narrowing.specs.Answers.{CountsBelow, noRows, countedIn, kindNumber, rowNumber, bumped, partsRead};
 use crate::mpt::Walk;
 use crate::mpt::entries;
 use crate::mpt::wanted;
@@ -25,7 +26,7 @@ use tables::pa::is_mpt;
 use tables::pa::table_at;
 
 fn kind_of(part: Part) -> usize
-    ensures { λ r. ⌜ (r ≡ kindPlace part) × (r < 3) ⌝ }
+    ensures { λ r. ⌜ (r ≡ kindNumber part) × (r < 3) ⌝ }
 {
     match part {
         Part::Caption => 0,
@@ -36,7 +37,7 @@ fn kind_of(part: Part) -> usize
 
 // The row of those that stay, or of those that go.
 fn row_of(o: Options, part: Part) -> usize
-    ensures { λ r. ⌜ (r ≡ rowPlace o part) × (r < 2) ⌝ }
+    ensures { λ r. ⌜ (r ≡ rowNumber o part) × (r < 2) ⌝ }
 {
     if wanted(o, part) {
         return 0;
@@ -62,7 +63,7 @@ fn count_entries(
     o: Options,
     counts: [[u64; 3]; 2],
 ) -> [[u64; 3]; 2]
-    requires { ⌜ (at ≤ length (now b)) × IsSome (many count entry (drop at (now b))) × Below counts (18446744073709551615 - count) ⌝ }
+    requires { ⌜ (at ≤ length (now b)) × IsSome (many count entry (drop at (now b))) × CountsBelow counts (18446744073709551615 - count) ⌝ }
     ensures { λ r. ⌜ r ≡ countedIn o counts (partsRead (many count entry (drop at (now (b .entry))))) ⌝ }
 {
     let mut t = counts;
@@ -82,7 +83,7 @@ fn count_entries(
 
 // The entries of a table, if it is a readable MPT.
 pub fn count_table(t: &[u8], o: Options, counts: [[u64; 3]; 2]) -> [[u64; 3]; 2]
-    requires { ⌜ Exact (now t) × Below counts (18446744073709551615 - 256) ⌝ }
+    requires { ⌜ Exact (now t) × CountsBelow counts (18446744073709551615 - 256) ⌝ }
     ensures { λ r. ⌜ r ≡ countedIn o counts (partsOfTable (table (now (t .entry)))) ⌝ }
 {
     if !is_mpt(t[0]) {

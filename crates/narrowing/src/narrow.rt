@@ -2,13 +2,12 @@
 ghost use mathlib.Core.Path.{_≡_};
 ghost use Prim.Native.Nat.{ℕ, _+_, _-_, _*_, _≤_, _<_};
 ghost use lib.ListN.{length, take, drop, getD};
-ghost use Rattle.meaning.specs.Writing.{Wrote};
-ghost use mathlib.Core.List.{List, [], _∷_};
 ghost use Rattle.meaning.specs.Bytes.{Bytes};
+ghost use Rattle.meaning.specs.Writing.{Wrote};
+ghost use Rattle.meaning.specs.Narrow.{narrowPayload, payloadBytes, paMessage, partsOfMessage, changeTable, changePayload, changePacket, narrowRefusal};
+ghost use mathlib.Core.List.{List, [], _∷_};
 ghost use mathlib.Core.Option.{Option·map};
-ghost use Rattle.meaning.specs.Narrow.{narrowPayload, payloadBytes, paMessage, partsOfMessage, changeTable, changePayload, changePacket};
-ghost use Rattle.meaning.specs.Refusals.{narrowRefusal};
-ghost use Rattle.narrowing.specs.Answers.{zeros, startsPa, NarrowedAs, RefusedAs, isRefused, PaPlace, PaIs, ChangedPaIs, RewroteAs, bodyAfter, packetWith, noRows, countedIn};
+ghost use Rattle.narrowing.specs.Answers.{zeros, startsPa, NarrowedAs, RefusedAs, isRefused, PaFound, PaIs, ChangedPaIs, RewroteAs, bodyAfter, packetWith, noRows, countedIn};
 use crate::counting::count_table;
 use crate::counting::count_tables;
 use crate::pa::pa_changes;
@@ -64,13 +63,13 @@ fn without_counts(narrowing: Narrowing) -> Narrowed
 }
 
 // The refusal of a narrowing by the lengths of its input and its output, else unchanged.
-fn refusal(n: usize, room: usize) -> Narrowing
-    ensures { λ r. ⌜ RefusedAs (narrowRefusal n room) r ⌝ }
+fn refusal(n: usize, out_length: usize) -> Narrowing
+    ensures { λ r. ⌜ RefusedAs (narrowRefusal n «out_length») r ⌝ }
 {
     if 65539 < n {
         return Narrowing::Refused(Refusal::Long);
     }
-    if room < n {
+    if out_length < n {
         return Narrowing::Refused(Refusal::Short);
     }
     Narrowing::Unchanged
@@ -169,8 +168,8 @@ fn payload_to(
     out: &mut [u8],
     to: usize,
 ) -> usize
-    requires { ⌜ PaPlace (now payload) end tables × (to + end ≤ length (now out)) ⌝ }
-    ensures { λ r. ⌜ ((h : PaPlace (now (payload .entry)) end tables) → Wrote (payloadBytes (now (payload .entry)) (bodyAfter o pid (take (end - 9) (drop 9 (now (payload .entry)))) tables (h .entries))) (now (out .entry)) to (now (out .exit)) r) ⌝ }
+    requires { ⌜ PaFound (now payload) end tables × (to + end ≤ length (now out)) ⌝ }
+    ensures { λ r. ⌜ ((h : PaFound (now (payload .entry)) end tables) → Wrote (payloadBytes (now (payload .entry)) (bodyAfter o pid (take (end - 9) (drop 9 (now (payload .entry)))) tables (h .entries))) (now (out .entry)) to (now (out .exit)) r) ⌝ }
 {
     let body = copy(&payload[0..9], out, to);
     let last = pa_to(&payload[9..end], tables, pid, o, out, body);
@@ -244,13 +243,13 @@ pub fn narrow_packet(p: &[u8], o: Options, out: &mut [u8]) -> Narrowed
     let Mmtp::Read {
         body,
         identifier,
-        kind,
+        payload_type,
         rewritable,
     } = mmtp_of(p)
     else {
         return without_counts(Narrowing::Unchanged);
     };
-    if kind != 2 {
+    if payload_type != 2 {
         return without_counts(Narrowing::Unchanged);
     }
     if !rewritable {

@@ -2,11 +2,11 @@
 ghost use mathlib.Core.Path.{_≡_};
 ghost use Prim.Native.Nat.{ℕ, _+_, _-_, _*_, _≤_, _<_};
 ghost use lib.ListN.{length, take, drop, getD};
-ghost use Rattle.meaning.specs.Writing.{Wrote};
-ghost use mathlib.Core.List.{List, flatten};
 ghost use Rattle.meaning.specs.Bytes.{Bytes};
+ghost use Rattle.meaning.specs.Writing.{Wrote};
 ghost use Rattle.meaning.specs.Narrow.{relength, paBytes};
-ghost use Rattle.narrowing.specs.Tables.{tablesIn, tablesChange, tablesAfter, tablesBytes, Heads};
+ghost use mathlib.Core.List.{List, flatten};
+ghost use Rattle.narrowing.specs.Tables.{tablesIn, tablesChange, tablesAfter, tablesBytes, HeadEntries};
 use crate::table::change_of;
 use crate::table::changes;
 use crate::table::length_after;
@@ -45,8 +45,8 @@ pub fn pa_changes(s: &[u8], tables: usize, pid: u16, o: Options) -> bool
 
 // The head's entries, from the second byte of the body up to the tables, written at `to`.
 fn heads_to(s: &[u8], tables: usize, pid: u16, o: Options, out: &mut [u8], to: usize) -> usize
-    requires { ⌜ ((es : List Bytes) × Heads (now s) tables es) × (to + (tables - 1) ≤ length (now out)) ⌝ }
-    ensures { λ r. ⌜ ((es : List Bytes) → Heads (now (s .entry)) tables es → Wrote (flatten (relength es (tablesAfter o pid (drop tables (now (s .entry)))))) (now (out .entry)) to (now (out .exit)) r) ⌝ }
+    requires { ⌜ ((es : List Bytes) × HeadEntries (now s) tables es) × (to + (tables - 1) ≤ length (now out)) ⌝ }
+    ensures { λ r. ⌜ ((es : List Bytes) → HeadEntries (now (s .entry)) tables es → Wrote (flatten (relength es (tablesAfter o pid (drop tables (now (s .entry)))))) (now (out .entry)) to (now (out .exit)) r) ⌝ }
 {
     let mut at = tables;
     let mut entry = 1;
@@ -85,8 +85,8 @@ fn tables_to(s: &[u8], tables: usize, pid: u16, o: Options, out: &mut [u8], to: 
 
 // The whole body, written at `to`.
 pub fn pa_to(s: &[u8], tables: usize, pid: u16, o: Options, out: &mut [u8], to: usize) -> usize
-    requires { ⌜ ((es : List Bytes) × Heads (now s) tables es) × (to + length (now s) ≤ length (now out)) ⌝ }
-    ensures { λ r. ⌜ ((es : List Bytes) → Heads (now (s .entry)) tables es → Wrote (paBytes (record { count = getD (now (s .entry)) 0 0; entries = es }) (tablesAfter o pid (drop tables (now (s .entry)))) (tablesIn (drop tables (now (s .entry))) .left)) (now (out .entry)) to (now (out .exit)) r) ⌝ }
+    requires { ⌜ ((es : List Bytes) × HeadEntries (now s) tables es) × (to + length (now s) ≤ length (now out)) ⌝ }
+    ensures { λ r. ⌜ ((es : List Bytes) → HeadEntries (now (s .entry)) tables es → Wrote (paBytes (record { count = getD (now (s .entry)) 0 0; entries = es }) (tablesAfter o pid (drop tables (now (s .entry)))) (tablesIn (drop tables (now (s .entry))) .left)) (now (out .entry)) to (now (out .exit)) r) ⌝ }
 {
     let c = copy(&s[0..1], out, to);
     let d = heads_to(s, tables, pid, o, out, c);

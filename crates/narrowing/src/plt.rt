@@ -4,7 +4,7 @@ ghost use Prim.Native.Nat.{ℕ, _+_, _-_, _*_, _≤_, _<_};
 ghost use lib.ListN.{length, take, drop, getD};
 ghost use Rattle.meaning.specs.Writing.{Wrote};
 ghost use Rattle.meaning.specs.Narrow.{pltOnly};
-ghost use Rattle.narrowing.specs.Bodies.{isNamed, oneEntry, PltPlace, PltIs};
+ghost use Rattle.narrowing.specs.Bodies.{isNamed, oneEntry, PltBounds, PltIs};
 use octets::copy;
 use octets::put8;
 use octets::wide;
@@ -66,7 +66,7 @@ pub fn plt_only(b: &[u8], service: u16) -> PltChange
 
 // The new body, written at `to`.
 pub fn plt_to(b: &[u8], start: usize, end: usize, past: usize, out: &mut [u8], to: usize) -> usize
-    requires { ⌜ PltPlace (now b) start end past × (to + length (now b) ≤ length (now out)) ⌝ }
+    requires { ⌜ PltBounds (now b) start end past × (to + length (now b) ≤ length (now out)) ⌝ }
     ensures { λ r. ⌜ Wrote (oneEntry (now (b .entry)) start end past) (now (out .entry)) to (now (out .exit)) r ⌝ }
 {
     let c = put8(out, to, 1);

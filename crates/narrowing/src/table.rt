@@ -2,10 +2,10 @@
 ghost use mathlib.Core.Path.{_≡_};
 ghost use Prim.Native.Nat.{ℕ, _+_, _-_, _*_, _≤_, _<_};
 ghost use lib.ListN.{length, take, drop, getD};
-ghost use Rattle.meaning.specs.Writing.{Wrote};
-ghost use mathlib.Core.Option.{Option, Option·getD};
 ghost use Rattle.meaning.specs.Bytes.{Bytes};
+ghost use Rattle.meaning.specs.Writing.{Wrote};
 ghost use Rattle.meaning.specs.Narrow.{mptWithout, pltFor, newBody};
+ghost use mathlib.Core.Option.{Option, Option·getD};
 ghost use Rattle.meaning.specs.declared.Options.{Options};
 ghost use Rattle.narrowing.specs.Tables.{ChangeIs, isChange, Exact, afterTable};
 use crate::mpt::MptChange;

@@ -33,16 +33,16 @@ or-true true = refl
 or-true false = refl
 
 abbrev told : Extent → Bool → Extent
-told e new = record { seen = e .seen; packages = e .packages; maps = e .maps; fragments = e .fragments; lost = e .lost; changed = e .changed || new }
+told e new = record { seen = e .seen; «package_count» = e .«package_count»; «map_count» = e .«map_count»; «fragment_count» = e .«fragment_count»; lost = e .lost; changed = e .changed || new }
 
 pub data-old : (q : ℕ) (e : Extent) (ws : List ℕ) → inSet ws q ≡ true → e ≡ told e (not (inSet ws q))
 data-old q e ws h i =
-    record { seen = e .seen; packages = e .packages; maps = e .maps; fragments = e .fragments; lost = e .lost; changed = (or-false (e .changed) ∙ ap (λ (b : Bool). e .changed || not b) (sym h)) i }
+    record { seen = e .seen; «package_count» = e .«package_count»; «map_count» = e .«map_count»; «fragment_count» = e .«fragment_count»; lost = e .lost; changed = (or-false (e .changed) ∙ ap (λ (b : Bool). e .changed || not b) (sym h)) i }
 
 pub data-new : (q : ℕ) (e : Extent) (ws : List ℕ) → inSet ws q ≡ false
-    → _≡_ {A = Extent} (record { seen = e .seen; packages = e .packages; maps = e .maps; fragments = e .fragments; lost = e .lost; changed = true }) (told e (not (inSet ws q)))
+    → _≡_ {A = Extent} (record { seen = e .seen; «package_count» = e .«package_count»; «map_count» = e .«map_count»; «fragment_count» = e .«fragment_count»; lost = e .lost; changed = true }) (told e (not (inSet ws q)))
 data-new q e ws h i =
-    record { seen = e .seen; packages = e .packages; maps = e .maps; fragments = e .fragments; lost = e .lost; changed = (or-true (e .changed) ∙ ap (λ (b : Bool). e .changed || not b) (sym h)) i }
+    record { seen = e .seen; «package_count» = e .«package_count»; «map_count» = e .«map_count»; «fragment_count» = e .«fragment_count»; lost = e .lost; changed = (or-true (e .changed) ∙ ap (λ (b : Bool). e .changed || not b) (sym h)) i }
 
 -- a part is no longer than the whole
 pub part-few : (lost : ℕ) (s : Bytes) (a e : ℕ) → lost + length s ≤ 18446744073709551615 → lost + length (take (e - a) (drop a s)) ≤ 18446744073709551615
@@ -71,16 +71,16 @@ module _ (q : ℕ) (x : Message) (k : Known) (e : Extent) (c p m o : List ℕ) (
         keeps =
             record {
               seen = ap (λ y. y .seen) (d .1) ∙ h .seen;
-              packages-kept = rw (ap (λ y. y .packages) (d .1)) (h .packages-kept);
-              maps-kept = rw (ap (λ y. y .maps) (d .1)) (h .maps-kept);
-              carousels-are = d .0 ∙ ap (λ (ws : List ℕ). withId ws q) (h .carousels-are);
-              carousels-all = ap length (d .0) ∙ with-length c q ∙ h .carousels-all;
-              room-is = h .room-is;
-              room-all = h .room-all;
+              packages-kept = rw (ap (λ y. y .«package_count») (d .1)) (h .packages-kept);
+              maps-kept = rw (ap (λ y. y .«map_count») (d .1)) (h .maps-kept);
+              data-set-is = d .0 ∙ ap (λ (ws : List ℕ). withId ws q) (h .data-set-is);
+              data-set-all = ap length (d .0) ∙ with-length c q ∙ h .data-set-all;
+              map-room-is = h .map-room-is;
+              map-room-all = h .map-room-all;
             };
         lost-is = omega (arith, ap (λ y. y .lost) (d .1));
-        changed-is = ap (λ y. y .changed) (d .1) ∙ ap (λ (ws : List ℕ). e .changed || not (inSet ws q)) (h .carousels-are);
-        fragments-same = ap (λ y. y .fragments) (d .1);
+        changed-is = ap (λ y. y .changed) (d .1) ∙ ap (λ (ws : List ℕ). e .changed || not (inSet ws q)) (h .data-set-is);
+        fragments-same = ap (λ y. y .«fragment_count») (d .1);
       })
 
   pub message-other : (x .number ≡ 0 → ⊥) → (x .number ≡ 0x8003 → ⊥) → After (learnMessage q x k) (newsMessage q x k) e e c p m o

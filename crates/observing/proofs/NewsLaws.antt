@@ -16,13 +16,14 @@ use Rattle.meaning.specs.Sets.{Words, inSet}
 use Rattle.meaning.specs.Readers.{Out}
 use Rattle.meaning.specs.Messages.{Message, messages, indicator}
 use Rattle.meaning.specs.Tables.{Mpt, mpt, Package, plt, Table, isMpt, isPlt, pa}
-use Rattle.meaning.specs.Learn.{Limits, Fragment, Known, Learnt, learnt, Listed, assetNumbers, lists, over, placeFor, listed, withList, mptFrom, learnMpt, packagesIn, pltFrom, learnPlt, learnTable, learnTables, paTables, withCarousel, learnMessage, learnMessages, withFragments, without, fragmentOf, holdFirst, fits, middle, joined, lastFor, last, byIndicator, observe}
+use Rattle.meaning.specs.Learn.{Fragment, Known, Learnt, learnt, Listed, assetNumbers, lists, over, placeFor, listed, withList, mptFrom, learnMpt, packagesIn, pltFrom, learnPlt, learnTable, learnTables, paTables, withData, learnMessage, learnMessages, withFragments, without, fragmentOf, holdFirst, fits, middle, joined, lastFor, last, byIndicator, observe}
 use Rattle.meaning.specs.Rules.{inDropSet, drops, ready}
+use Rattle.meaning.specs.declared.Limits.{Limits}
 use Rattle.meaning.specs.declared.Options.{Options}
 use Rattle.meaning.specs.declared.Service.{Service}
 use Rattle.meaning.proofs.SetLaws.{insert-there}
 use Rattle.meaning.proofs.ListLaws.{clash, and-both, or-neither}
-use Rattle.meaning.proofs.Holds.{putHead, put-is}
+use Rattle.meaning.proofs.SoundnessKept.{putHead, put-is}
 use Rattle.meaning.proofs.SpareLaws.{numbers-length}
 use Rattle.learning.specs.News.{sameNumbers, samePairs, packagesNew, countAt, sameList, listNew}
 use Rattle.learning.proofs.PairLaws.{same-true, pairs-true}
@@ -31,20 +32,20 @@ use Rattle.observing.proofs.FoldLaws.{Folds}
 use Rattle.observing.proofs.TableSteps.{tables-fold}
 
 -- what is written anew, field by field, is what was known
-known-same : (k : Known) {seen : Bool} {ps ms : List (ℕ × ℕ)} {room : List ℕ} {ws : Words}
-    → seen ≡ k .plt-seen → ps ≡ k .packages → ms ≡ k .maps → room ≡ k .room → ws ≡ k .carousels
-    → record { plt-seen = seen; packages = ps; maps = ms; room = room; carousels = ws; fragments = k .fragments } ≡ k
-known-same k a b c d e = λ i. record { plt-seen = a i; packages = b i; maps = c i; room = d i; carousels = e i; fragments = k .fragments }
+known-same : (k : Known) {seen : Bool} {ps ms : List (ℕ × ℕ)} {map-room : List ℕ} {ws : Words}
+    → seen ≡ k .plt-seen → ps ≡ k .packages → ms ≡ k .map-heads → map-room ≡ k .map-room → ws ≡ k .data-set
+    → record { plt-seen = seen; packages = ps; map-heads = ms; map-room = map-room; data-set = ws; fragments = k .fragments } ≡ k
+known-same k a b c d e = λ i. record { plt-seen = a i; packages = b i; map-heads = c i; map-room = d i; data-set = e i; fragments = k .fragments }
 
 -- ---- a list that stands in its place
 
 -- numbers written over themselves
-over-same : (room ns : List ℕ) (at : ℕ) → take (length ns) (drop at room) ≡ ns → over room at ns ≡ room
+over-same : (map-room ns : List ℕ) (at : ℕ) → take (length ns) (drop at map-room) ≡ ns → over map-room at ns ≡ map-room
 unfolding over
-over-same room ns at e =
-    ap (λ (z : List ℕ). take at room ++ z)
-    (ap₂ (λ (x y : List ℕ). x ++ y) (sym e) (sym (drop-drop (length ns) at room)) ∙ take-append-drop (length ns) (drop at room))
-    ∙ take-append-drop at room
+over-same map-room ns at e =
+    ap (λ (z : List ℕ). take at map-room ++ z)
+    (ap₂ (λ (x y : List ℕ). x ++ y) (sym e) (sym (drop-drop (length ns) at map-room)) ∙ take-append-drop (length ns) (drop at map-room))
+    ∙ take-append-drop at map-room
 
 -- a head put over itself
 head-there : (p n : ℕ) (ms : List (ℕ × ℕ)) → countAt (placeFor p ms) ms ≡ some n → putHead p n ms ≡ ms
@@ -59,32 +60,32 @@ head-there p n (m ∷ ms) e = go (eqb (m .0) p) refl e (head-there p n ms)
 
 module _ (p : ℕ) (as′ : Listed) (k : Known) where
   abbrev at : ℕ
-  at = placeFor p (k .maps)
+  at = placeFor p (k .map-heads)
 
-  list-same : (o : Option ℕ) → countAt at (k .maps) ≡ o → sameList o as′ (drop (512 * at) (k .room)) ≡ true → withList p as′ k at ≡ k
+  list-same : (o : Option ℕ) → countAt at (k .map-heads) ≡ o → sameList o as′ (drop (512 * at) (k .map-room)) ≡ true → withList p as′ k at ≡ k
   unfolding withList
   list-same none e h = clash (cc)
   list-same (some n) e h =
-      let b = and-both (eqb n (length as′)) (sameNumbers (take (2 * length as′) (drop (512 * at) (k .room))) (assetNumbers as′)) h in
-      let heads = put-is p (length as′) (k .maps) ∙ head-there p (length as′) (k .maps) (e ∙ ap some (eqb-true n (length as′) (b .0))) in
+      let b = and-both (eqb n (length as′)) (sameNumbers (take (2 * length as′) (drop (512 * at) (k .map-room))) (assetNumbers as′)) h in
+      let fragment-heads = put-is p (length as′) (k .map-heads) ∙ head-there p (length as′) (k .map-heads) (e ∙ ap some (eqb-true n (length as′) (b .0))) in
       let numbers =
-      over-same (k .room) (assetNumbers as′) (512 * at)
-      (ap (λ (c : ℕ). take c (drop (512 * at) (k .room))) (numbers-length as′) ∙ same-true (take (2 * length as′) (drop (512 * at) (k .room))) (assetNumbers as′) (b .1)) in
-      known-same k refl refl heads numbers refl
+      over-same (k .map-room) (assetNumbers as′) (512 * at)
+      (ap (λ (c : ℕ). take c (drop (512 * at) (k .map-room))) (numbers-length as′) ∙ same-true (take (2 * length as′) (drop (512 * at) (k .map-room))) (assetNumbers as′) (b .1)) in
+      known-same k refl refl fragment-heads numbers refl
 
   -- it is there, or it is lost
-  list-still : listNew p as′ (k .maps) (k .room) ≡ false → cond (ltb at 64) (learnt (withList p as′ k at)) (record { known = k; lost = 1 }) .known ≡ k
+  list-still : listNew p as′ (k .map-heads) (k .map-room) ≡ false → cond (ltb at 64) (learnt (withList p as′ k at)) (record { known = k; lost = 1 }) .known ≡ k
   unfolding listNew
   list-still e = go (ltb at 64) e
     where
-      go : (a : Bool) → (a && not (sameList (countAt at (k .maps)) as′ (drop (512 * at) (k .room)))) ≡ false
+      go : (a : Bool) → (a && not (sameList (countAt at (k .map-heads)) as′ (drop (512 * at) (k .map-room)))) ≡ false
           → cond a (learnt (withList p as′ k at)) (record { known = k; lost = 1 }) .known ≡ k
-      go true e = list-same (countAt at (k .maps)) refl (not-false _ e)
+      go true e = list-same (countAt at (k .map-heads)) refl (not-false _ e)
       go false e = refl
 
 -- ---- a table
 
-mpt-still : (p : ℕ) (x : Out Mpt) (k : Known) → mptNew p x (k .maps) (k .room) ≡ false → mptFrom p x k .known ≡ k
+mpt-still : (p : ℕ) (x : Out Mpt) (k : Known) → mptNew p x (k .map-heads) (k .map-room) ≡ false → mptFrom p x k .known ≡ k
 mpt-still p none k e = refl
 mpt-still p (some (m, more)) k e = list-still p (listed (m .entries)) k e
 
@@ -98,7 +99,7 @@ table-still : (p : ℕ) (t : Table) (k : Known) → newsTable p t k ≡ false �
 unfolding newsTable learnTable learnPlt learnMpt
 table-still p t k e = go (isPlt (t .number) && eqb p 0) (isMpt (t .number)) e
   where
-    go : (a b : Bool) → cond a (packagesNew (plt (t .body)) (k .plt-seen) (k .packages)) (cond b (mptNew p (mpt (t .body)) (k .maps) (k .room)) false) ≡ false
+    go : (a b : Bool) → cond a (packagesNew (plt (t .body)) (k .plt-seen) (k .packages)) (cond b (mptNew p (mpt (t .body)) (k .map-heads) (k .map-room)) false) ≡ false
         → cond a (learnt (pltFrom (plt (t .body)) k)) (cond b (mptFrom p (mpt (t .body)) k) (learnt k)) .known ≡ k
     go true b e = plt-still (plt (t .body)) k e
     go false true e = mpt-still p (mpt (t .body)) k e
@@ -122,10 +123,10 @@ message-still p m k e = go (eqb (m .number) 0) (eqb (m .number) 0x8003) e
     ts : List (Table × Bytes)
     ts = paTables (pa (m .body))
 
-    go : (a b : Bool) → cond a (newsTables p ts k) (cond b (not (inSet (k .carousels) p)) false) ≡ false
-        → cond a (learnTables p ts k) (cond b (learnt (withCarousel p k)) (learnt k)) .known ≡ k
+    go : (a b : Bool) → cond a (newsTables p ts k) (cond b (not (inSet (k .data-set) p)) false) ≡ false
+        → cond a (learnTables p ts k) (cond b (learnt (withData p k)) (learnt k)) .known ≡ k
     go true b e = fold-still (λ t. learnTable p (t .0)) (λ t. newsTable p (t .0)) (learnTables p) (newsTables p) (tables-fold p) (λ t. table-still p (t .0)) ts k e
-    go false true e = known-same k refl refl refl refl (insert-there (k .carousels) p (not-false _ e))
+    go false true e = known-same k refl refl refl refl (insert-there (k .data-set) p (not-false _ e))
     go false false e = refl
 
 messages-fold : (p : ℕ) → Folds (learnMessage p) (newsMessage p) (learnMessages p) (newsMessages p)
@@ -136,18 +137,18 @@ messages-fold p = record { nil = λ k. refl; cons = λ m ms k. refl; no-news = �
 
 -- The same is known, but for fragments.
 pub record Still (k k′ : Known) : Type 0 where
-  pub held : List Fragment
-  pub known-is : k′ ≡ withFragments held k
+  pub fragments-after : List Fragment
+  pub known-is : k′ ≡ withFragments fragments-after k
 
 module _ (L : Limits) (p : ℕ) where
   messages-still : (ms : List Message) (fs : List Fragment) (k : Known) → newsMessages p ms (withFragments fs k) ≡ false → Still k (learnMessages p ms (withFragments fs k) .known)
   messages-still ms fs k e = record {
-    held = fs;
+    fragments-after = fs;
     known-is = fold-still (learnMessage p) (newsMessage p) (learnMessages p) (newsMessages p) (messages-fold p) (message-still p) ms (withFragments fs k) e;
   }
 
   last-still : (o : Option Fragment) (b : Bytes) (k : Known) → newsLast o L p b k ≡ false → Still k (lastFor o L p b k .known)
-  last-still none b k e = record { held = k .fragments; known-is = refl }
+  last-still none b k e = record { fragments-after = k .fragments; known-is = refl }
   last-still (some f) b k e = go (fits L f b (k .fragments)) e
     where
       rest : List Fragment
@@ -156,23 +157,23 @@ module _ (L : Limits) (p : ℕ) where
       go : (a : Bool) → cond a (newsMessages p (messages (joined f b)) (withFragments rest k)) false ≡ false
           → Still k (cond a (learnMessages p (messages (joined f b)) (withFragments rest k)) (learnt (withFragments rest k)) .known)
       go true e = messages-still (messages (joined f b)) rest k e
-      go false e = record { held = rest; known-is = refl }
+      go false e = record { fragments-after = rest; known-is = refl }
 
   by-still : (i flags : ℕ) (s : Bytes) (k : Known) → newsBy i L p flags s k ≡ false → Still k (byIndicator i L p flags s k .known)
   unfolding last
   by-still zero flags s k e = messages-still (messages (flags ∷ s)) (without p (k .fragments)) k e
-  by-still (suc zero) flags s k e = record { held = holdFirst L p flags (drop 1 s) (k .fragments); known-is = refl }
-  by-still (suc (suc zero)) flags s k e = record { held = middle L p (drop 1 s) (k .fragments); known-is = refl }
+  by-still (suc zero) flags s k e = record { fragments-after = holdFirst L p flags (drop 1 s) (k .fragments); known-is = refl }
+  by-still (suc (suc zero)) flags s k e = record { fragments-after = middle L p (drop 1 s) (k .fragments); known-is = refl }
   by-still (suc (suc (suc i))) flags s k e = last-still (fragmentOf p (k .fragments)) (drop 1 s) k e
 
 -- Where nothing is new, at most fragments changed.
 pub still : (L : Limits) (p : ℕ) (s : Bytes) (k : Known) → news L p s k ≡ false → Still k (observe L p s k .known)
 unfolding news observe
-still L p [] k e = record { held = k .fragments; known-is = refl }
-still L p (flags ∷ s) k e = go (inSet (k .carousels) p) e
+still L p [] k e = record { fragments-after = k .fragments; known-is = refl }
+still L p (flags ∷ s) k e = go (inSet (k .data-set) p) e
   where
     go : (a : Bool) → cond a false (newsBy (indicator flags) L p flags s k) ≡ false → Still k (cond a (learnt k) (byIndicator (indicator flags) L p flags s k) .known)
-    go true e = record { held = k .fragments; known-is = refl }
+    go true e = record { fragments-after = k .fragments; known-is = refl }
     go false e = by-still L p (indicator flags) flags s k e
 
 -- ---- and no rule reads fragments

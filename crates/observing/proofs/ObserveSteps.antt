@@ -13,7 +13,8 @@ use Rattle.meaning.specs.Sets.{inSet}
 use Rattle.meaning.specs.Readers.{Out, byte, u16, walk}
 use Rattle.meaning.specs.Messages.{Message, indicator, aggregated, longLengths, message, messageBody, readEach, inBody, messages}
 use Rattle.meaning.specs.Tables.{Mpt, mpt, Package, plt, Table, isPlt, isMpt, pa}
-use Rattle.meaning.specs.Learn.{Limits, Fragment, Known, learnt, listed, placeFor, withList, mptFrom, learnMpt, pltFrom, learnPlt, learnTable, learnTables, paTables, withCarousel, learnMessage, learnMessages, withFragments, without, fragmentOf, growIn, holdFirst, middle, joined, last, byIndicator, observe}
+use Rattle.meaning.specs.Learn.{Fragment, Known, learnt, listed, placeFor, withList, mptFrom, learnMpt, pltFrom, learnPlt, learnTable, learnTables, paTables, withData, learnMessage, learnMessages, withFragments, without, fragmentOf, growIn, holdFirst, middle, joined, last, byIndicator, observe}
+use Rattle.meaning.specs.declared.Limits.{Limits}
 use Rattle.fragments.specs.Fragments.{KeptFragments, GrewAt, GaveUp}
 use Rattle.fragments.proofs.FragmentLaws.{without-grown}
 use Rattle.learning.specs.Kept.{Keeps}
@@ -35,9 +36,9 @@ table-fragments q t k = go (isPlt (t .number) && eqb q 0) (isMpt (t .number))
 
     by-mpt : (x : Out Mpt) → mptFrom q x k .known .fragments ≡ k .fragments
     by-mpt none = refl
-    by-mpt (some (m, more)) = on (ltb (placeFor q (k .maps)) 64)
+    by-mpt (some (m, more)) = on (ltb (placeFor q (k .map-heads)) 64)
       where
-        on : (a : Bool) → cond a (learnt (withList q (listed (m .entries)) k (placeFor q (k .maps)))) (record { known = k; lost = 1 }) .known .fragments ≡ k .fragments
+        on : (a : Bool) → cond a (learnt (withList q (listed (m .entries)) k (placeFor q (k .map-heads)))) (record { known = k; lost = 1 }) .known .fragments ≡ k .fragments
         on true = refl
         on false = refl
 
@@ -55,7 +56,7 @@ message-fragments : (q : ℕ) (m : Message) (k : Known) → learnMessage q m k .
 unfolding learnMessage
 message-fragments q m k = go (eqb (m .number) 0) (eqb (m .number) 0x8003)
   where
-    go : (a b : Bool) → cond a (learnTables q (paTables (pa (m .body))) k) (cond b (learnt (withCarousel q k)) (learnt k)) .known .fragments ≡ k .fragments
+    go : (a b : Bool) → cond a (learnTables q (paTables (pa (m .body))) k) (cond b (learnt (withData q k)) (learnt k)) .known .fragments ≡ k .fragments
     go true b = tables-fragments q (paTables (pa (m .body))) k
     go false true = refl
     go false false = refl
@@ -69,13 +70,13 @@ messages-fragments q (m ∷ ms) k = messages-fragments q ms (learnMessage q m k 
 
 pub keeps-with : (k : Known) (fs : List Fragment) (e : Extent) (n : ℕ) (c p m o : List ℕ) → Keeps k e c p m o → Keeps (withFragments fs k) (withCount e n) c p m o
 keeps-with k fs e n c p m o h =
-    record { seen = h .seen; packages-kept = h .packages-kept; maps-kept = h .maps-kept; carousels-are = h .carousels-are; carousels-all = h .carousels-all; room-is = h .room-is; room-all = h .room-all }
+    record { seen = h .seen; packages-kept = h .packages-kept; maps-kept = h .maps-kept; data-set-is = h .data-set-is; data-set-all = h .data-set-all; map-room-is = h .map-room-is; map-room-all = h .map-room-all }
 
 -- messages learned where so many fragments are held
-pub messages-observed : (T q : ℕ) (ms : List Message) (k : Known) (fs : List Fragment) (e r : Extent) (n : ℕ) (c p m o heads : List ℕ) (bodies : Bytes)
-    → After (learnMessages q ms (withFragments fs k)) (newsMessages q ms (withFragments fs k)) (withCount e n) r c p m o → KeptFragments T fs n heads bodies
-    → Observed T (learnMessages q ms (withFragments fs k)) (newsMessages q ms (withFragments fs k)) e r c p m o heads bodies
-messages-observed T q ms k fs e r n c p m o heads bodies a f =
+pub messages-observed : (T q : ℕ) (ms : List Message) (k : Known) (fs : List Fragment) (e r : Extent) (n : ℕ) (c p m o fragment-heads : List ℕ) (bodies : Bytes)
+    → After (learnMessages q ms (withFragments fs k)) (newsMessages q ms (withFragments fs k)) (withCount e n) r c p m o → KeptFragments T fs n fragment-heads bodies
+    → Observed T (learnMessages q ms (withFragments fs k)) (newsMessages q ms (withFragments fs k)) e r c p m o fragment-heads bodies
+messages-observed T q ms k fs e r n c p m o fragment-heads bodies a f =
     let same = messages-fragments q ms (withFragments fs k) in
     record {
       holding = record { tables-kept = a .keeps; fragments-kept = rw (same, a .fragments-same) f };
@@ -84,17 +85,17 @@ messages-observed T q ms k fs e r n c p m o heads bodies a f =
     }
 
 -- the same, where the count is told afterwards
-pub messages-then : (T q : ℕ) (ms : List Message) (k : Known) (fs : List Fragment) (e r : Extent) (n : ℕ) (c p m o heads : List ℕ) (bodies : Bytes)
-    → After (learnMessages q ms (withFragments fs k)) (newsMessages q ms (withFragments fs k)) e r c p m o → KeptFragments T fs n heads bodies
-    → Observed T (learnMessages q ms (withFragments fs k)) (newsMessages q ms (withFragments fs k)) e (withCount r n) c p m o heads bodies
-messages-then T q ms k fs e r n c p m o heads bodies a f =
+pub messages-then : (T q : ℕ) (ms : List Message) (k : Known) (fs : List Fragment) (e r : Extent) (n : ℕ) (c p m o fragment-heads : List ℕ) (bodies : Bytes)
+    → After (learnMessages q ms (withFragments fs k)) (newsMessages q ms (withFragments fs k)) e r c p m o → KeptFragments T fs n fragment-heads bodies
+    → Observed T (learnMessages q ms (withFragments fs k)) (newsMessages q ms (withFragments fs k)) e (withCount r n) c p m o fragment-heads bodies
+messages-then T q ms k fs e r n c p m o fragment-heads bodies a f =
     let same = messages-fragments q ms (withFragments fs k) in
     let h = a .keeps in
     record {
       holding =
           record {
             tables-kept =
-                record { seen = h .seen; packages-kept = h .packages-kept; maps-kept = h .maps-kept; carousels-are = h .carousels-are; carousels-all = h .carousels-all; room-is = h .room-is; room-all = h .room-all };
+                record { seen = h .seen; packages-kept = h .packages-kept; maps-kept = h .maps-kept; data-set-is = h .data-set-is; data-set-all = h .data-set-all; map-room-is = h .map-room-is; map-room-all = h .map-room-all };
             fragments-kept = rw same f;
           };
       lost-is = a .lost-is;
@@ -102,51 +103,51 @@ messages-then T q ms k fs e r n c p m o heads bodies a f =
     }
 
 -- fragments alone
-pub fragments-observed : (T : ℕ) (k : Known) (fs : List Fragment) (e : Extent) (n : ℕ) (c p m o heads : List ℕ) (bodies : Bytes) → Keeps k e c p m o → KeptFragments T fs n heads bodies
-    → Observed T (learnt (withFragments fs k)) false e (withCount e n) c p m o heads bodies
-fragments-observed T k fs e n c p m o heads bodies h f =
+pub fragments-observed : (T : ℕ) (k : Known) (fs : List Fragment) (e : Extent) (n : ℕ) (c p m o fragment-heads : List ℕ) (bodies : Bytes) → Keeps k e c p m o → KeptFragments T fs n fragment-heads bodies
+    → Observed T (learnt (withFragments fs k)) false e (withCount e n) c p m o fragment-heads bodies
+fragments-observed T k fs e n c p m o fragment-heads bodies h f =
     record { holding = record { tables-kept = keeps-with k fs e n c p m o h; fragments-kept = f }; lost-is = omega arith; changed-is = or-false (e .changed) }
 
 -- nothing
-pub nothing-observed : (T : ℕ) (k : Known) (e : Extent) (c p m o heads : List ℕ) (bodies : Bytes) → Holding T k e c p m o heads bodies → Observed T (learnt k) false e e c p m o heads bodies
-nothing-observed T k e c p m o heads bodies h = record { holding = h; lost-is = omega arith; changed-is = or-false (e .changed) }
+pub nothing-observed : (T : ℕ) (k : Known) (e : Extent) (c p m o fragment-heads : List ℕ) (bodies : Bytes) → Holding T k e c p m o fragment-heads bodies → Observed T (learnt k) false e e c p m o fragment-heads bodies
+nothing-observed T k e c p m o fragment-heads bodies h = record { holding = h; lost-is = omega arith; changed-is = or-false (e .changed) }
 
 -- ---- a last fragment
 
 pub keeps-fragments : (k : Known) (fs : List Fragment) (e : Extent) (c p m o : List ℕ) → Keeps k e c p m o → Keeps (withFragments fs k) e c p m o
 keeps-fragments k fs e c p m o h =
-    record { seen = h .seen; packages-kept = h .packages-kept; maps-kept = h .maps-kept; carousels-are = h .carousels-are; carousels-all = h .carousels-all; room-is = h .room-is; room-all = h .room-all }
+    record { seen = h .seen; packages-kept = h .packages-kept; maps-kept = h .maps-kept; data-set-is = h .data-set-is; data-set-all = h .data-set-all; map-room-is = h .map-room-is; map-room-all = h .map-room-all }
 
 -- the part of a room is no longer than the room
-pub part-within : (lost : ℕ) (room : Bytes) (a e T most : ℕ) → length room ≡ T → lost + T ≤ most → lost + length (take (e - a) (drop a room)) ≤ most
-part-within lost room a e T most l h = omega (arith, length-take (e - a) (drop a room), length-drop a room)
+pub part-within : (lost : ℕ) (map-room : Bytes) (a e T most : ℕ) → length map-room ≡ T → lost + T ≤ most → lost + length (take (e - a) (drop a map-room)) ≤ most
+part-within lost map-room a e T most l h = omega (arith, length-take (e - a) (drop a map-room), length-drop a map-room)
 
-pub lost-within : (lost r : ℕ) (room : Bytes) (a e T : ℕ) → length room ≡ T → r ≤ lost + length (take (e - a) (drop a room)) → r ≤ lost + T
-lost-within lost r room a e T l h = omega (arith, length-take (e - a) (drop a room), length-drop a room)
+pub lost-within : (lost r : ℕ) (map-room : Bytes) (a e T : ℕ) → length map-room ≡ T → r ≤ lost + length (take (e - a) (drop a map-room)) → r ≤ lost + T
+lost-within lost r map-room a e T l h = omega (arith, length-take (e - a) (drop a map-room), length-drop a map-room)
 
 module _ (L : Limits) (q : ℕ) (b : Bytes) (k : Known) (e : Extent) where
   pub last-grew : (n start end flags : ℕ) (h₁ : List ℕ) (b₁ : Bytes) → GrewAt L q b (k .fragments) n start end flags h₁ b₁
-      → (r : Extent) (n′ : ℕ) (c p m o heads : List ℕ) (bodies : Bytes)
+      → (r : Extent) (n′ : ℕ) (c p m o fragment-heads : List ℕ) (bodies : Bytes)
       → After (learnMessages q (messages (flags ∷ 0 ∷ take (end - start) (drop start b₁))) (withFragments (without q (k .fragments)) k))
       (newsMessages q (messages (flags ∷ 0 ∷ take (end - start) (drop start b₁))) (withFragments (without q (k .fragments)) k)) e r c p m o
-      → KeptFragments (L .total) (without q (growIn q b (k .fragments))) n′ heads bodies
-      → Observed (L .total) (last L q b k) (newsLast (fragmentOf q (k .fragments)) L q b k) e (withCount r n′) c p m o heads bodies
+      → KeptFragments (L .total) (without q (growIn q b (k .fragments))) n′ fragment-heads bodies
+      → Observed (L .total) (last L q b k) (newsLast (fragmentOf q (k .fragments)) L q b k) e (withCount r n′) c p m o fragment-heads bodies
   unfolding last joined
-  last-grew n start end flags h₁ b₁ g r n′ c p m o heads bodies a f =
+  last-grew n start end flags h₁ b₁ g r n′ c p m o fragment-heads bodies a f =
       let ms : messages (flags ∷ 0 ∷ take (end - start) (drop start b₁)) ≡ messages (joined (g .fragment) b) =
       ap₂ (λ (x : ℕ) (y : Bytes). messages (x ∷ 0 ∷ y)) (g .flags-are) (g .body-is) in
       rw (g .found, g .fitting)
-      (messages-then (L .total) q (messages (joined (g .fragment) b)) k (without q (k .fragments)) e r n′ c p m o heads bodies (rw ms at a) (rw (without-grown q b (k .fragments)) at f))
+      (messages-then (L .total) q (messages (joined (g .fragment) b)) k (without q (k .fragments)) e r n′ c p m o fragment-heads bodies (rw ms at a) (rw (without-grown q b (k .fragments)) at f))
 
-  pub last-gave : (n : ℕ) (heads : List ℕ) (bodies : Bytes) → GaveUp L q b (k .fragments) n heads bodies → (c p m o : List ℕ) → Keeps k e c p m o
-      → Observed (L .total) (last L q b k) (newsLast (fragmentOf q (k .fragments)) L q b k) e (withCount e n) c p m o heads bodies
+  pub last-gave : (n : ℕ) (fragment-heads : List ℕ) (bodies : Bytes) → GaveUp L q b (k .fragments) n fragment-heads bodies → (c p m o : List ℕ) → Keeps k e c p m o
+      → Observed (L .total) (last L q b k) (newsLast (fragmentOf q (k .fragments)) L q b k) e (withCount e n) c p m o fragment-heads bodies
   unfolding last
-  last-gave n heads bodies g c p m o h = rw (g .found, g .fitting) (fragments-observed (L .total) k (without q (k .fragments)) e n c p m o heads bodies h (g .kept))
+  last-gave n fragment-heads bodies g c p m o h = rw (g .found, g .fitting) (fragments-observed (L .total) k (without q (k .fragments)) e n c p m o fragment-heads bodies h (g .kept))
 
-  pub last-absent : fragmentOf q (k .fragments) ≡ none → (c p m o heads : List ℕ) (bodies : Bytes) → Holding (L .total) k e c p m o heads bodies
-      → Observed (L .total) (last L q b k) (newsLast (fragmentOf q (k .fragments)) L q b k) e e c p m o heads bodies
+  pub last-absent : fragmentOf q (k .fragments) ≡ none → (c p m o fragment-heads : List ℕ) (bodies : Bytes) → Holding (L .total) k e c p m o fragment-heads bodies
+      → Observed (L .total) (last L q b k) (newsLast (fragmentOf q (k .fragments)) L q b k) e e c p m o fragment-heads bodies
   unfolding last
-  last-absent f c p m o heads bodies h = rw f (nothing-observed (L .total) k e c p m o heads bodies h)
+  last-absent f c p m o fragment-heads bodies h = rw f (nothing-observed (L .total) k e c p m o fragment-heads bodies h)
 
 -- ---- a payload, by its first byte
 
@@ -176,23 +177,23 @@ module _ (L : Limits) (q flags : ℕ) (s : Bytes) (k : Known) where
   new-same (suc (suc zero)) i = refl
   new-same (suc (suc (suc n))) i = refl
 
-module _ (L : Limits) (q : ℕ) (k : Known) (e : Extent) (c p m o heads : List ℕ) (bodies : Bytes) (h : Holding (L .total) k e c p m o heads bodies) where
-  pub see-nothing : (s : Bytes) → length s ≡ 0 → Observed (L .total) (observe L q s k) (news L q s k) e e c p m o heads bodies
+module _ (L : Limits) (q : ℕ) (k : Known) (e : Extent) (c p m o fragment-heads : List ℕ) (bodies : Bytes) (h : Holding (L .total) k e c p m o fragment-heads bodies) where
+  pub see-nothing : (s : Bytes) → length s ≡ 0 → Observed (L .total) (observe L q s k) (news L q s k) e e c p m o fragment-heads bodies
   unfolding observe news
-  see-nothing [] z = nothing-observed (L .total) k e c p m o heads bodies h
+  see-nothing [] z = nothing-observed (L .total) k e c p m o fragment-heads bodies h
   see-nothing (x ∷ s) z = absurd (omega arith)
 
-  pub see-carousel : (s : Bytes) → inSet (k .carousels) q ≡ true → Observed (L .total) (observe L q s k) (news L q s k) e e c p m o heads bodies
+  pub see-carousel : (s : Bytes) → inSet (k .data-set) q ≡ true → Observed (L .total) (observe L q s k) (news L q s k) e e c p m o fragment-heads bodies
   unfolding observe news
-  see-carousel [] z = nothing-observed (L .total) k e c p m o heads bodies h
-  see-carousel (x ∷ s) z = rw z (nothing-observed (L .total) k e c p m o heads bodies h)
+  see-carousel [] z = nothing-observed (L .total) k e c p m o fragment-heads bodies h
+  see-carousel (x ∷ s) z = rw z (nothing-observed (L .total) k e c p m o fragment-heads bodies h)
 
 -- ---- the payload as the code has it
 
 -- the bytes from 2 on
-module _ (L : Limits) (q : ℕ) (k : Known) (e r : Extent) (c p m o heads : List ℕ) (bodies : Bytes) (fresh : inSet (k .carousels) q ≡ false) where
-  pub payload-by : (y : Bytes) → (length y ≡ 0 → ⊥) → (b : Bytes) → b ≡ drop 2 y → Observed (L .total) (byStep q (getD y 0 0) b L k) (byNew q (getD y 0 0) b L k) e r c p m o heads bodies
-      → Observed (L .total) (observe L q y k) (news L q y k) e r c p m o heads bodies
+module _ (L : Limits) (q : ℕ) (k : Known) (e r : Extent) (c p m o fragment-heads : List ℕ) (bodies : Bytes) (fresh : inSet (k .data-set) q ≡ false) where
+  pub payload-by : (y : Bytes) → (length y ≡ 0 → ⊥) → (b : Bytes) → b ≡ drop 2 y → Observed (L .total) (byStep q (getD y 0 0) b L k) (byNew q (getD y 0 0) b L k) e r c p m o fragment-heads bodies
+      → Observed (L .total) (observe L q y k) (news L q y k) e r c p m o fragment-heads bodies
   unfolding observe news
   payload-by [] z b d x = absurd (z refl)
   payload-by (f ∷ s) z b d x = rw (fresh, by-same L q f s k (indicator f) refl, new-same L q f s k (indicator f) refl) (rw d at x)
@@ -201,20 +202,20 @@ top : (f n : ℕ) → f / 64 ≡ n → n < 4 → indicator f ≡ n
 unfolding indicator
 top f n e l = ap (λ (z : ℕ). z % 4) e ∙ mod-eq-of-lt l
 
-module _ (L : Limits) (q flags : ℕ) (b : Bytes) (k : Known) (e r : Extent) (c p m o heads : List ℕ) (bodies : Bytes) where
+module _ (L : Limits) (q flags : ℕ) (b : Bytes) (k : Known) (e r : Extent) (c p m o fragment-heads : List ℕ) (bodies : Bytes) where
   abbrev By : Type 0
-  By = Observed (L .total) (byStep q flags b L k) (byNew q flags b L k) e r c p m o heads bodies
+  By = Observed (L .total) (byStep q flags b L k) (byNew q flags b L k) e r c p m o fragment-heads bodies
 
-  pub by-whole : flags / 64 ≡ 0 → Observed (L .total) (wholeStep q flags b L k) (wholeNew q flags b L k) e r c p m o heads bodies → By
+  pub by-whole : flags / 64 ≡ 0 → Observed (L .total) (wholeStep q flags b L k) (wholeNew q flags b L k) e r c p m o fragment-heads bodies → By
   by-whole i x = rw (top flags 0 i (omega arith)) x
 
-  pub by-first : flags / 64 ≡ 1 → Observed (L .total) (learnt (withFragments (holdFirst L q flags b (k .fragments)) k)) false e r c p m o heads bodies → By
+  pub by-first : flags / 64 ≡ 1 → Observed (L .total) (learnt (withFragments (holdFirst L q flags b (k .fragments)) k)) false e r c p m o fragment-heads bodies → By
   by-first i x = rw (top flags 1 i (omega arith)) x
 
-  pub by-middle : flags / 64 ≡ 2 → Observed (L .total) (learnt (withFragments (middle L q b (k .fragments)) k)) false e r c p m o heads bodies → By
+  pub by-middle : flags / 64 ≡ 2 → Observed (L .total) (learnt (withFragments (middle L q b (k .fragments)) k)) false e r c p m o fragment-heads bodies → By
   by-middle i x = rw (top flags 2 i (omega arith)) x
 
-  pub by-last : flags / 64 ≡ 3 → Observed (L .total) (lastStep q b L k) (lastNew q b L k) e r c p m o heads bodies → By
+  pub by-last : flags / 64 ≡ 3 → Observed (L .total) (lastStep q b L k) (lastNew q b L k) e r c p m o fragment-heads bodies → By
   by-last i x = rw (top flags 3 i (omega arith)) x
 
 -- a byte's top bits are the last value where they are no other

@@ -53,16 +53,16 @@ module _ (k : Known) (e r : Extent) (c p m o : List ℕ) (h : Keeps k e c p m o)
         keeps =
             record {
               seen = ap (λ z. z .seen) (x .0) ∙ h .seen;
-              packages-kept = subst (λ (n : ℕ). KeptPackages (k .packages) n p′) (sym (ap (λ z. z .packages) (x .0))) (x .1);
-              maps-kept = subst (λ (n : ℕ). KeptMaps (k .maps) n m) (sym (ap (λ z. z .maps) (x .0))) (h .maps-kept);
-              carousels-are = h .carousels-are;
-              carousels-all = h .carousels-all;
-              room-is = h .room-is;
-              room-all = h .room-all;
+              packages-kept = subst (λ (n : ℕ). KeptPackages (k .packages) n p′) (sym (ap (λ z. z .«package_count») (x .0))) (x .1);
+              maps-kept = subst (λ (n : ℕ). KeptMaps (k .map-heads) n m) (sym (ap (λ z. z .«map_count») (x .0))) (h .maps-kept);
+              data-set-is = h .data-set-is;
+              data-set-all = h .data-set-all;
+              map-room-is = h .map-room-is;
+              map-room-all = h .map-room-all;
             };
         lost-is = omega (arith, ap (λ z. z .lost) (x .0));
         changed-is = ap (λ z. z .changed) (x .0) ∙ or-false (e .changed);
-        fragments-same = ap (λ z. z .fragments) (x .0);
+        fragments-same = ap (λ z. z .«fragment_count») (x .0);
       }
   plt-after (some (ys, more)) x =
       record {
@@ -70,70 +70,70 @@ module _ (k : Known) (e r : Extent) (c p m o : List ℕ) (h : Keeps k e c p m o)
             record {
               seen = ap (λ z. z .seen) (x .1);
               packages-kept = x .0;
-              maps-kept = subst (λ (n : ℕ). KeptMaps (k .maps) n m) (sym (ap (λ z. z .maps) (x .1))) (h .maps-kept);
-              carousels-are = h .carousels-are;
-              carousels-all = h .carousels-all;
-              room-is = h .room-is;
-              room-all = h .room-all;
+              maps-kept = subst (λ (n : ℕ). KeptMaps (k .map-heads) n m) (sym (ap (λ z. z .«map_count») (x .1))) (h .maps-kept);
+              data-set-is = h .data-set-is;
+              data-set-all = h .data-set-all;
+              map-room-is = h .map-room-is;
+              map-room-all = h .map-room-all;
             };
         lost-is = omega (arith, ap (λ z. z .lost) (x .1));
         changed-is = ap (λ z. z .changed) (x .1) ∙ ap (λ (s : Bool). e .changed || packagesNew (some (ys, more)) s (k .packages)) (h .seen);
-        fragments-same = ap (λ z. z .fragments) (x .1);
+        fragments-same = ap (λ z. z .«fragment_count») (x .1);
       }
 
 -- ---- an MPT
 
-lost-not-new : (q : ℕ) (as′ : Listed) (ms : List (ℕ × ℕ)) (room : List ℕ) → ltb (placeFor q ms) 64 ≡ false → listNew q as′ ms room ≡ false
+lost-not-new : (q : ℕ) (as′ : Listed) (ms : List (ℕ × ℕ)) (map-room : List ℕ) → ltb (placeFor q ms) 64 ≡ false → listNew q as′ ms map-room ≡ false
 unfolding listNew
-lost-not-new q as′ ms room f = rw f
+lost-not-new q as′ ms map-room f = rw f
 
 module _ (q : ℕ) (k : Known) (e r : Extent) (c p m o : List ℕ) (h : Keeps k e c p m o) (m′ o′ : List ℕ) (same : length o′ ≡ length o) where
   -- the lists as they were, and so many more lost
   none-after : (n l : ℕ) (new : Bool) → l ≡ e .lost + n → new ≡ false
-      → KeptMaps (k .maps) (e .maps) m′ × (o′ ≡ o)
-      × (r ≡ record { seen = e .seen; packages = e .packages; maps = e .maps; fragments = e .fragments; lost = l; changed = e .changed })
+      → KeptMaps (k .map-heads) (e .«map_count») m′ × (o′ ≡ o)
+      × (r ≡ record { seen = e .seen; «package_count» = e .«package_count»; «map_count» = e .«map_count»; «fragment_count» = e .«fragment_count»; lost = l; changed = e .changed })
       → After (record { known = k; lost = n }) new e r c p m′ o′
   none-after n l new s f x =
       record {
         keeps =
             record {
               seen = ap (λ z. z .seen) (x .2) ∙ h .seen;
-              packages-kept = subst (λ (n : ℕ). KeptPackages (k .packages) n p) (sym (ap (λ z. z .packages) (x .2))) (h .packages-kept);
-              maps-kept = subst (λ (n : ℕ). KeptMaps (k .maps) n m′) (sym (ap (λ z. z .maps) (x .2))) (x .0);
-              carousels-are = h .carousels-are;
-              carousels-all = h .carousels-all;
-              room-is = x .1 ∙ h .room-is;
-              room-all = ap length (x .1) ∙ h .room-all;
+              packages-kept = subst (λ (n : ℕ). KeptPackages (k .packages) n p) (sym (ap (λ z. z .«package_count») (x .2))) (h .packages-kept);
+              maps-kept = subst (λ (n : ℕ). KeptMaps (k .map-heads) n m′) (sym (ap (λ z. z .«map_count») (x .2))) (x .0);
+              data-set-is = h .data-set-is;
+              data-set-all = h .data-set-all;
+              map-room-is = x .1 ∙ h .map-room-is;
+              map-room-all = ap length (x .1) ∙ h .map-room-all;
             };
         lost-is = ap (λ z. z .lost) (x .2) ∙ s;
         changed-is = ap (λ z. z .changed) (x .2) ∙ or-false (e .changed) ∙ ap (λ (z : Bool). e .changed || z) (sym f);
-        fragments-same = ap (λ z. z .fragments) (x .2);
+        fragments-same = ap (λ z. z .«fragment_count») (x .2);
       }
 
-  list-after : (as′ : Listed) (there : Bool) → ltb (placeFor q (k .maps)) 64 ≡ there → ListLearnt there q as′ (k .maps) e o r m′ o′
-      → After (cond there (learnt (withList q as′ k (placeFor q (k .maps)))) (record { known = k; lost = 1 })) (listNew q as′ (k .maps) (k .room)) e r c p m′ o′
+  list-after : (as′ : Listed) (there : Bool) → ltb (placeFor q (k .map-heads)) 64 ≡ there → ListLearnt there q as′ (k .map-heads) e o r m′ o′
+      → After (cond there (learnt (withList q as′ k (placeFor q (k .map-heads)))) (record { known = k; lost = 1 })) (listNew q as′ (k .map-heads) (k .map-room)) e r c p m′ o′
   unfolding withList
   list-after as′ true t x =
       record {
         keeps =
             record {
               seen = ap (λ z. z .seen) (x .2) ∙ h .seen;
-              packages-kept = subst (λ (n : ℕ). KeptPackages (k .packages) n p) (sym (ap (λ z. z .packages) (x .2))) (h .packages-kept);
+              packages-kept = subst (λ (n : ℕ). KeptPackages (k .packages) n p) (sym (ap (λ z. z .«package_count») (x .2))) (h .packages-kept);
               maps-kept = x .0;
-              carousels-are = h .carousels-are;
-              carousels-all = h .carousels-all;
-              room-is = x .1 ∙ ap (λ (z : List ℕ). over z (512 * placeFor q (k .maps)) (assetNumbers as′)) (h .room-is);
-              room-all = same ∙ h .room-all;
+              data-set-is = h .data-set-is;
+              data-set-all = h .data-set-all;
+              map-room-is = x .1 ∙ ap (λ (z : List ℕ). over z (512 * placeFor q (k .map-heads)) (assetNumbers as′)) (h .map-room-is);
+              map-room-all = same ∙ h .map-room-all;
             };
         lost-is = omega (arith, ap (λ z. z .lost) (x .2));
-        changed-is = ap (λ z. z .changed) (x .2) ∙ ap (λ (z : List ℕ). e .changed || listNew q as′ (k .maps) z) (h .room-is);
-        fragments-same = ap (λ z. z .fragments) (x .2);
+        changed-is = ap (λ z. z .changed) (x .2) ∙ ap (λ (z : List ℕ). e .changed || listNew q as′ (k .map-heads) z) (h .map-room-is);
+        fragments-same = ap (λ z. z .«fragment_count») (x .2);
       }
-  list-after as′ false t x = none-after 1 (e .lost + 1) _ refl (lost-not-new q as′ (k .maps) (k .room) t) x
+  list-after as′ false t x = none-after 1 (e .lost + 1) _ refl (lost-not-new q as′ (k .map-heads) (k .map-room) t) x
 
-  mpt-after : (x : Out Mpt) → MptLearnt q x (k .maps) e o r m′ o′ → After (mptFrom q x k) (mptNew q x (k .maps) (k .room)) e r c p m′ o′
+  mpt-after : (x : Out Mpt) → MptLearnt q x (k .map-heads) e o r m′ o′ → After (mptFrom q x k) (mptNew q x (k .map-heads) (k .map-room)) e r c p m′ o′
   mpt-after none x = none-after 0 (e .lost) false (omega arith) refl x
-  mpt-after (some (y, more)) x = list-after (listed (y .entries)) (ltb (placeFor q (k .maps)) 64) refl x
+  mpt-after (some (y, more)) x = list-after (listed (y .entries)) (ltb (placeFor q (k .map-heads)) 64) refl x
 
 -- ---- a table, by its number
 
@@ -146,7 +146,7 @@ module _ (q : ℕ) (t : Table) (k : Known) (e r : Extent) (c p m o : List ℕ) (
   unfolding learnTable newsTable isPlt learnPlt
   table-plt n z p′ x = rw (n, z) (plt-after k e r c p m o h p′ (plt (t .body)) x)
 
-  pub table-mpt : isMpt (t .number) ≡ true → (m′ o′ : List ℕ) → length o′ ≡ length o → MptLearnt q (mpt (t .body)) (k .maps) e o r m′ o′ → After (learnTable q t k) (newsTable q t k) e r c p m′ o′
+  pub table-mpt : isMpt (t .number) ≡ true → (m′ o′ : List ℕ) → length o′ ≡ length o → MptLearnt q (mpt (t .body)) (k .map-heads) e o r m′ o′ → After (learnTable q t k) (newsTable q t k) e r c p m′ o′
   unfolding learnTable newsTable isPlt learnMpt
   table-mpt n m′ o′ l x = rw (not-plt (t .number) n, n) (mpt-after q k e r c p m o h m′ o′ l (mpt (t .body)) x)
 
@@ -156,7 +156,7 @@ module _ (q : ℕ) (t : Table) (k : Known) (e r : Extent) (c p m o : List ℕ) (
     where
       go : (a : Bool) → eqb (t .number) 0x80 ≡ a → (b : Bool) → eqb q 0 ≡ b
           → After (cond (a && b) (learnt (learnPlt (t .body) k)) (cond (isMpt (t .number)) (learnMpt q (t .body) k) (learnt k)))
-          (cond (a && b) (packagesNew (plt (t .body)) (k .plt-seen) (k .packages)) (cond (isMpt (t .number)) (mptNew q (mpt (t .body)) (k .maps) (k .room)) false)) e e c p m o
+          (cond (a && b) (packagesNew (plt (t .body)) (k .plt-seen) (k .packages)) (cond (isMpt (t .number)) (mptNew q (mpt (t .body)) (k .map-heads) (k .map-room)) false)) e e c p m o
       go true ea true eb = absurd (z (eqb-true _ _ ea) (eqb-true _ _ eb))
       go true ea false eb = rw n (after-none k e c p m o h)
       go false ea b eb = rw n (after-none k e c p m o h)

@@ -32,9 +32,9 @@ table-lost q t k = go (isPlt (t .number) && eqb q 0) (isMpt (t .number))
   where
     mpt-lost : (x : Out Mpt) → mptFrom q x k .lost ≤ 1
     mpt-lost none = omega arith
-    mpt-lost (some (m, more)) = on (ltb (placeFor q (k .maps)) 64)
+    mpt-lost (some (m, more)) = on (ltb (placeFor q (k .map-heads)) 64)
       where
-        on : (a : Bool) → cond a (learnt (withList q (listed (m .entries)) k (placeFor q (k .maps)))) (record { known = k; lost = 1 }) .lost ≤ 1
+        on : (a : Bool) → cond a (learnt (withList q (listed (m .entries)) k (placeFor q (k .map-heads)))) (record { known = k; lost = 1 }) .lost ≤ 1
         on true = omega arith
         on false = omega arith
 

@@ -10,18 +10,19 @@ use Rattle.meaning.specs.Sets.{inSet}
 use Rattle.meaning.specs.Readers.{Out}
 use Rattle.meaning.specs.Messages.{Message, messages, indicator}
 use Rattle.meaning.specs.Tables.{Mpt, mpt, plt, Table, isMpt, isPlt, pa}
-use Rattle.meaning.specs.Learn.{Limits, Known, listed, packagesIn, learnTable, paTables, learnMessage, fragmentOf, fits, Fragment, joined, withFragments, without}
+use Rattle.meaning.specs.Learn.{Known, listed, packagesIn, learnTable, paTables, learnMessage, fragmentOf, fits, Fragment, joined, withFragments, without}
+use Rattle.meaning.specs.declared.Limits.{Limits}
 use Rattle.learning.specs.News.{samePairs, packagesNew, listNew}
 
 abbrev pub mptNew : ℕ → Out Mpt → List (ℕ × ℕ) → List ℕ → Bool
-mptNew p none ms room = false
-mptNew p (some (m, more)) ms room = listNew p (listed (m .entries)) ms room
+mptNew p none ms map-room = false
+mptNew p (some (m, more)) ms map-room = listNew p (listed (m .entries)) ms map-room
 
 unfoldable pub newsTable : ℕ → Table → Known → Bool
 unfolding isPlt isMpt plt mpt packagesIn samePairs listed listNew
 newsTable p t k =
     cond (isPlt (t .number) && eqb p 0) (packagesNew (plt (t .body)) (k .plt-seen) (k .packages))
-    (cond (isMpt (t .number)) (mptNew p (mpt (t .body)) (k .maps) (k .room)) false)
+    (cond (isMpt (t .number)) (mptNew p (mpt (t .body)) (k .map-heads) (k .map-room)) false)
 
 unfoldable pub newsTables : ℕ → List (Table × Bytes) → Known → Bool
 unfolding newsTable learnTable
@@ -32,7 +33,7 @@ unfoldable pub newsMessage : ℕ → Message → Known → Bool
 unfolding newsTables pa inSet
 newsMessage p m k =
     cond (eqb (m .number) 0) (newsTables p (paTables (pa (m .body))) k)
-    (cond (eqb (m .number) 0x8003) (not (inSet (k .carousels) p)) false)
+    (cond (eqb (m .number) 0x8003) (not (inSet (k .data-set) p)) false)
 
 unfoldable pub newsMessages : ℕ → List Message → Known → Bool
 unfolding newsMessage learnMessage
@@ -55,4 +56,4 @@ newsBy (suc (suc (suc n))) L p flags s k = newsLast (fragmentOf p (k .fragments)
 unfoldable pub news : Limits → ℕ → Bytes → Known → Bool
 unfolding inSet indicator newsMessages messages joined without fragmentOf fits
 news L p [] k = false
-news L p (flags ∷ s) k = cond (inSet (k .carousels) p) false (newsBy (indicator flags) L p flags s k)
+news L p (flags ∷ s) k = cond (inSet (k .data-set) p) false (newsBy (indicator flags) L p flags s k)

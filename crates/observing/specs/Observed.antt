@@ -5,35 +5,36 @@ use mathlib.Core.Bool.{Bool, _||_}
 use mathlib.Core.List.{List, _∷_}
 use Rattle.meaning.specs.Bytes.{Bytes}
 use Rattle.meaning.specs.Messages.{messages, indicator}
-use Rattle.meaning.specs.Learn.{Limits, Known, Learnt, learnMessages, withFragments, without, fragmentOf, last, byIndicator}
+use Rattle.meaning.specs.Learn.{Known, Learnt, learnMessages, withFragments, without, fragmentOf, last, byIndicator}
+use Rattle.meaning.specs.declared.Limits.{Limits}
 use Rattle.fragments.specs.Fragments.{KeptFragments}
 use Rattle.learning.specs.Kept.{Keeps}
 use Rattle.learning.specs.declared.Extent.{Extent}
 use Rattle.observing.specs.News.{newsMessages, newsLast, newsBy}
 
 -- All that is known, in arrays and both rooms.
-pub record Holding (T : ℕ) (k : Known) (e : Extent) (carousels packages maps room heads : List ℕ) (bodies : Bytes) : Type 0 where
-  pub tables-kept : Keeps k e carousels packages maps room
-  pub fragments-kept : KeptFragments T (k .fragments) (e .fragments) heads bodies
+pub record Holding (T : ℕ) (k : Known) (e : Extent) (data-set packages map-heads map-room fragment-heads : List ℕ) (bodies : Bytes) : Type 0 where
+  pub tables-kept : Keeps k e data-set packages map-heads map-room
+  pub fragments-kept : KeptFragments T (k .fragments) (e .«fragment_count») fragment-heads bodies
 
 abbrev pub HoldingSome : Extent → List ℕ → List ℕ → List ℕ → List ℕ → List ℕ → Bytes → Type 0
-HoldingSome e carousels packages maps room heads bodies = (T : ℕ) × (k : Known) × Holding T k e carousels packages maps room heads bodies
+HoldingSome e data-set packages map-heads map-room fragment-heads bodies = (T : ℕ) × (k : Known) × Holding T k e data-set packages map-heads map-room fragment-heads bodies
 
 -- After a payload.
-pub record Observed (T : ℕ) (l : Learnt) (new : Bool) (e r : Extent) (carousels packages maps room heads : List ℕ) (bodies : Bytes) : Type 0 where
-  pub holding : Holding T (l .known) r carousels packages maps room heads bodies
+pub record Observed (T : ℕ) (l : Learnt) (new : Bool) (e r : Extent) (data-set packages map-heads map-room fragment-heads : List ℕ) (bodies : Bytes) : Type 0 where
+  pub holding : Holding T (l .known) r data-set packages map-heads map-room fragment-heads bodies
   pub lost-is : r .lost ≡ e .lost + l .lost
   pub changed-is : r .changed ≡ (e .changed || new)
 
 -- A step by limits, of which the code has the lengths of the rooms and `most`.
 abbrev pub Observes : (Limits → Known → Learnt) → (Limits → Known → Bool) → ℕ → Extent → List ℕ → List ℕ → List ℕ → List ℕ → List ℕ → Bytes
     → Extent → List ℕ → List ℕ → List ℕ → List ℕ → List ℕ → Bytes → Type 0
-Observes step new most e carousels packages maps room heads bodies r carousels′ packages′ maps′ room′ heads′ bodies′ =
-    (L : Limits) (k : Known) → L .most ≡ most → Holding (L .total) k e carousels packages maps room heads bodies
-    → Observed (L .total) (step L k) (new L k) e r carousels′ packages′ maps′ room′ heads′ bodies′
+Observes step new most e data-set packages map-heads map-room fragment-heads bodies r data-set′ packages′ map-heads′ map-room′ fragment-heads′ bodies′ =
+    (L : Limits) (k : Known) → L .most ≡ most → Holding (L .total) k e data-set packages map-heads map-room fragment-heads bodies
+    → Observed (L .total) (step L k) (new L k) e r data-set′ packages′ map-heads′ map-room′ fragment-heads′ bodies′
 
 abbrev pub withCount : Extent → ℕ → Extent
-withCount e n = record { seen = e .seen; packages = e .packages; maps = e .maps; fragments = n; lost = e .lost; changed = e .changed }
+withCount e n = record { seen = e .seen; «package_count» = e .«package_count»; «map_count» = e .«map_count»; «fragment_count» = n; lost = e .lost; changed = e .changed }
 
 -- A whole payload, by its first byte and its bytes from 2 on.
 abbrev pub wholeStep : ℕ → ℕ → Bytes → Limits → Known → Learnt

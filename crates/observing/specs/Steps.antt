@@ -16,30 +16,30 @@ use Rattle.learning.specs.declared.Extent.{Extent}
 abbrev pub DataLearnt : ℕ → Extent → Words → Extent → Words → Type 0
 DataLearnt p e ws r ws′ =
     (ws′ ≡ withId ws p)
-    × (r ≡ record { seen = e .seen; packages = e .packages; maps = e .maps; fragments = e .fragments; lost = e .lost; changed = e .changed || not (inSet ws p) })
+    × (r ≡ record { seen = e .seen; «package_count» = e .«package_count»; «map_count» = e .«map_count»; «fragment_count» = e .«fragment_count»; lost = e .lost; changed = e .changed || not (inSet ws p) })
 
 -- ---- tables and messages
 
 -- The arrays hold some state.
 abbrev pub KeepsSome : Extent → List ℕ → List ℕ → List ℕ → List ℕ → Type 0
-KeepsSome e carousels packages maps room = (k : Known) × Keeps k e carousels packages maps room
+KeepsSome e data-set packages map-heads map-room = (k : Known) × Keeps k e data-set packages map-heads map-room
 
 -- After a step: the state that is held, how many maps were lost, whether anything changed.
-pub record After (l : Learnt) (new : Bool) (e r : Extent) (carousels packages maps room : List ℕ) : Type 0 where
-  pub keeps : Keeps (l .known) r carousels packages maps room
+pub record After (l : Learnt) (new : Bool) (e r : Extent) (data-set packages map-heads map-room : List ℕ) : Type 0 where
+  pub keeps : Keeps (l .known) r data-set packages map-heads map-room
   pub lost-is : r .lost ≡ e .lost + l .lost
   pub changed-is : r .changed ≡ (e .changed || new)
-  pub fragments-same : r .fragments ≡ e .fragments
+  pub fragments-same : r .«fragment_count» ≡ e .«fragment_count»
 
 -- A step of learning, whatever state the arrays hold.
 abbrev pub Learns : (Known → Learnt) → (Known → Bool) → Extent → List ℕ → List ℕ → List ℕ → List ℕ → Extent → List ℕ → List ℕ → List ℕ → List ℕ → Type 0
-Learns step new e carousels packages maps room r carousels′ packages′ maps′ room′ =
-    (k : Known) → Keeps k e carousels packages maps room → After (step k) (new k) e r carousels′ packages′ maps′ room′
+Learns step new e data-set packages map-heads map-room r data-set′ packages′ map-heads′ map-room′ =
+    (k : Known) → Keeps k e data-set packages map-heads map-room → After (step k) (new k) e r data-set′ packages′ map-heads′ map-room′
 
 -- A step that leaves the data-carousel identifiers as they are.
 abbrev pub LearnsTables : (Known → Learnt) → (Known → Bool) → Extent → List ℕ → List ℕ → List ℕ → Extent → List ℕ → List ℕ → List ℕ → Type 0
-LearnsTables step new e packages maps room r packages′ maps′ room′ =
-    (carousels : List ℕ) → Learns step new e carousels packages maps room r carousels packages′ maps′ room′
+LearnsTables step new e packages map-heads map-room r packages′ map-heads′ map-room′ =
+    (data-set : List ℕ) → Learns step new e data-set packages map-heads map-room r data-set packages′ map-heads′ map-room′
 
 -- The table whose bytes these are.
 abbrev pub tableIn : Bytes → Table

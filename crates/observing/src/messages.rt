@@ -30,16 +30,16 @@ fn learn_table(
     id: u16,
     e: Extent,
     packages: &mut [u32; 255],
-    maps: &mut [u32; 64],
-    room: &mut [u16],
+    map_heads: &mut [u32; 64],
+    map_room: &mut [u16],
 ) -> Extent
-    requires { ⌜ (4 ≤ length (now t)) × (e .lost < 18446744073709551615) × ((c : List ℕ) × KeepsSome e c (now packages) (now maps) (now room)) ⌝ }
-    ensures { λ r. ⌜ LearnsTables (learnTable id (tableIn (now (t .entry)))) (newsTable id (tableIn (now (t .entry)))) e (now (packages .entry)) (now (maps .entry)) (now (room .entry)) r (now (packages .exit)) (now (maps .exit)) (now (room .exit)) ⌝ }
+    requires { ⌜ (4 ≤ length (now t)) × (e .lost < 18446744073709551615) × ((c : List ℕ) × KeepsSome e c (now packages) (now «map_heads») (now «map_room»)) ⌝ }
+    ensures { λ r. ⌜ LearnsTables (learnTable id (tableIn (now (t .entry)))) (newsTable id (tableIn (now (t .entry)))) e (now (packages .entry)) (now («map_heads» .entry)) (now («map_room» .entry)) r (now (packages .exit)) (now («map_heads» .exit)) (now («map_room» .exit)) ⌝ }
 {
     let number = t[0];
     let b = &t[4..];
     if is_mpt(number) {
-        return mpt(b, id, e, maps, room);
+        return mpt(b, id, e, map_heads, map_room);
     }
     if number != 0x80 {
         return e;
@@ -56,11 +56,11 @@ fn learn_pa(
     id: u16,
     known: Extent,
     packages: &mut [u32; 255],
-    maps: &mut [u32; 64],
-    room: &mut [u16],
+    map_heads: &mut [u32; 64],
+    map_room: &mut [u16],
 ) -> Extent
-    requires { ⌜ (known .lost + length (now s) ≤ 18446744073709551615) × ((c : List ℕ) × KeepsSome known c (now packages) (now maps) (now room)) ⌝ }
-    ensures { λ r. ⌜ (LearnsTables (learnTables id (paTables (pa (now (s .entry))))) (newsTables id (paTables (pa (now (s .entry))))) known (now (packages .entry)) (now (maps .entry)) (now (room .entry)) r (now (packages .exit)) (now (maps .exit)) (now (room .exit))) × (r .lost ≤ known .lost + length (now (s .entry))) ⌝ }
+    requires { ⌜ (known .lost + length (now s) ≤ 18446744073709551615) × ((c : List ℕ) × KeepsSome known c (now packages) (now «map_heads») (now «map_room»)) ⌝ }
+    ensures { λ r. ⌜ (LearnsTables (learnTables id (paTables (pa (now (s .entry))))) (newsTables id (paTables (pa (now (s .entry))))) known (now (packages .entry)) (now («map_heads» .entry)) (now («map_room» .entry)) r (now (packages .exit)) (now («map_heads» .exit)) (now («map_room» .exit))) × (r .lost ≤ known .lost + length (now (s .entry))) ⌝ }
 {
     let mut e = known;
     let End::At(tables) = pa_tables(s) else {
@@ -73,25 +73,25 @@ fn learn_pa(
             return e;
         };
         at = end;
-        e = learn_table(&s[from..end], id, e, packages, maps, room);
+        e = learn_table(&s[from..end], id, e, packages, map_heads, map_room);
     }
 }
 
 // Makes `id` a data-carousel identifier.
-fn learn_data(id: u16, e: Extent, carousels: &mut [u64; 1024]) -> Extent
-    requires { ⌜ length (now carousels) ≡ 1024 ⌝ }
-    ensures { λ r. ⌜ DataLearnt id e (now (carousels .entry)) r (now (carousels .exit)) ⌝ }
+fn learn_data(id: u16, e: Extent, data_set: &mut [u64; 1024]) -> Extent
+    requires { ⌜ length (now «data_set») ≡ 1024 ⌝ }
+    ensures { λ r. ⌜ DataLearnt id e (now («data_set» .entry)) r (now («data_set» .exit)) ⌝ }
 {
-    let known = has(carousels, id);
-    insert(carousels, id);
+    let known = has(data_set, id);
+    insert(data_set, id);
     if known {
         return e;
     }
     Extent {
         seen: e.seen,
-        packages: e.packages,
-        maps: e.maps,
-        fragments: e.fragments,
+        package_count: e.package_count,
+        map_count: e.map_count,
+        fragment_count: e.fragment_count,
         lost: e.lost,
         changed: true,
     }
@@ -102,22 +102,22 @@ fn learn_message(
     s: &[u8],
     id: u16,
     e: Extent,
-    carousels: &mut [u64; 1024],
+    data_set: &mut [u64; 1024],
     packages: &mut [u32; 255],
-    maps: &mut [u32; 64],
-    room: &mut [u16],
+    map_heads: &mut [u32; 64],
+    map_room: &mut [u16],
 ) -> Extent
-    requires { ⌜ (e .lost + length (now s) ≤ 18446744073709551615) × KeepsSome e (now carousels) (now packages) (now maps) (now room) ⌝ }
-    ensures { λ r. ⌜ (Learns (learnMessages id (consMessage (message (now (s .entry))) [])) (newsMessages id (consMessage (message (now (s .entry))) [])) e (now (carousels .entry)) (now (packages .entry)) (now (maps .entry)) (now (room .entry)) r (now (carousels .exit)) (now (packages .exit)) (now (maps .exit)) (now (room .exit))) × (r .lost ≤ e .lost + length (now (s .entry))) ⌝ }
+    requires { ⌜ (e .lost + length (now s) ≤ 18446744073709551615) × KeepsSome e (now «data_set») (now packages) (now «map_heads») (now «map_room») ⌝ }
+    ensures { λ r. ⌜ (Learns (learnMessages id (consMessage (message (now (s .entry))) [])) (newsMessages id (consMessage (message (now (s .entry))) [])) e (now («data_set» .entry)) (now (packages .entry)) (now («map_heads» .entry)) (now («map_room» .entry)) r (now («data_set» .exit)) (now (packages .exit)) (now («map_heads» .exit)) (now («map_room» .exit))) × (r .lost ≤ e .lost + length (now (s .entry))) ⌝ }
 {
     let Found::Message { number, start, end } = message(s) else {
         return e;
     };
     if number == 0 {
-        return learn_pa(&s[start..end], id, e, packages, maps, room);
+        return learn_pa(&s[start..end], id, e, packages, map_heads, map_room);
     }
     if number == 0x8003 {
-        return learn_data(id, e, carousels);
+        return learn_data(id, e, data_set);
     }
     e
 }
@@ -128,13 +128,13 @@ fn learn_aggregate(
     long: bool,
     id: u16,
     known: Extent,
-    carousels: &mut [u64; 1024],
+    data_set: &mut [u64; 1024],
     packages: &mut [u32; 255],
-    maps: &mut [u32; 64],
-    room: &mut [u16],
+    map_heads: &mut [u32; 64],
+    map_room: &mut [u16],
 ) -> Extent
-    requires { ⌜ (known .lost + length (now s) ≤ 18446744073709551615) × KeepsSome known (now carousels) (now packages) (now maps) (now room) ⌝ }
-    ensures { λ r. ⌜ (Learns (learnMessages id (readEach (walk (messageBody long) (now (s .entry)) .found))) (newsMessages id (readEach (walk (messageBody long) (now (s .entry)) .found))) known (now (carousels .entry)) (now (packages .entry)) (now (maps .entry)) (now (room .entry)) r (now (carousels .exit)) (now (packages .exit)) (now (maps .exit)) (now (room .exit))) × (r .lost ≤ known .lost + length (now (s .entry))) ⌝ }
+    requires { ⌜ (known .lost + length (now s) ≤ 18446744073709551615) × KeepsSome known (now «data_set») (now packages) (now «map_heads») (now «map_room») ⌝ }
+    ensures { λ r. ⌜ (Learns (learnMessages id (readEach (walk (messageBody long) (now (s .entry)) .found))) (newsMessages id (readEach (walk (messageBody long) (now (s .entry)) .found))) known (now («data_set» .entry)) (now (packages .entry)) (now («map_heads» .entry)) (now («map_room» .entry)) r (now («data_set» .exit)) (now (packages .exit)) (now («map_heads» .exit)) (now («map_room» .exit))) × (r .lost ≤ known .lost + length (now (s .entry))) ⌝ }
 {
     let mut e = known;
     let mut at: usize = 0;
@@ -143,7 +143,15 @@ fn learn_aggregate(
             return e;
         };
         at = end;
-        e = learn_message(&s[start..end], id, e, carousels, packages, maps, room);
+        e = learn_message(
+            &s[start..end],
+            id,
+            e,
+            data_set,
+            packages,
+            map_heads,
+            map_room,
+        );
     }
 }
 
@@ -161,28 +169,28 @@ pub fn learn(
     s: &[u8],
     id: u16,
     e: Extent,
-    carousels: &mut [u64; 1024],
+    data_set: &mut [u64; 1024],
     packages: &mut [u32; 255],
-    maps: &mut [u32; 64],
-    room: &mut [u16],
+    map_heads: &mut [u32; 64],
+    map_room: &mut [u16],
 ) -> Extent
-    requires { ⌜ (e .lost + length (now s) ≤ 18446744073709551615) × KeepsSome e (now carousels) (now packages) (now maps) (now room) ⌝ }
-    ensures { λ r. ⌜ (Learns (learnMessages id (messages (flags ∷ 0 ∷ now (s .entry)))) (newsMessages id (messages (flags ∷ 0 ∷ now (s .entry)))) e (now (carousels .entry)) (now (packages .entry)) (now (maps .entry)) (now (room .entry)) r (now (carousels .exit)) (now (packages .exit)) (now (maps .exit)) (now (room .exit))) × (r .lost ≤ e .lost + length (now (s .entry))) ⌝ }
+    requires { ⌜ (e .lost + length (now s) ≤ 18446744073709551615) × KeepsSome e (now «data_set») (now packages) (now «map_heads») (now «map_room») ⌝ }
+    ensures { λ r. ⌜ (Learns (learnMessages id (messages (flags ∷ 0 ∷ now (s .entry)))) (newsMessages id (messages (flags ∷ 0 ∷ now (s .entry)))) e (now («data_set» .entry)) (now (packages .entry)) (now («map_heads» .entry)) (now («map_room» .entry)) r (now («data_set» .exit)) (now (packages .exit)) (now («map_heads» .exit)) (now («map_room» .exit))) × (r .lost ≤ e .lost + length (now (s .entry))) ⌝ }
 {
     if flags >> 6 != 0 {
         return e;
     }
     if flags & 1 == 0 {
-        return learn_message(s, id, e, carousels, packages, maps, room);
+        return learn_message(s, id, e, data_set, packages, map_heads, map_room);
     }
     learn_aggregate(
         s,
         long_lengths(flags),
         id,
         e,
-        carousels,
+        data_set,
         packages,
-        maps,
-        room,
+        map_heads,
+        map_room,
     )
 }

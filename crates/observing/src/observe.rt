@@ -30,9 +30,9 @@ fn with_count(e: Extent, n: usize) -> Extent
 {
     Extent {
         seen: e.seen,
-        packages: e.packages,
-        maps: e.maps,
-        fragments: n,
+        package_count: e.package_count,
+        map_count: e.map_count,
+        fragment_count: n,
         lost: e.lost,
         changed: e.changed,
     }
@@ -40,7 +40,7 @@ fn with_count(e: Extent, n: usize) -> Extent
 
 // What comes with a payload's bytes from 2 on: its first byte, its identifier, and the most bytes of one message.
 pub struct Piece {
-    pub head: u8,
+    pub flags: u8,
     pub id: u16,
     pub most: usize,
 }
@@ -50,19 +50,28 @@ fn whole(
     body: &[u8],
     p: Piece,
     e: Extent,
-    carousels: &mut [u64; 1024],
+    data_set: &mut [u64; 1024],
     packages: &mut [u32; 255],
-    maps: &mut [u32; 64],
-    room: &mut [u16],
-    heads: &mut [u64; 256],
+    map_heads: &mut [u32; 64],
+    map_room: &mut [u16],
+    fragment_heads: &mut [u64; 256],
     bodies: &mut [u8],
 ) -> Extent
-    requires { ⌜ (e .lost + length (now body) + length (now bodies) ≤ 18446744073709551615) × HoldingSome e (now carousels) (now packages) (now maps) (now room) (now heads) (now bodies) ⌝ }
-    ensures { λ r. ⌜ Observes (wholeStep (p .id) (p .head) (now (body .entry))) (wholeNew (p .id) (p .head) (now (body .entry))) (p .most) e (now (carousels .entry)) (now (packages .entry)) (now (maps .entry)) (now (room .entry)) (now (heads .entry)) (now (bodies .entry)) r (now (carousels .exit)) (now (packages .exit)) (now (maps .exit)) (now (room .exit)) (now (heads .exit)) (now (bodies .exit)) × (r .lost ≤ e .lost + length (now (body .entry))) ⌝ }
+    requires { ⌜ (e .lost + length (now body) + length (now bodies) ≤ 18446744073709551615) × HoldingSome e (now «data_set») (now packages) (now «map_heads») (now «map_room») (now «fragment_heads») (now bodies) ⌝ }
+    ensures { λ r. ⌜ Observes (wholeStep (p .id) (p .flags) (now (body .entry))) (wholeNew (p .id) (p .flags) (now (body .entry))) (p .most) e (now («data_set» .entry)) (now (packages .entry)) (now («map_heads» .entry)) (now («map_room» .entry)) (now («fragment_heads» .entry)) (now (bodies .entry)) r (now («data_set» .exit)) (now (packages .exit)) (now («map_heads» .exit)) (now («map_room» .exit)) (now («fragment_heads» .exit)) (now (bodies .exit)) × (r .lost ≤ e .lost + length (now (body .entry))) ⌝ }
 {
-    let n = drop_fragment(p.id, e.fragments, heads, bodies);
+    let n = drop_fragment(p.id, e.fragment_count, fragment_heads, bodies);
     let known = with_count(e, n);
-    learn(p.head, body, p.id, known, carousels, packages, maps, room)
+    learn(
+        p.flags,
+        body,
+        p.id,
+        known,
+        data_set,
+        packages,
+        map_heads,
+        map_room,
+    )
 }
 
 // A last fragment: joined, its message is learned, and its room is given back.
@@ -71,29 +80,29 @@ fn last(
     e: Extent,
     id: u16,
     most: usize,
-    carousels: &mut [u64; 1024],
+    data_set: &mut [u64; 1024],
     packages: &mut [u32; 255],
-    maps: &mut [u32; 64],
-    room: &mut [u16],
-    heads: &mut [u64; 256],
+    map_heads: &mut [u32; 64],
+    map_room: &mut [u16],
+    fragment_heads: &mut [u64; 256],
     bodies: &mut [u8],
 ) -> Extent
-    requires { ⌜ (e .lost + length (now body) + length (now bodies) ≤ 18446744073709551615) × HoldingSome e (now carousels) (now packages) (now maps) (now room) (now heads) (now bodies) ⌝ }
-    ensures { λ r. ⌜ Observes (lastStep id (now (body .entry))) (lastNew id (now (body .entry))) most e (now (carousels .entry)) (now (packages .entry)) (now (maps .entry)) (now (room .entry)) (now (heads .entry)) (now (bodies .entry)) r (now (carousels .exit)) (now (packages .exit)) (now (maps .exit)) (now (room .exit)) (now (heads .exit)) (now (bodies .exit)) × (r .lost ≤ e .lost + length (now (bodies .entry))) ⌝ }
+    requires { ⌜ (e .lost + length (now body) + length (now bodies) ≤ 18446744073709551615) × HoldingSome e (now «data_set») (now packages) (now «map_heads») (now «map_room») (now «fragment_heads») (now bodies) ⌝ }
+    ensures { λ r. ⌜ Observes (lastStep id (now (body .entry))) (lastNew id (now (body .entry))) most e (now («data_set» .entry)) (now (packages .entry)) (now («map_heads» .entry)) (now («map_room» .entry)) (now («fragment_heads» .entry)) (now (bodies .entry)) r (now («data_set» .exit)) (now (packages .exit)) (now («map_heads» .exit)) (now («map_room» .exit)) (now («fragment_heads» .exit)) (now (bodies .exit)) × (r .lost ≤ e .lost + length (now (bodies .entry))) ⌝ }
 {
-    match grow(id, body, most, e.fragments, heads, bodies) {
+    match grow(id, body, most, e.fragment_count, fragment_heads, bodies) {
         Grown::At { start, end, flags } => {
             let known = learn(
                 flags,
                 &bodies[start..end],
                 id,
                 e,
-                carousels,
+                data_set,
                 packages,
-                maps,
-                room,
+                map_heads,
+                map_room,
             );
-            let n = drop_fragment(id, e.fragments, heads, bodies);
+            let n = drop_fragment(id, e.fragment_count, fragment_heads, bodies);
             with_count(known, n)
         }
         Grown::Discarded(n) => with_count(e, n),
@@ -106,32 +115,43 @@ fn by_indicator(
     body: &[u8],
     e: Extent,
     p: Piece,
-    carousels: &mut [u64; 1024],
+    data_set: &mut [u64; 1024],
     packages: &mut [u32; 255],
-    maps: &mut [u32; 64],
-    room: &mut [u16],
-    heads: &mut [u64; 256],
+    map_heads: &mut [u32; 64],
+    map_room: &mut [u16],
+    fragment_heads: &mut [u64; 256],
     bodies: &mut [u8],
 ) -> Extent
-    requires { ⌜ (e .lost + length (now body) + length (now bodies) ≤ 18446744073709551615) × HoldingSome e (now carousels) (now packages) (now maps) (now room) (now heads) (now bodies) ⌝ }
-    ensures { λ r. ⌜ Observes (byStep (p .id) (p .head) (now (body .entry))) (byNew (p .id) (p .head) (now (body .entry))) (p .most) e (now (carousels .entry)) (now (packages .entry)) (now (maps .entry)) (now (room .entry)) (now (heads .entry)) (now (bodies .entry)) r (now (carousels .exit)) (now (packages .exit)) (now (maps .exit)) (now (room .exit)) (now (heads .exit)) (now (bodies .exit)) × (r .lost ≤ e .lost + length (now (body .entry)) + length (now (bodies .entry))) ⌝ }
+    requires { ⌜ (e .lost + length (now body) + length (now bodies) ≤ 18446744073709551615) × HoldingSome e (now «data_set») (now packages) (now «map_heads») (now «map_room») (now «fragment_heads») (now bodies) ⌝ }
+    ensures { λ r. ⌜ Observes (byStep (p .id) (p .flags) (now (body .entry))) (byNew (p .id) (p .flags) (now (body .entry))) (p .most) e (now («data_set» .entry)) (now (packages .entry)) (now («map_heads» .entry)) (now («map_room» .entry)) (now («fragment_heads» .entry)) (now (bodies .entry)) r (now («data_set» .exit)) (now (packages .exit)) (now («map_heads» .exit)) (now («map_room» .exit)) (now («fragment_heads» .exit)) (now (bodies .exit)) × (r .lost ≤ e .lost + length (now (body .entry)) + length (now (bodies .entry))) ⌝ }
 {
-    let head = p.head;
+    let flags = p.flags;
     let id = p.id;
-    match head >> 6 {
-        0 => whole(body, p, e, carousels, packages, maps, room, heads, bodies),
-        1 => with_count(e, hold_first(id, head, body, e.fragments, heads, bodies)),
-        2 => with_count(e, middle(id, body, p.most, e.fragments, heads, bodies)),
+    let n = e.fragment_count;
+    match flags >> 6 {
+        0 => whole(
+            body,
+            p,
+            e,
+            data_set,
+            packages,
+            map_heads,
+            map_room,
+            fragment_heads,
+            bodies,
+        ),
+        1 => with_count(e, hold_first(id, flags, body, n, fragment_heads, bodies)),
+        2 => with_count(e, middle(id, body, p.most, n, fragment_heads, bodies)),
         _ => last(
             body,
             e,
             id,
             p.most,
-            carousels,
+            data_set,
             packages,
-            maps,
-            room,
-            heads,
+            map_heads,
+            map_room,
+            fragment_heads,
             bodies,
         ),
     }
@@ -143,24 +163,34 @@ pub fn observe(
     id: u16,
     most: usize,
     e: Extent,
-    carousels: &mut [u64; 1024],
+    data_set: &mut [u64; 1024],
     packages: &mut [u32; 255],
-    maps: &mut [u32; 64],
-    room: &mut [u16],
-    heads: &mut [u64; 256],
+    map_heads: &mut [u32; 64],
+    map_room: &mut [u16],
+    fragment_heads: &mut [u64; 256],
     bodies: &mut [u8],
 ) -> Extent
-    requires { ⌜ (e .lost + length (now payload) + length (now bodies) ≤ 18446744073709551615) × HoldingSome e (now carousels) (now packages) (now maps) (now room) (now heads) (now bodies) ⌝ }
-    ensures { λ r. ⌜ Observes (λ L k. observe L id (now (payload .entry)) k) (λ L k. news L id (now (payload .entry)) k) most e (now (carousels .entry)) (now (packages .entry)) (now (maps .entry)) (now (room .entry)) (now (heads .entry)) (now (bodies .entry)) r (now (carousels .exit)) (now (packages .exit)) (now (maps .exit)) (now (room .exit)) (now (heads .exit)) (now (bodies .exit)) × (r .lost ≤ e .lost + length (now (payload .entry)) + length (now (bodies .entry))) ⌝ }
+    requires { ⌜ (e .lost + length (now payload) + length (now bodies) ≤ 18446744073709551615) × HoldingSome e (now «data_set») (now packages) (now «map_heads») (now «map_room») (now «fragment_heads») (now bodies) ⌝ }
+    ensures { λ r. ⌜ Observes (λ L k. observe L id (now (payload .entry)) k) (λ L k. news L id (now (payload .entry)) k) most e (now («data_set» .entry)) (now (packages .entry)) (now («map_heads» .entry)) (now («map_room» .entry)) (now («fragment_heads» .entry)) (now (bodies .entry)) r (now («data_set» .exit)) (now (packages .exit)) (now («map_heads» .exit)) (now («map_room» .exit)) (now («fragment_heads» .exit)) (now (bodies .exit)) × (r .lost ≤ e .lost + length (now (payload .entry)) + length (now (bodies .entry))) ⌝ }
 {
     if payload.len() == 0 {
         return e;
     }
-    if has(carousels, id) {
+    if has(data_set, id) {
         return e;
     }
-    let head = payload[0];
+    let flags = payload[0];
     let body = body_of(payload);
-    let p = Piece { head, id, most };
-    by_indicator(body, e, p, carousels, packages, maps, room, heads, bodies)
+    let p = Piece { flags, id, most };
+    by_indicator(
+        body,
+        e,
+        p,
+        data_set,
+        packages,
+        map_heads,
+        map_room,
+        fragment_heads,
+        bodies,
+    )
 }

@@ -46,7 +46,7 @@ pub fn be32(s: &[u8], at: usize) -> usize
     be16(s, at) * 65536 + be16(s, at + 2)
 }
 
-// Writes one byte at `to`; answers the place past it.
+// Writes one byte at `to`; answers the offset past it.
 pub fn put8(out: &mut [u8], to: usize, b: u8) -> usize
     requires { ⌜ to < length (now out) ⌝ }
     ensures { λ r. ⌜ Wrote (b ∷ []) (now (out .entry)) to (now (out .exit)) r ⌝ }
@@ -55,7 +55,7 @@ pub fn put8(out: &mut [u8], to: usize, b: u8) -> usize
     to + 1
 }
 
-// Writes the low 16 bits of `n` at `to`, the upper byte first; answers the place past them.
+// Writes the low 16 bits of `n` at `to`, the upper byte first; answers the offset past them.
 pub fn put16(out: &mut [u8], to: usize, n: usize) -> usize
     requires { ⌜ to + 2 ≤ length (now out) ⌝ }
     ensures { λ r. ⌜ Wrote (put16 n) (now (out .entry)) to (now (out .exit)) r ⌝ }
@@ -64,7 +64,7 @@ pub fn put16(out: &mut [u8], to: usize, n: usize) -> usize
     put8(out, low, (n % 256) as u8)
 }
 
-// Writes the low 32 bits of `n` at `to`, the upper bytes first; answers the place past them.
+// Writes the low 32 bits of `n` at `to`, the upper bytes first; answers the offset past them.
 pub fn put32(out: &mut [u8], to: usize, n: usize) -> usize
     requires { ⌜ to + 4 ≤ length (now out) ⌝ }
     ensures { λ r. ⌜ Wrote (put32 n) (now (out .entry)) to (now (out .exit)) r ⌝ }
@@ -73,7 +73,7 @@ pub fn put32(out: &mut [u8], to: usize, n: usize) -> usize
     put16(out, low, n % 65536)
 }
 
-// Copies `src` to `to` of `out`; answers the place past it.
+// Copies `src` to `to` of `out`; answers the offset past it.
 pub fn copy(src: &[u8], out: &mut [u8], to: usize) -> usize
     requires { ⌜ to + length (now src) ≤ length (now out) ⌝ }
     ensures { λ r. ⌜ Wrote (now (src .entry)) (now (out .entry)) to (now (out .exit)) r ⌝ }
@@ -86,28 +86,28 @@ pub fn copy(src: &[u8], out: &mut [u8], to: usize) -> usize
     to + i
 }
 
-// Moves `n` bytes of `room` from `from` down to `to`; the two places may overlap. Answers the place past them.
-pub fn move_down(room: &mut [u8], from: usize, n: usize, to: usize) -> usize
-    requires { ⌜ (to ≤ from) × (from + n ≤ length (now room)) ⌝ }
-    ensures { λ r. ⌜ Wrote (take n (drop from (now (room .entry)))) (now (room .entry)) to (now (room .exit)) r ⌝ }
+// Moves `n` bytes of `lent` from `from` down to `to`; the two stretches may overlap. Answers the offset past them.
+pub fn move_down(lent: &mut [u8], from: usize, n: usize, to: usize) -> usize
+    requires { ⌜ (to ≤ from) × (from + n ≤ length (now lent)) ⌝ }
+    ensures { λ r. ⌜ Wrote (take n (drop from (now (lent .entry)))) (now (lent .entry)) to (now (lent .exit)) r ⌝ }
 {
     let mut i: usize = 0;
     while i < n {
-        room[to + i] = room[from + i];
+        lent[to + i] = lent[from + i];
         i += 1;
     }
     to + i
 }
 
-// Moves `n` bytes of `room` from `from` up to `to`; the two places may overlap. Answers the place past them.
-pub fn move_up(room: &mut [u8], from: usize, n: usize, to: usize) -> usize
-    requires { ⌜ (from ≤ to) × (to + n ≤ length (now room)) ⌝ }
-    ensures { λ r. ⌜ Wrote (take n (drop from (now (room .entry)))) (now (room .entry)) to (now (room .exit)) r ⌝ }
+// Moves `n` bytes of `lent` from `from` up to `to`; the two stretches may overlap. Answers the offset past them.
+pub fn move_up(lent: &mut [u8], from: usize, n: usize, to: usize) -> usize
+    requires { ⌜ (from ≤ to) × (to + n ≤ length (now lent)) ⌝ }
+    ensures { λ r. ⌜ Wrote (take n (drop from (now (lent .entry)))) (now (lent .entry)) to (now (lent .exit)) r ⌝ }
 {
     let mut left: usize = n;
     while 0 < left {
         left -= 1;
-        room[to + left] = room[from + left];
+        lent[to + left] = lent[from + left];
     }
     to + n
 }

@@ -8,13 +8,14 @@ use mathlib.Core.Option.{Option}
 use native.Mathlib.Omega.{arith}
 use lib.ListN.{length, length-append}
 use Rattle.meaning.specs.Bytes.{Bytes}
-use Rattle.meaning.specs.Sets.{Words}
 use Rattle.meaning.specs.Writing.{Wrote}
+use Rattle.meaning.specs.Sets.{Words}
 use Rattle.meaning.specs.Mmtp.{mmtpOf}
 use Rattle.meaning.specs.Narrow.{narrowPacket}
-use Rattle.meaning.specs.Learn.{Limits, Known, learn}
+use Rattle.meaning.specs.Learn.{Known, learn}
 use Rattle.meaning.specs.Rules.{drops, ready}
 use Rattle.meaning.specs.Push.{Passed, passOne, pass, withheld}
+use Rattle.meaning.specs.declared.Limits.{Limits}
 use Rattle.meaning.specs.declared.Options.{Options}
 use Rattle.meaning.specs.declared.Counts.{Counts}
 use Rattle.meaning.proofs.Writes.{wrote-then}
@@ -86,17 +87,17 @@ module _ (L : Limits) (o : Options) (k : Known) (d : Bytes) (ps qs : List Bytes)
   abbrev next : Passed
   next = pass L o (before .known) qs
 
-  pub further : (carousels packages maps room heads : List ℕ) (bodies : Bytes) (set : Words) (out : Bytes)
-      (carousels′ packages′ maps′ room′ heads′ : List ℕ) (bodies′ : Bytes) (set′ : Words) (out′ : Bytes)
-      → Sofar L o k d ps n s carousels packages maps room heads bodies set out
-      → Holding (L .total) (next .known) (r .extent) carousels′ packages′ maps′ room′ heads′ bodies′
+  pub further : (data-set packages map-heads map-room fragment-heads : List ℕ) (bodies : Bytes) (set : Words) (out : Bytes)
+      (data-set′ packages′ map-heads′ map-room′ fragment-heads′ : List ℕ) (bodies′ : Bytes) (set′ : Words) (out′ : Bytes)
+      → Sofar L o k d ps n s data-set packages map-heads map-room fragment-heads bodies set out
+      → Holding (L .total) (next .known) (r .extent) data-set′ packages′ map-heads′ map-room′ fragment-heads′ bodies′
       → SetIs (drops o (next .known)) set′
       → r .ready ≡ ready (o .service) (next .known)
       → r .extent .lost ≡ s .extent .lost + next .lost
       → r .counts ≡ countsAfter (s .counts) (r .counts .bytes) next (length qs) m
       → Wrote (flatten (next .out)) out (s .counts .bytes) out′ (r .counts .bytes)
-      → Sofar L o k d (ps ++ qs) (n + m) r carousels′ packages′ maps′ room′ heads′ bodies′ set′ out′
-  further carousels packages maps room heads bodies set out carousels′ packages′ maps′ room′ heads′ bodies′ set′ out′ f h t y l c w =
+      → Sofar L o k d (ps ++ qs) (n + m) r data-set′ packages′ map-heads′ map-room′ fragment-heads′ bodies′ set′ out′
+  further data-set packages map-heads map-room fragment-heads bodies set out data-set′ packages′ map-heads′ map-room′ fragment-heads′ bodies′ set′ out′ f h t y l c w =
       let e : pass L o k (ps ++ qs) ≡ chained before next = pass-append L o k ps qs in
       let old = f .counts-are in
       let b : r .counts .bytes ≡ length (flatten (before .out ++ next .out)) =

@@ -10,11 +10,12 @@ use lib.Dec.{leb}
 use Rattle.meaning.specs.Bytes.{Bytes}
 use Rattle.meaning.specs.Sets.{Words}
 use Rattle.meaning.specs.Readers.{Out, Reader, _>>=_, give, byte, u8, u16, u32, bytes, announced}
-use Rattle.meaning.specs.Mmtp.{Head, Mmtp, Place, placeOf, extension, mmtpHead, mmtpFrom, mmtpAt, mmtpOf}
+use Rattle.meaning.specs.Mmtp.{MmtpHeader, Mmtp, Offset, offsetOf, extension, mmtpHeader, mmtpFrom, mmtpAt, mmtpOf}
 use Rattle.meaning.specs.Narrow.{packetFor, narrowPacket}
-use Rattle.meaning.specs.Learn.{Limits, Known, learnFrom, learnt, learn}
+use Rattle.meaning.specs.Learn.{Known, learnFrom, learnt, learn}
 use Rattle.meaning.specs.Rules.{drops, ready}
 use Rattle.meaning.specs.Push.{passOne, pass, withheld}
+use Rattle.meaning.specs.declared.Limits.{Limits}
 use Rattle.meaning.specs.declared.Options.{Options}
 use Rattle.meaning.proofs.TableLaws.{u16-below}
 use Rattle.meaning.proofs.Framed.{before}
@@ -24,27 +25,27 @@ use Rattle.passing.specs.Verdicts.{signals, stopped, Plain, AllPass}
 -- ---- an identifier has 16 bits
 
 -- the head's reader from its third field on
-abbrev fromNumber : ℕ → ℕ → ℕ → Reader Head
-fromNumber flags type id = announced (flags / 32 % 2) (bytes 4) >>= (λ _. announced (flags / 2 % 2) extension >>= (λ _. give (record { identifier = id; kind = type % 64 })))
+abbrev fromNumber : ℕ → ℕ → ℕ → Reader MmtpHeader
+fromNumber flags type id = announced (flags / 32 % 2) (bytes 4) >>= (λ _. announced (flags / 2 % 2) extension >>= (λ _. give (record { identifier = id; payload-type = type % 64 })))
 
-abbrev fromTime : ℕ → ℕ → ℕ → Reader Head
+abbrev fromTime : ℕ → ℕ → ℕ → Reader MmtpHeader
 fromTime flags type id = u32 >>= (λ _. u32 >>= (λ _. fromNumber flags type id))
 
-number-same : (f t id : ℕ) (s : Bytes) (h : Head) (r : Bytes) → fromNumber f t id s ≡ some (h, r) → id ≡ h .identifier
+number-same : (f t id : ℕ) (s : Bytes) (h : MmtpHeader) (r : Bytes) → fromNumber f t id s ≡ some (h, r) → id ≡ h .identifier
 number-same f t id s h r e =
-    let head : Head = record { identifier = id; kind = t % 64 } in
+    let head : MmtpHeader = record { identifier = id; payload-type = t % 64 } in
     let a = before (announced (f / 32 % 2) (bytes 4) s) (λ _. announced (f / 2 % 2) extension >>= (λ _. give head)) h r e in
     let b = before (announced (f / 2 % 2) extension (a .rest)) (λ _. give head) h r (a .then-was) in
-    ap (λ (z : Head × Bytes). z .0 .identifier) (Option·some-injective (head, b .rest) (h, r) (b .then-was))
+    ap (λ (z : MmtpHeader × Bytes). z .0 .identifier) (Option·some-injective (head, b .rest) (h, r) (b .then-was))
 
-time-same : (f t id : ℕ) (s : Bytes) (h : Head) (r : Bytes) → fromTime f t id s ≡ some (h, r) → id ≡ h .identifier
+time-same : (f t id : ℕ) (s : Bytes) (h : MmtpHeader) (r : Bytes) → fromTime f t id s ≡ some (h, r) → id ≡ h .identifier
 time-same f t id s h r e =
     let a = before (u32 s) (λ _. u32 >>= (λ _. fromNumber f t id)) h r e in
     let b = before (u32 (a .rest)) (λ _. fromNumber f t id) h r (a .then-was) in
     number-same f t id (b .rest) h r (b .then-was)
 
-head-small : (s : Bytes) (h : Head) (r : Bytes) → mmtpHead s ≡ some (h, r) → h .identifier < 65536
-unfolding mmtpHead
+head-small : (s : Bytes) (h : MmtpHeader) (r : Bytes) → mmtpHeader s ≡ some (h, r) → h .identifier < 65536
+unfolding mmtpHeader
 head-small s h r e =
     let a = before (u8 s) (λ f. u8 >>= (λ t. u16 >>= (λ id. fromTime f t id))) h r e in
     let b = before (u8 (a .rest)) (λ t. u16 >>= (λ id. fromTime (a .first) t id)) h r (a .then-was) in
@@ -53,17 +54,17 @@ head-small s h r e =
 
 pub identifier-small : (p : Bytes) (m : Mmtp) → mmtpOf p ≡ some m → m .identifier < 65536
 unfolding mmtpOf
-identifier-small p = go (leb 4 (length p)) (placeOf (getD p 1 0) (drop 4 p))
+identifier-small p = go (leb 4 (length p)) (offsetOf (getD p 1 0) (drop 4 p))
   where
-    from : (w : Bool) (x : Out Head) → ((h : Head) (r : Bytes) → x ≡ some (h, r) → h .identifier < 65536) → (m : Mmtp) → mmtpFrom w x ≡ some m → m .identifier < 65536
+    from : (w : Bool) (x : Out MmtpHeader) → ((h : MmtpHeader) (r : Bytes) → x ≡ some (h, r) → h .identifier < 65536) → (m : Mmtp) → mmtpFrom w x ≡ some m → m .identifier < 65536
     from w none g m e = absurd (Option·none-ne-some _ e)
     from w (some (h, r)) g m e = subst (λ (z : Mmtp). z .identifier < 65536) (Option·some-injective _ _ e) (g h r refl)
 
-    here : (a w : Bool) (at : ℕ) (m : Mmtp) → cond a (mmtpFrom w (mmtpHead (drop at (drop 4 p)))) none ≡ some m → m .identifier < 65536
-    here true w at m e = from w (mmtpHead (drop at (drop 4 p))) (head-small (drop at (drop 4 p))) m e
+    here : (a w : Bool) (at : ℕ) (m : Mmtp) → cond a (mmtpFrom w (mmtpHeader (drop at (drop 4 p)))) none ≡ some m → m .identifier < 65536
+    here true w at m e = from w (mmtpHeader (drop at (drop 4 p))) (head-small (drop at (drop 4 p))) m e
     here false w at m e = absurd (Option·none-ne-some _ e)
 
-    go : (a : Bool) (x : Place) (m : Mmtp) → cond a (mmtpAt x (drop 4 p)) none ≡ some m → m .identifier < 65536
+    go : (a : Bool) (x : Offset) (m : Mmtp) → cond a (mmtpAt x (drop 4 p)) none ≡ some m → m .identifier < 65536
     go false x m e = absurd (Option·none-ne-some _ e)
     go true none m e = absurd (Option·none-ne-some _ e)
     go true (some (at, w)) m e = here (leb at (length (drop 4 p))) w at m e

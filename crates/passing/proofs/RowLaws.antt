@@ -27,11 +27,11 @@ module _ (p : Bytes) (ws : Words) (ready : Bool) where
   pub unread-passes : mmtpOf p ≡ none → Plain p ws ready false
   unread-passes e = record { other = rw e; fate = rw e }
 
-  module _ (id kind : ℕ) (w : Bool) (rest : Bytes) (e : mmtpOf p ≡ some (record { identifier = id; kind = kind; rewritable = w; payload = rest }))
-      (k : kind ≡ 2 → ⊥)
+  module _ (id payload-type : ℕ) (w : Bool) (rest : Bytes) (e : mmtpOf p ≡ some (record { identifier = id; payload-type = payload-type; rewritable = w; payload = rest }))
+      (k : payload-type ≡ 2 → ⊥)
     where
       plain : (stop : Bool) → (inSet ws id || not ready) ≡ stop → Plain p ws ready stop
-      plain stop f = record { other = rw e (ne-eqb kind 2 k); fate = rw e f }
+      plain stop f = record { other = rw e (ne-eqb payload-type 2 k); fate = rw e f }
 
       pub unready-stops : not ready ≡ true → Plain p ws ready true
       unready-stops h = plain true (or-right (inSet ws id) (not ready) h)
@@ -42,13 +42,13 @@ module _ (p : Bytes) (ws : Words) (ready : Bool) where
       pub wanted-passes : inSet ws id ≡ false → not ready ≡ false → Plain p ws ready false
       wanted-passes h g = plain false (rw h g)
 
-pub signals-read : (p : Bytes) (body id kind : ℕ) (w : Bool) → 16 ≤ body → body ≤ length p → id < 65536 → kind ≡ 2
-    → mmtpOf p ≡ some (record { identifier = id; kind = kind; rewritable = w; payload = drop body p }) → Signals p body id w
-signals-read p body id kind w b i f k e = record {
+pub signals-read : (p : Bytes) (body id payload-type : ℕ) (w : Bool) → 16 ≤ body → body ≤ length p → id < 65536 → payload-type ≡ 2
+    → mmtpOf p ≡ some (record { identifier = id; payload-type = payload-type; rewritable = w; payload = drop body p }) → Signals p body id w
+signals-read p body id payload-type w b i f k e = record {
   behind-head = b;
   inside = i;
   identifier-fits = f;
-  read = e ∙ ap (λ (n : ℕ). some (record { identifier = id; kind = n; rewritable = w; payload = drop body p })) k;
+  read = e ∙ ap (λ (n : ℕ). some (record { identifier = id; payload-type = n; rewritable = w; payload = drop body p })) k;
 }
 
 -- ---- a packet of a run

@@ -8,7 +8,8 @@ use lib.ListN.{length, drop}
 use Rattle.meaning.specs.Bytes.{Bytes}
 use Rattle.meaning.specs.Sets.{Words}
 use Rattle.meaning.specs.Packets.{stepOf, Cut, cut, hold}
-use Rattle.meaning.specs.Learn.{Limits, Known}
+use Rattle.meaning.specs.Learn.{Known}
+use Rattle.meaning.specs.declared.Limits.{Limits}
 use Rattle.meaning.specs.declared.Options.{Options}
 use Rattle.meaning.specs.declared.Step.the-variants.{Keep}
 use Rattle.meaning.proofs.CutLaws.{cut-keep}
@@ -21,29 +22,29 @@ use Rattle.passing.specs.Passing.{Fits, Sofar, SofarSome, SofarAfter, Sc
 
 pub record Machine : Type 0 where
   pub progress : Progress
-  pub carousels : List ℕ
+  pub data-set : List ℕ
   pub packages : List ℕ
-  pub maps : List ℕ
-  pub room : List ℕ
-  pub heads : List ℕ
+  pub map-heads : List ℕ
+  pub map-room : List ℕ
+  pub fragment-heads : List ℕ
   pub bodies : Bytes
   pub set : Words
   pub out : Bytes
 
 abbrev pub Stands : Limits → Options → Known → Bytes → List Bytes → ℕ → Machine → Type 0
-Stands L o k d ps n x = Sofar L o k d ps n (x .progress) (x .carousels) (x .packages) (x .maps) (x .room) (x .heads) (x .bodies) (x .set) (x .out)
+Stands L o k d ps n x = Sofar L o k d ps n (x .progress) (x .data-set) (x .packages) (x .map-heads) (x .map-room) (x .fragment-heads) (x .bodies) (x .set) (x .out)
 
 abbrev pub StandsSome : Terms → Machine → Type 0
-StandsSome t x = SofarSome t (x .progress) (x .carousels) (x .packages) (x .maps) (x .room) (x .heads) (x .bodies) (x .set) (x .out)
+StandsSome t x = SofarSome t (x .progress) (x .data-set) (x .packages) (x .map-heads) (x .map-room) (x .fragment-heads) (x .bodies) (x .set) (x .out)
 
 abbrev pub Moves : List Bytes → ℕ → Terms → Machine → Machine → Type 0
 Moves qs m t x y =
-    SofarAfter qs m t (x .progress) (x .carousels) (x .packages) (x .maps) (x .room) (x .heads) (x .bodies) (x .set) (x .out)
-    (y .progress) (y .carousels) (y .packages) (y .maps) (y .room) (y .heads) (y .bodies) (y .set) (y .out)
+    SofarAfter qs m t (x .progress) (x .data-set) (x .packages) (x .map-heads) (x .map-room) (x .fragment-heads) (x .bodies) (x .set) (x .out)
+    (y .progress) (y .data-set) (y .packages) (y .map-heads) (y .map-room) (y .fragment-heads) (y .bodies) (y .set) (y .out)
 
 abbrev pub machine : Progress → List ℕ → List ℕ → List ℕ → List ℕ → List ℕ → Bytes → Words → Bytes → Machine
-machine s carousels packages maps room heads bodies set out =
-    record { progress = s; carousels = carousels; packages = packages; maps = maps; room = room; heads = heads; bodies = bodies; set = set; out = out }
+machine s data-set packages map-heads map-room fragment-heads bodies set out =
+    record { progress = s; data-set = data-set; packages = packages; map-heads = map-heads; map-room = map-room; fragment-heads = fragment-heads; bodies = bodies; set = set; out = out }
 
 -- ---- moves, one after the other
 
@@ -61,7 +62,7 @@ moves-none t x L k d ps n e s =
 
 -- Lent slices keep their length.
 pub record SameRooms (x y : Machine) : Type 0 where
-  pub room-same : length (y .room) ≡ length (x .room)
+  pub map-room-same : length (y .map-room) ≡ length (x .map-room)
   pub bodies-same : length (y .bodies) ≡ length (x .bodies)
   pub out-same : length (y .out) ≡ length (x .out)
 
@@ -96,7 +97,7 @@ module _ (run : Bytes) (from : ℕ) (t : Terms) (x : Machine) where
     moved = moves-none t x;
     fits = f;
     begun = b;
-    same = record { room-same = refl; bodies-same = refl; out-same = refl };
+    same = record { map-room-same = refl; bodies-same = refl; out-same = refl };
   }
 
   module _ (y z : Machine) (at to : ℕ) (qs : List Bytes) (m : ℕ) where
@@ -111,7 +112,7 @@ module _ (run : Bytes) (from : ℕ) (t : Terms) (x : Machine) where
       fits = f;
       begun = g .begun;
       same = record {
-        room-same = s .room-same ∙ g .same .room-same;
+        map-room-same = s .map-room-same ∙ g .same .map-room-same;
         bodies-same = s .bodies-same ∙ g .same .bodies-same;
         out-same = s .out-same ∙ g .same .out-same;
       };
@@ -125,8 +126,8 @@ module _ (run : Bytes) (from : ℕ) (t : Terms) (x : Machine) where
 
   -- the end: the rest is kept
   pub going-done : (y : Machine) (at : ℕ) → Going run from t x y at → stepOf (t .limit) (drop at run) ≡ Keep
-      → ScannedAs run from t (x .progress) (x .carousels) (x .packages) (x .maps) (x .room) (x .heads) (x .bodies) (x .set) (x .out)
-      (record { progress = y .progress; at = at }) (y .carousels) (y .packages) (y .maps) (y .room) (y .heads) (y .bodies) (y .set) (y .out)
+      → ScannedAs run from t (x .progress) (x .data-set) (x .packages) (x .map-heads) (x .map-room) (x .fragment-heads) (x .bodies) (x .set) (x .out)
+      (record { progress = y .progress; at = at }) (y .data-set) (y .packages) (y .map-heads) (y .map-room) (y .fragment-heads) (y .bodies) (y .set) (y .out)
   going-done y at g e =
       let c : cut (t .limit) (drop from run) ≡ ahead (g .packets) (g .skipped) (hold (drop at run)) = g .cut-is ∙ ap (ahead (g .packets) (g .skipped)) (cut-keep (t .limit) (drop at run) e) in
       let p : g .packets ≡ cut (t .limit) (drop from run) .packets = sym (append-nil (g .packets)) ∙ sym (ap (λ (z : Cut). z .packets) c) in

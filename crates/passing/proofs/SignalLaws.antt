@@ -8,13 +8,15 @@ use mathlib.Core.Option.{Option, none, some, Option·map, Option·getD}
 use native.Mathlib.Omega.{arith}
 use lib.ListN.{length, drop, length-drop}
 use Rattle.meaning.specs.Bytes.{Bytes}
-use Rattle.meaning.specs.Sets.{Words, inSet}
 use Rattle.meaning.specs.Writing.{Wrote}
+use Rattle.meaning.specs.Sets.{Words, inSet}
+use Rattle.meaning.specs.Lists.{isSome}
 use Rattle.meaning.specs.Mmtp.{Mmtp, mmtpOf}
-use Rattle.meaning.specs.Narrow.{isSome, narrowPayload, packetBytes, packetFor, narrowPacket}
-use Rattle.meaning.specs.Learn.{Limits, Known, Learnt, learnFrom, learn, observe}
+use Rattle.meaning.specs.Narrow.{narrowPayload, packetBytes, packetFor, narrowPacket}
+use Rattle.meaning.specs.Learn.{Known, Learnt, learnFrom, learn, observe}
 use Rattle.meaning.specs.Rules.{drops, ready}
 use Rattle.meaning.specs.Push.{Passed, none-passed, passOne, pass, withheld}
+use Rattle.meaning.specs.declared.Limits.{Limits}
 use Rattle.meaning.specs.declared.Options.{Options}
 use Rattle.meaning.specs.declared.Counts.{Counts}
 use Rattle.meaning.proofs.Writes.{wrote-none}
@@ -71,30 +73,30 @@ module _ (o : Options) {p : Bytes} {body id : ℕ} {w : Bool} (h : Signals p bod
 
 -- the observer counts changes from none
 abbrev pub noChange : Extent → Extent
-noChange e = record { seen = e .seen; packages = e .packages; maps = e .maps; fragments = e .fragments; lost = e .lost; changed = false }
+noChange e = record { seen = e .seen; «package_count» = e .«package_count»; «map_count» = e .«map_count»; «fragment_count» = e .«fragment_count»; lost = e .lost; changed = false }
 
-pub holding-anew : {T : ℕ} {k : Known} {e : Extent} {carousels packages maps room heads : List ℕ} {bodies : Bytes}
-    → Holding T k e carousels packages maps room heads bodies → Holding T k (noChange e) carousels packages maps room heads bodies
+pub holding-anew : {T : ℕ} {k : Known} {e : Extent} {data-set packages map-heads map-room fragment-heads : List ℕ} {bodies : Bytes}
+    → Holding T k e data-set packages map-heads map-room fragment-heads bodies → Holding T k (noChange e) data-set packages map-heads map-room fragment-heads bodies
 holding-anew h =
     let t = h .tables-kept in
     record {
-      tables-kept = record { seen = t .seen; packages-kept = t .packages-kept; maps-kept = t .maps-kept; carousels-are = t .carousels-are; carousels-all = t .carousels-all; room-is = t .room-is; room-all = t .room-all };
+      tables-kept = record { seen = t .seen; packages-kept = t .packages-kept; maps-kept = t .maps-kept; data-set-is = t .data-set-is; data-set-all = t .data-set-all; map-room-is = t .map-room-is; map-room-all = t .map-room-all };
       fragments-kept = h .fragments-kept;
     }
 
 -- ---- what is dropped, and readiness, after it
 
-pub refreshed-anew : (b : Bool) (o : Options) (e : Extent) (was : Bool) (carousels packages maps room : List ℕ) (set : Words) (r : Bool) (set′ : Words) → b ≡ true
-    → ((k : Known) → Keeps k e carousels packages maps room → SetIs (drops o k) set′ × (r ≡ ready (o .service) k))
-    → Refreshed b o e was carousels packages maps room set r set′
-refreshed-anew b o e was carousels packages maps room set r set′ q h = rw q h
+pub refreshed-anew : (b : Bool) (o : Options) (e : Extent) (was : Bool) (data-set packages map-heads map-room : List ℕ) (set : Words) (r : Bool) (set′ : Words) → b ≡ true
+    → ((k : Known) → Keeps k e data-set packages map-heads map-room → SetIs (drops o k) set′ × (r ≡ ready (o .service) k))
+    → Refreshed b o e was data-set packages map-heads map-room set r set′
+refreshed-anew b o e was data-set packages map-heads map-room set r set′ q h = rw q h
 
 module _ (L : Limits) (o : Options) (id : ℕ) (s : Bytes) (k : Known) where
   abbrev after : Known
   after = observe L id s k .known
 
-  refreshed-is : (b : Bool) {e : Extent} {was : Bool} {carousels packages maps room : List ℕ} {set : Words} {r : Bool} {set′ : Words}
-      → b ≡ news L id s k → Refreshed b o e was carousels packages maps room set r set′ → Keeps after e carousels packages maps room
+  refreshed-is : (b : Bool) {e : Extent} {was : Bool} {data-set packages map-heads map-room : List ℕ} {set : Words} {r : Bool} {set′ : Words}
+      → b ≡ news L id s k → Refreshed b o e was data-set packages map-heads map-room set r set′ → Keeps after e data-set packages map-heads map-room
       → SetIs (drops o k) set → was ≡ ready (o .service) k
       → SetIs (drops o after) set′ × (r ≡ ready (o .service) after)
   refreshed-is true b h keeps t y = h after keeps
@@ -163,14 +165,14 @@ module _ (L : Limits) (o : Options) (k : Known) (d : Bytes) (ps : List Bytes) (n
   step = observe L id (drop body p) here
 
   -- A run has come one packet further.
-  pub signalled : {carousels packages maps room heads : List ℕ} {bodies : Bytes} {set : Words} {out : Bytes}
-      {carousels′ packages′ maps′ room′ heads′ : List ℕ} {bodies′ : Bytes} {set′ : Words} {out′ : Bytes}
-      → Sofar L o k d ps n s carousels packages maps room heads bodies set out
-      → Observed (L .total) step (news L id (drop body p) here) (noChange (s .extent)) (r .extent) carousels′ packages′ maps′ room′ heads′ bodies′
-      → Refreshed (r .extent .changed) o (r .extent) (s .ready) carousels′ packages′ maps′ room′ set (r .ready) set′
+  pub signalled : {data-set packages map-heads map-room fragment-heads : List ℕ} {bodies : Bytes} {set : Words} {out : Bytes}
+      {data-set′ packages′ map-heads′ map-room′ fragment-heads′ : List ℕ} {bodies′ : Bytes} {set′ : Words} {out′ : Bytes}
+      → Sofar L o k d ps n s data-set packages map-heads map-room fragment-heads bodies set out
+      → Observed (L .total) step (news L id (drop body p) here) (noChange (s .extent)) (r .extent) data-set′ packages′ map-heads′ map-room′ fragment-heads′ bodies′
+      → Refreshed (r .extent .changed) o (r .extent) (s .ready) data-set′ packages′ map-heads′ map-room′ set (r .ready) set′
       → Emitted (inSet set′ id) (narrowPacket o p) p (s .counts) out (r .counts) out′
-      → Sofar L o k d (ps ++ p ∷ []) (n + 0) r carousels′ packages′ maps′ room′ heads′ bodies′ set′ out′
-  signalled {carousels} {packages} {maps} {room} {heads} {bodies} {set} {out} {carousels′} {packages′} {maps′} {room′} {heads′} {bodies′} {set′} {out′} f seen fresh sent =
+      → Sofar L o k d (ps ++ p ∷ []) (n + 0) r data-set′ packages′ map-heads′ map-room′ fragment-heads′ bodies′ set′ out′
+  signalled {data-set} {packages} {map-heads} {map-room} {fragment-heads} {bodies} {set} {out} {data-set′} {packages′} {map-heads′} {map-room′} {fragment-heads′} {bodies′} {set′} {out′} f seen fresh sent =
       let g = refreshed-is L o id (drop body p) here (r .extent .changed) (seen .changed-is) fresh (seen .holding .tables-kept) (f .set-is) (f .ready-is) in
       let b : inSet set′ id ≡ drops o (step .known) id = g .0 .member id (h .identifier-fits) in
       let x = rw b at sent in
@@ -178,7 +180,7 @@ module _ (L : Limits) (o : Options) (k : Known) (d : Bytes) (ps : List Bytes) (n
       let passes = passes-as L o here h in
       let knows : pass L o here (p ∷ []) .known ≡ step .known = ap (λ (z : Passed). z .known) passes ∙ known-after (drops o (step .known) id) y p (step .lost) (step .known) in
       let loses : pass L o here (p ∷ []) .lost ≡ step .lost = ap (λ (z : Passed). z .lost) passes ∙ lost-after (drops o (step .known) id) y p (step .lost) (step .known) in
-      further L o k d ps (p ∷ []) n 0 s r carousels packages maps room heads bodies set out carousels′ packages′ maps′ room′ heads′ bodies′ set′ out′ f
+      further L o k d ps (p ∷ []) n 0 s r data-set packages map-heads map-room fragment-heads bodies set out data-set′ packages′ map-heads′ map-room′ fragment-heads′ bodies′ set′ out′ f
       (rw knows (seen .holding))
       (rw knows (g .0))
       (rw knows (g .1))
@@ -189,13 +191,13 @@ module _ (L : Limits) (o : Options) (k : Known) (d : Bytes) (ps : List Bytes) (n
 -- ---- room for what comes next
 
 -- the observer may lose as many maps as the payload and the fragment room have bytes
-pub observer-fits : {p : Bytes} {body id : ℕ} {w : Bool} (lost room : ℕ) → Signals p body id w → lost + length p * 16777217 ≤ 18446744073709551615 → room ≤ 16777216
-    → lost + length (drop body p) + room ≤ 18446744073709551615
-observer-fits {p} {body} lost room h f few = omega (arith, f, few, length-drop body p, h .behind-head, h .inside)
+pub observer-fits : {p : Bytes} {body id : ℕ} {w : Bool} (lost map-room : ℕ) → Signals p body id w → lost + length p * 16777217 ≤ 18446744073709551615 → map-room ≤ 16777216
+    → lost + length (drop body p) + map-room ≤ 18446744073709551615
+observer-fits {p} {body} lost map-room h f few = omega (arith, f, few, length-drop body p, h .behind-head, h .inside)
 
-pub emitter-fits : {p : Bytes} {body id : ℕ} {w : Bool} (s : Progress) (room : ℕ) → Signals p body id w → Fits s (length p) room
-    → (s .counts .bytes + length p ≤ room) × (s .counts .accepted + 1 ≤ 18446744073709551615) × (s .counts .written + 1 ≤ 18446744073709551615) × (s .counts .rewritten + 1 ≤ 18446744073709551615)
-emitter-fits {p} s room h f =
+pub emitter-fits : {p : Bytes} {body id : ℕ} {w : Bool} (s : Progress) (map-room : ℕ) → Signals p body id w → Fits s (length p) map-room
+    → (s .counts .bytes + length p ≤ map-room) × (s .counts .accepted + 1 ≤ 18446744073709551615) × (s .counts .written + 1 ≤ 18446744073709551615) × (s .counts .rewritten + 1 ≤ 18446744073709551615)
+emitter-fits {p} s map-room h f =
     let some-bytes : 1 ≤ length p = omega (arith, h .behind-head, h .inside) in
     (f .bytes-fit, omega (arith, f .accepted-fit), omega (arith, f .written-fit), omega (arith, f .rewritten-fit))
 
@@ -220,10 +222,10 @@ never-longer : (o : Options) (p : Bytes) (y : Option Bytes) → narrowPacket o p
 never-longer o p none e = omega arith
 never-longer o p (some y) e = packet-shorter o p y e
 
-pub fits-after : (o : Options) {p : Bytes} {body id : ℕ} {w : Bool} → Signals p body id w → (s r : Progress) (set : Words) (d d′ : Bytes) (room : ℕ)
-    → Emitted (inSet set id) (narrowPacket o p) p (s .counts) d (r .counts) d′ → r .extent .lost ≤ s .extent .lost + length (drop body p) + room → room ≤ 16777216
+pub fits-after : (o : Options) {p : Bytes} {body id : ℕ} {w : Bool} → Signals p body id w → (s r : Progress) (set : Words) (d d′ : Bytes) (map-room : ℕ)
+    → Emitted (inSet set id) (narrowPacket o p) p (s .counts) d (r .counts) d′ → r .extent .lost ≤ s .extent .lost + length (drop body p) + map-room → map-room ≤ 16777216
     → length d′ ≡ length d → (m : ℕ) → Fits s (length p + m) (length d) → Fits r m (length d′)
-fits-after o {p} {body} {id} h s r set d d′ room x l few same m f =
+fits-after o {p} {body} {id} h s r set d d′ map-room x l few same m f =
     let z = emitted-within (inSet set id) (narrowPacket o p) p (s .counts) d (r .counts) d′ (never-longer o p (narrowPacket o p) refl) x in
     let long : 16 ≤ length p = omega (arith, h .behind-head, h .inside) in
     let part = length-drop body p in

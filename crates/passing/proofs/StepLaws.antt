@@ -9,8 +9,8 @@ use lib.Seq.{drop-drop, length-take-le}
 use lib.Dec.{leb}
 use borrow.Author.Tests.{leb-true, leb-false}
 use Rattle.meaning.specs.Bytes.{Bytes}
-use Rattle.meaning.specs.Sets.{Words}
 use Rattle.meaning.specs.Writing.{Wrote}
+use Rattle.meaning.specs.Sets.{Words}
 use Rattle.meaning.specs.Packets.{stepOf, Cut, cut, accept}
 use Rattle.meaning.specs.Push.{pass}
 use Rattle.meaning.specs.declared.Step.the-variants.{Skip}
@@ -30,11 +30,11 @@ use Rattle.passing.proofs.RunLaws.{Machine, machine, Moves, moves-then,
 abbrev pub withOut : Machine → Progress → Bytes → Machine
 withOut y r out = record {
   progress = r;
-  carousels = y .carousels;
+  data-set = y .data-set;
   packages = y .packages;
-  maps = y .maps;
-  room = y .room;
-  heads = y .heads;
+  map-heads = y .map-heads;
+  map-room = y .map-room;
+  fragment-heads = y .fragment-heads;
   bodies = y .bodies;
   set = y .set;
   out = out;
@@ -55,8 +55,8 @@ module _ (t : Terms) (y : Machine) where
       let l : s .extent .lost ≡ s .extent .lost + 0 = omega arith in
       let u : s .counts .rewritten ≡ s .counts .rewritten + 0 = omega arith in
       let v : s .counts .skipped ≡ s .counts .skipped + 0 = omega arith in
-      further L o k d ps qs n 0 s (withRow s (length qs) b) (y .carousels) (y .packages) (y .maps) (y .room) (y .heads) (y .bodies) (y .set) (y .out)
-      (y .carousels) (y .packages) (y .maps) (y .room) (y .heads) (y .bodies) (y .set) out′ f (rw q (f .holding)) (rw q (f .set-is)) (rw q (f .ready-is)) (rw q l)
+      further L o k d ps qs n 0 s (withRow s (length qs) b) (y .data-set) (y .packages) (y .map-heads) (y .map-room) (y .fragment-heads) (y .bodies) (y .set) (y .out)
+      (y .data-set) (y .packages) (y .map-heads) (y .map-room) (y .fragment-heads) (y .bodies) (y .set) out′ f (rw q (f .holding)) (rw q (f .set-is)) (rw q (f .ready-is)) (rw q l)
       (rw q (λ i. record { bytes = b; accepted = s .counts .accepted + length qs; written = s .counts .written + length qs; rewritten = u i; skipped = v i; lost = s .counts .lost }))
       (rw (q, e) w)
 
@@ -67,8 +67,8 @@ module _ (t : Terms) (y : Machine) where
       let a : s .counts .accepted ≡ s .counts .accepted + 0 = omega arith in
       let w : s .counts .written ≡ s .counts .written + 0 = omega arith in
       let u : s .counts .rewritten ≡ s .counts .rewritten + 0 = omega arith in
-      further L (t .options) k d ps [] n m s (withSkipped s m) (y .carousels) (y .packages) (y .maps) (y .room) (y .heads) (y .bodies) (y .set) (y .out)
-      (y .carousels) (y .packages) (y .maps) (y .room) (y .heads) (y .bodies) (y .set) (y .out) f (f .holding) (f .set-is) (f .ready-is) l
+      further L (t .options) k d ps [] n m s (withSkipped s m) (y .data-set) (y .packages) (y .map-heads) (y .map-room) (y .fragment-heads) (y .bodies) (y .set) (y .out)
+      (y .data-set) (y .packages) (y .map-heads) (y .map-room) (y .fragment-heads) (y .bodies) (y .set) (y .out) f (f .holding) (f .set-is) (f .ready-is) l
       (λ i. record { bytes = s .counts .bytes; accepted = a i; written = w i; rewritten = u i; skipped = s .counts .skipped + m; lost = s .counts .lost })
       (wrote-none (y .out) (s .counts .bytes))
 
@@ -82,8 +82,8 @@ module _ (t : Terms) (y : Machine) where
       let w : s .counts .written ≡ s .counts .written + 0 = omega arith in
       let u : s .counts .rewritten ≡ s .counts .rewritten + 0 = omega arith in
       let v : s .counts .skipped ≡ s .counts .skipped + 0 = omega arith in
-      further L o k d ps (p ∷ []) n 0 s (withWithheld s) (y .carousels) (y .packages) (y .maps) (y .room) (y .heads) (y .bodies) (y .set) (y .out)
-      (y .carousels) (y .packages) (y .maps) (y .room) (y .heads) (y .bodies) (y .set) (y .out) f (rw q (f .holding)) (rw q (f .set-is)) (rw q (f .ready-is)) (rw q l)
+      further L o k d ps (p ∷ []) n 0 s (withWithheld s) (y .data-set) (y .packages) (y .map-heads) (y .map-room) (y .fragment-heads) (y .bodies) (y .set) (y .out)
+      (y .data-set) (y .packages) (y .map-heads) (y .map-room) (y .fragment-heads) (y .bodies) (y .set) (y .out) f (rw q (f .holding)) (rw q (f .set-is)) (rw q (f .ready-is)) (rw q l)
       (rw q (λ i. record { bytes = s .counts .bytes; accepted = s .counts .accepted + 1; written = w i; rewritten = u i; skipped = v i; lost = s .counts .lost }))
       (rw q (wrote-none (y .out) (s .counts .bytes)))
 
@@ -119,14 +119,14 @@ module _ (run : Bytes) (from : ℕ) (t : Terms) (set : Words) where
     forth = omega arith;
     inside = h;
     cut-is = ahead-none (cut (t .limit) (drop from run));
-    moved = λ carousels packages maps room heads bodies. moves-none t (machine s carousels packages maps room heads bodies set out);
+    moved = λ data-set packages map-heads map-room fragment-heads bodies. moves-none t (machine s data-set packages map-heads map-room fragment-heads bodies set out);
     fits = f;
   }
 
   module _ {s₀ s : Progress} {out₀ out : Bytes} {at : ℕ} (g : Along run from t s₀ set out₀ s at out) where
     along-on : (r : Progress) (to : ℕ) (out′ : Bytes) (qs : List Bytes) (m : ℕ) → at ≤ to → to ≤ length run → cut (t .limit) (drop at run) ≡ ahead qs m (cut (t .limit) (drop to run))
-        → ((carousels packages maps room heads : List ℕ) (bodies : Bytes)
-        → Moves qs m t (machine s carousels packages maps room heads bodies set out) (machine r carousels packages maps room heads bodies set out′))
+        → ((data-set packages map-heads map-room fragment-heads : List ℕ) (bodies : Bytes)
+        → Moves qs m t (machine s data-set packages map-heads map-room fragment-heads bodies set out) (machine r data-set packages map-heads map-room fragment-heads bodies set out′))
         → Fits r (length run - to) (length out′) → Along run from t s₀ set out₀ r to out′
     along-on r to out′ qs m b h c v f = record {
       packets = g .packets ++ qs;
@@ -134,9 +134,9 @@ module _ (run : Bytes) (from : ℕ) (t : Terms) (set : Words) where
       forth = omega (arith, g .forth, b);
       inside = h;
       cut-is = g .cut-is ∙ ap (ahead (g .packets) (g .skipped)) c ∙ ahead-ahead (g .packets) qs (g .skipped) m (cut (t .limit) (drop to run));
-      moved = λ carousels packages maps room heads bodies.
-          moves-then t (machine s₀ carousels packages maps room heads bodies set out₀) (machine s carousels packages maps room heads bodies set out)
-          (machine r carousels packages maps room heads bodies set out′) (g .packets) qs (g .skipped) m (g .moved carousels packages maps room heads bodies) (v carousels packages maps room heads bodies);
+      moved = λ data-set packages map-heads map-room fragment-heads bodies.
+          moves-then t (machine s₀ data-set packages map-heads map-room fragment-heads bodies set out₀) (machine s data-set packages map-heads map-room fragment-heads bodies set out)
+          (machine r data-set packages map-heads map-room fragment-heads bodies set out′) (g .packets) qs (g .skipped) m (g .moved data-set packages map-heads map-room fragment-heads bodies) (v data-set packages map-heads map-room fragment-heads bodies);
       fits = f;
     }
 
@@ -147,8 +147,8 @@ module _ (run : Bytes) (from : ℕ) (t : Terms) (set : Words) where
         let f = g .fits in
         let len = packet-length run at (row .end) (h .forth) (h .inside) in
         along-on (withRow s (row .count) b) (row .end) out′ (h .packets) 0 (h .forth) (h .inside) (h .cut-is)
-        (λ carousels packages maps room heads bodies.
-        let y : Machine = machine s carousels packages maps room heads bodies set out in
+        (λ data-set packages map-heads map-room fragment-heads bodies.
+        let y : Machine = machine s data-set packages map-heads map-room fragment-heads bodies set out in
         subst (λ (n : ℕ). Moves (h .packets) 0 t y (withOut y (withRow s n b) out′)) (sym (h .many))
         (row-moves t y (h .packets) (packetAt run at (row .end)) out′ b (h .all-pass) (h .bytes-are) w))
         (record {
@@ -170,7 +170,7 @@ module _ (run : Bytes) (from : ℕ) (t : Terms) (set : Words) where
     gap-done to h =
         let f = g .fits in
         along-on (withSkipped s (to - at)) to out [] (to - at) (h .forth) (h .inside) (h .skips)
-        (λ carousels packages maps room heads bodies. gap-moves t (machine s carousels packages maps room heads bodies set out) (to - at))
+        (λ data-set packages map-heads map-room fragment-heads bodies. gap-moves t (machine s data-set packages map-heads map-room fragment-heads bodies set out) (to - at))
         (record {
           bytes-fit = omega (arith, f .bytes-fit, h .forth);
           accepted-fit = omega (arith, f .accepted-fit, h .forth);
@@ -187,7 +187,7 @@ module _ (run : Bytes) (from : ℕ) (t : Terms) (set : Words) where
     withheld-done end p h =
         let f = g .fits in
         along-on (withWithheld s) end out (packetAt run at end ∷ []) 0 (omega (arith, p .forth)) (p .inside) (packet-cut (t .limit) run at end p)
-        (λ carousels packages maps room heads bodies. withheld-moves t (machine s carousels packages maps room heads bodies set out) (packetAt run at end) h)
+        (λ data-set packages map-heads map-room fragment-heads bodies. withheld-moves t (machine s data-set packages map-heads map-room fragment-heads bodies set out) (packetAt run at end) h)
         (record {
           bytes-fit = omega (arith, f .bytes-fit, p .forth);
           accepted-fit = omega (arith, f .accepted-fit, p .forth, p .inside);
@@ -210,7 +210,7 @@ module _ (run : Bytes) (from : ℕ) (t : Terms) (x y : Machine) (at : ℕ) (g : 
       → Going run from t x (withOut y r out′) to
   going-along r to out′ h l =
       going-on run from t x y (withOut y r out′) at to (h .packets) (h .skipped) g (h .inside) (h .cut-is)
-      (h .moved (y .carousels) (y .packages) (y .maps) (y .room) (y .heads) (y .bodies)) (h .fits) (record { room-same = refl; bodies-same = refl; out-same = l })
+      (h .moved (y .data-set) (y .packages) (y .map-heads) (y .map-room) (y .fragment-heads) (y .bodies)) (h .fits) (record { map-room-same = refl; bodies-same = refl; out-same = l })
 
   signal-fits : (end : ℕ) → PacketTo (t .limit) run at end → Fits (y .progress) (length (packetAt run at end) + (length run - end)) (length (y .out))
   signal-fits end p =

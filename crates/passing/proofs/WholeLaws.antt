@@ -7,14 +7,16 @@ use mathlib.Core.List.{List, [], _++_, flatten}
 use native.Mathlib.Omega.{arith}
 use lib.ListN.{length, drop}
 use Rattle.meaning.specs.Bytes.{Bytes}
-use Rattle.meaning.specs.Sets.{Words}
 use Rattle.meaning.specs.Writing.{Wrote}
+use Rattle.meaning.specs.Sets.{Words}
 use Rattle.meaning.specs.Packets.{Cut, cut}
-use Rattle.meaning.specs.Learn.{Limits, Known}
+use Rattle.meaning.specs.Rooms.{packetLimit}
+use Rattle.meaning.specs.Learn.{Known}
 use Rattle.meaning.specs.Rules.{drops, ready}
-use Rattle.meaning.specs.Refusals.{packetLimit}
 use Rattle.meaning.specs.Record.{State}
-use Rattle.meaning.specs.Push.{Passed, pass, Pushed, pushed, filtered, countsOf}
+use Rattle.meaning.specs.Calls.{countsOf}
+use Rattle.meaning.specs.Push.{Passed, pass, Outcome, outcome, filtered}
+use Rattle.meaning.specs.declared.Limits.{Limits}
 use Rattle.meaning.specs.declared.Options.{Options}
 use Rattle.meaning.specs.declared.Counts.{Counts}
 use Rattle.meaning.proofs.Writes.{wrote-none}
@@ -29,11 +31,11 @@ abbrev pub begun : Extent → Bool → Progress
 begun e is = record { extent = e; counts = countsOf 0; ready = is }
 
 module _ (L : Limits) (o : Options) (k : Known) (d : Bytes) where
-  pub begins : (e : Extent) (is : Bool) (carousels packages maps room heads : List ℕ) (bodies : Bytes) (set : Words)
-      → Holding (L .total) k e carousels packages maps room heads bodies → SetIs (drops o k) set → is ≡ ready (o .service) k → e .lost ≡ 0
-      → Sofar L o k d [] 0 (begun e is) carousels packages maps room heads bodies set d
+  pub begins : (e : Extent) (is : Bool) (data-set packages map-heads map-room fragment-heads : List ℕ) (bodies : Bytes) (set : Words)
+      → Holding (L .total) k e data-set packages map-heads map-room fragment-heads bodies → SetIs (drops o k) set → is ≡ ready (o .service) k → e .lost ≡ 0
+      → Sofar L o k d [] 0 (begun e is) data-set packages map-heads map-room fragment-heads bodies set d
   unfolding pass flatten
-  begins e is carousels packages maps room heads bodies set h t y l =
+  begins e is data-set packages map-heads map-room fragment-heads bodies set h t y l =
       record { holding = h; set-is = t; ready-is = y; lost-is = l; counts-are = refl; written = wrote-none d 0 }
 
   -- With its lost maps, the counts of a call that ends.
@@ -48,8 +50,8 @@ module _ (L : Limits) (o : Options) (k : Known) (d : Bytes) where
   }
 
   -- What a call over held bytes and chunk comes to.
-  pub record Ended (x : Pushed) (p : Progress) (carousels packages maps room heads : List ℕ) (bodies out : Bytes) : Type 0 where
-    pub holding : Holding (L .total) (x .state .known) (p .extent) carousels packages maps room heads bodies
+  pub record Ended (x : Outcome) (p : Progress) (data-set packages map-heads map-room fragment-heads : List ℕ) (bodies out : Bytes) : Type 0 where
+    pub holding : Holding (L .total) (x .state .known) (p .extent) data-set packages map-heads map-room fragment-heads bodies
     pub counts-are : ended p ≡ x .counts
     pub written : Wrote (flatten (x .out)) d 0 out (x .counts .bytes)
 
@@ -64,15 +66,15 @@ module _ (L : Limits) (o : Options) (k : Known) (d : Bytes) where
     unfolding filtered
     held-same = ap (λ (c : Cut). c .held) (sym cut-same)
 
-    pub ends : (p : Progress) (carousels packages maps room heads : List ℕ) (bodies : Bytes) (set : Words) (out : Bytes)
-        → Sofar L o k d ([] ++ cut limit (drop 0 run) .packets) (0 + cut limit (drop 0 run) .skipped) p carousels packages maps room heads bodies set out
-        → Ended (filtered L o st chunk) p carousels packages maps room heads bodies out
+    pub ends : (p : Progress) (data-set packages map-heads map-room fragment-heads : List ℕ) (bodies : Bytes) (set : Words) (out : Bytes)
+        → Sofar L o k d ([] ++ cut limit (drop 0 run) .packets) (0 + cut limit (drop 0 run) .skipped) p data-set packages map-heads map-room fragment-heads bodies set out
+        → Ended (filtered L o st chunk) p data-set packages map-heads map-room fragment-heads bodies out
     unfolding filtered
-    ends p carousels packages maps room heads bodies set out f =
+    ends p data-set packages map-heads map-room fragment-heads bodies set out f =
         let c : Cut = cut limit (drop 0 run) in
         let x : Passed = pass L o k (c .packets) in
         let z : 0 + c .skipped ≡ c .skipped = omega arith in
-        let counts : ended p ≡ pushed c x .counts =
+        let counts : ended p ≡ outcome c x .counts =
         λ i. record {
           bytes = f .counts-are i .bytes;
           accepted = f .counts-are i .accepted;
@@ -85,8 +87,8 @@ module _ (L : Limits) (o : Options) (k : Known) (d : Bytes) where
         rw cut-same (record { holding = f .holding; counts-are = counts; written = subst (λ (n : ℕ). Wrote (flatten (x .out)) d 0 out n) b (f .written) })
 
 -- Room for a whole call: it begins with zero counts.
-pub begins-fit : (e : Extent) (is : Bool) (n room : ℕ) → e .lost ≡ 0 → n ≤ room → n ≤ 131078 → Fits (begun e is) n room
-begins-fit e is n room l h w = record {
+pub begins-fit : (e : Extent) (is : Bool) (n map-room : ℕ) → e .lost ≡ 0 → n ≤ map-room → n ≤ 131078 → Fits (begun e is) n map-room
+begins-fit e is n map-room l h w = record {
   bytes-fit = omega arith;
   accepted-fit = omega arith;
   written-fit = omega arith;

@@ -6,13 +6,14 @@ use mathlib.Core.List.{List, _++_, flatten}
 use mathlib.Core.Option.{Option, Option·getD}
 use lib.ListN.{length, drop}
 use Rattle.meaning.specs.Bytes.{Bytes}
-use Rattle.meaning.specs.Sets.{Words}
 use Rattle.meaning.specs.Writing.{Wrote}
+use Rattle.meaning.specs.Sets.{Words}
+use Rattle.meaning.specs.Lists.{isSome}
 use Rattle.meaning.specs.Packets.{stepOf, cut}
-use Rattle.meaning.specs.Narrow.{isSome}
-use Rattle.meaning.specs.Learn.{Limits, Known}
+use Rattle.meaning.specs.Learn.{Known}
 use Rattle.meaning.specs.Rules.{drops, ready}
 use Rattle.meaning.specs.Push.{Passed, pass}
+use Rattle.meaning.specs.declared.Limits.{Limits}
 use Rattle.meaning.specs.declared.Options.{Options}
 use Rattle.meaning.specs.declared.Step.the-variants.{Keep}
 use Rattle.meaning.specs.declared.Counts.{Counts}
@@ -38,16 +39,16 @@ Emitted false y p c d r d′ =
 
 -- The set and readiness are worked out anew, or stay.
 abbrev pub Refreshed : Bool → Options → Extent → Bool → List ℕ → List ℕ → List ℕ → List ℕ → Words → Bool → Words → Type 0
-Refreshed true o e was carousels packages maps room set r set′ =
-    (k : Known) → Keeps k e carousels packages maps room → SetIs (drops o k) set′ × (r ≡ ready (o .service) k)
-Refreshed false o e was carousels packages maps room set r set′ = (r ≡ was) × (set′ ≡ set)
+Refreshed true o e was data-set packages map-heads map-room set r set′ =
+    (k : Known) → Keeps k e data-set packages map-heads map-room → SetIs (drops o k) set′ × (r ≡ ready (o .service) k)
+Refreshed false o e was data-set packages map-heads map-room set r set′ = (r ≡ was) × (set′ ≡ set)
 
 -- ---- how far a run has come
 
 -- There is room for what n more bytes may bring: each packet has a byte at least, and loses no more maps than it and the fragment room
 -- have bytes.
-pub record Fits (s : Progress) (n room : ℕ) : Type 0 where
-  pub bytes-fit : s .counts .bytes + n ≤ room
+pub record Fits (s : Progress) (n map-room : ℕ) : Type 0 where
+  pub bytes-fit : s .counts .bytes + n ≤ map-room
   pub accepted-fit : s .counts .accepted + n ≤ 18446744073709551615
   pub written-fit : s .counts .written + n ≤ 18446744073709551615
   pub rewritten-fit : s .counts .rewritten + n ≤ 18446744073709551615
@@ -60,8 +61,8 @@ countsFor x accepted skipped =
     record { bytes = length (flatten (x .out)); accepted = accepted; written = length (x .out); rewritten = x .rewritten; skipped = skipped; lost = 0 }
 
 -- From k, over the packets ps and so many skipped bytes, with d as the output before.
-pub record Sofar (L : Limits) (o : Options) (k : Known) (d : Bytes) (ps : List Bytes) (skipped : ℕ) (s : Progress) (carousels packages maps room heads : List ℕ) (bodies : Bytes) (set : Words) (out : Bytes) : Type 0 where
-  pub holding : Holding (L .total) (pass L o k ps .known) (s .extent) carousels packages maps room heads bodies
+pub record Sofar (L : Limits) (o : Options) (k : Known) (d : Bytes) (ps : List Bytes) (skipped : ℕ) (s : Progress) (data-set packages map-heads map-room fragment-heads : List ℕ) (bodies : Bytes) (set : Words) (out : Bytes) : Type 0 where
+  pub holding : Holding (L .total) (pass L o k ps .known) (s .extent) data-set packages map-heads map-room fragment-heads bodies
   pub set-is : SetIs (drops o (pass L o k ps .known)) set
   pub ready-is : s .ready ≡ ready (o .service) (pass L o k ps .known)
   pub lost-is : s .extent .lost ≡ pass L o k ps .lost
@@ -69,17 +70,17 @@ pub record Sofar (L : Limits) (o : Options) (k : Known) (d : Bytes) (ps : List B
   pub written : Wrote (flatten (pass L o k ps .out)) d 0 out (s .counts .bytes)
 
 abbrev pub SofarSome : Terms → Progress → List ℕ → List ℕ → List ℕ → List ℕ → List ℕ → Bytes → Words → Bytes → Type 0
-SofarSome t s carousels packages maps room heads bodies set out =
+SofarSome t s data-set packages map-heads map-room fragment-heads bodies set out =
     (L : Limits) × (k : Known) × (d : Bytes) × (ps : List Bytes) × (n : ℕ) × (L .most ≡ t .most)
-    × Sofar L (t .options) k d ps n s carousels packages maps room heads bodies set out
+    × Sofar L (t .options) k d ps n s data-set packages map-heads map-room fragment-heads bodies set out
 
 -- Whatever run it was, it has come further by these packets and skipped bytes.
 abbrev pub SofarAfter : List Bytes → ℕ → Terms → Progress → List ℕ → List ℕ → List ℕ → List ℕ → List ℕ → Bytes → Words → Bytes
     → Progress → List ℕ → List ℕ → List ℕ → List ℕ → List ℕ → Bytes → Words → Bytes → Type 0
-SofarAfter qs m t s carousels packages maps room heads bodies set out r carousels′ packages′ maps′ room′ heads′ bodies′ set′ out′ =
+SofarAfter qs m t s data-set packages map-heads map-room fragment-heads bodies set out r data-set′ packages′ map-heads′ map-room′ fragment-heads′ bodies′ set′ out′ =
     (L : Limits) (k : Known) (d : Bytes) (ps : List Bytes) (n : ℕ) → L .most ≡ t .most
-    → Sofar L (t .options) k d ps n s carousels packages maps room heads bodies set out
-    → Sofar L (t .options) k d (ps ++ qs) (n + m) r carousels′ packages′ maps′ room′ heads′ bodies′ set′ out′
+    → Sofar L (t .options) k d ps n s data-set packages map-heads map-room fragment-heads bodies set out
+    → Sofar L (t .options) k d (ps ++ qs) (n + m) r data-set′ packages′ map-heads′ map-room′ fragment-heads′ bodies′ set′ out′
 
 -- ---- the steps by number
 
@@ -120,16 +121,16 @@ pub record Along (run : Bytes) (from : ℕ) (t : Terms) (s : Progress) (set : Wo
   pub forth : from ≤ at
   pub inside : at ≤ length run
   pub cut-is : cut (t .limit) (drop from run) ≡ ahead packets skipped (cut (t .limit) (drop at run))
-  pub moved : (carousels packages maps room heads : List ℕ) (bodies : Bytes)
-      → SofarAfter packets skipped t s carousels packages maps room heads bodies set out r carousels packages maps room heads bodies set out′
+  pub moved : (data-set packages map-heads map-room fragment-heads : List ℕ) (bodies : Bytes)
+      → SofarAfter packets skipped t s data-set packages map-heads map-room fragment-heads bodies set out r data-set packages map-heads map-room fragment-heads bodies set out′
   pub fits : Fits r (length run - at) (length out′)
 
 -- ---- a run
 
--- All packets of the run from a place on, and where the bytes to keep begin.
+-- All packets of the run from an offset on, and where the bytes to keep begin.
 abbrev pub ScannedAs : Bytes → ℕ → Terms → Progress → List ℕ → List ℕ → List ℕ → List ℕ → List ℕ → Bytes → Words → Bytes
     → Scanned → List ℕ → List ℕ → List ℕ → List ℕ → List ℕ → Bytes → Words → Bytes → Type 0
-ScannedAs run from t s carousels packages maps room heads bodies set out r carousels′ packages′ maps′ room′ heads′ bodies′ set′ out′ =
-    SofarAfter (cut (t .limit) (drop from run) .packets) (cut (t .limit) (drop from run) .skipped) t s carousels packages maps room heads bodies set out
-    (r .progress) carousels′ packages′ maps′ room′ heads′ bodies′ set′ out′
+ScannedAs run from t s data-set packages map-heads map-room fragment-heads bodies set out r data-set′ packages′ map-heads′ map-room′ fragment-heads′ bodies′ set′ out′ =
+    SofarAfter (cut (t .limit) (drop from run) .packets) (cut (t .limit) (drop from run) .skipped) t s data-set packages map-heads map-room fragment-heads bodies set out
+    (r .progress) data-set′ packages′ map-heads′ map-room′ fragment-heads′ bodies′ set′ out′
     × (drop (r .at) run ≡ cut (t .limit) (drop from run) .held) × (r .at ≤ length run)

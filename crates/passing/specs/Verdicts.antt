@@ -35,7 +35,7 @@ pub record Signals (p : Bytes) (body id : ℕ) (w : Bool) : Type 0 where
   pub behind-head : 16 ≤ body
   pub inside : body ≤ length p
   pub identifier-fits : id < 65536
-  pub read : mmtpOf p ≡ some (record { identifier = id; kind = 2; rewritable = w; payload = drop body p })
+  pub read : mmtpOf p ≡ some (record { identifier = id; payload-type = 2; rewritable = w; payload = drop body p })
 
 abbrev pub VerdictIs : Bytes → Words → Bool → Verdict → Type 0
 VerdictIs p ws ready Verdict.Pass = Plain p ws ready false

@@ -64,13 +64,13 @@ fn verdict_of(p: &[u8], set: &[u64; 1024], is_ready: bool) -> Verdict
     let Mmtp::Read {
         body,
         identifier,
-        kind,
+        payload_type,
         rewritable,
     } = mmtp_of(p)
     else {
         return Verdict::Pass;
     };
-    if kind == 2 {
+    if payload_type == 2 {
         return Verdict::Signalling(Signal {
             body,
             id: identifier,
@@ -140,31 +140,31 @@ fn refreshed(
     e: Extent,
     was: bool,
     o: Options,
-    carousels: &[u64; 1024],
+    data_set: &[u64; 1024],
     packages: &[u32; 255],
-    maps: &[u32; 64],
-    room: &[u16],
+    map_heads: &[u32; 64],
+    map_room: &[u16],
     set: &mut [u64; 1024],
 ) -> bool
-    requires { ⌜ ((k : Known) × Keeps k e (now carousels) (now packages) (now maps) (now room)) ⌝ }
-    ensures { λ r. ⌜ Refreshed (e .changed) o e was (now (carousels .entry)) (now (packages .entry)) (now (maps .entry)) (now (room .entry)) (now (set .entry)) r (now (set .exit)) ⌝ }
+    requires { ⌜ ((k : Known) × Keeps k e (now «data_set») (now packages) (now «map_heads») (now «map_room»)) ⌝ }
+    ensures { λ r. ⌜ Refreshed (e .changed) o e was (now («data_set» .entry)) (now (packages .entry)) (now («map_heads» .entry)) (now («map_room» .entry)) (now (set .entry)) r (now (set .exit)) ⌝ }
 {
     if !e.changed {
         return was;
     }
-    decide(o, e, carousels, packages, maps, room, set);
+    decide(o, e, data_set, packages, map_heads, map_room, set);
     let service = o.service;
-    ready(service, e, packages, maps)
+    ready(service, e, packages, map_heads)
 }
 
 fn unchanged(e: Extent) -> Extent
-    ensures { λ r. ⌜ r ≡ record { seen = e .seen; packages = e .packages; maps = e .maps; fragments = e .fragments; lost = e .lost; changed = false } ⌝ }
+    ensures { λ r. ⌜ r ≡ record { seen = e .seen; «package_count» = e .«package_count»; «map_count» = e .«map_count»; «fragment_count» = e .«fragment_count»; lost = e .lost; changed = false } ⌝ }
 {
     Extent {
         seen: e.seen,
-        packages: e.packages,
-        maps: e.maps,
-        fragments: e.fragments,
+        package_count: e.package_count,
+        map_count: e.map_count,
+        fragment_count: e.fragment_count,
         lost: e.lost,
         changed: false,
     }
@@ -176,17 +176,17 @@ fn signalling(
     signal: Signal,
     s: Progress,
     t: Terms,
-    carousels: &mut [u64; 1024],
+    data_set: &mut [u64; 1024],
     packages: &mut [u32; 255],
-    maps: &mut [u32; 64],
-    room: &mut [u16],
-    heads: &mut [u64; 256],
+    map_heads: &mut [u32; 64],
+    map_room: &mut [u16],
+    fragment_heads: &mut [u64; 256],
     bodies: &mut [u8],
     set: &mut [u64; 1024],
     out: &mut [u8],
 ) -> Progress
-    requires { ⌜ Signals (now p) (signal .body) (signal .id) (signal .rewritable) × Fits s (length (now p)) (length (now out)) × SofarSome t s (now carousels) (now packages) (now maps) (now room) (now heads) (now bodies) (now set) (now out) ⌝ }
-    ensures { λ r. ⌜ SofarAfter (now (p .entry) ∷ []) 0 t s (now (carousels .entry)) (now (packages .entry)) (now (maps .entry)) (now (room .entry)) (now (heads .entry)) (now (bodies .entry)) (now (set .entry)) (now (out .entry)) r (now (carousels .exit)) (now (packages .exit)) (now (maps .exit)) (now (room .exit)) (now (heads .exit)) (now (bodies .exit)) (now (set .exit)) (now (out .exit)) × ((m : ℕ) → Fits s (length (now (p .entry)) + m) (length (now (out .entry))) → Fits r m (length (now (out .exit)))) ⌝ }
+    requires { ⌜ Signals (now p) (signal .body) (signal .id) (signal .rewritable) × Fits s (length (now p)) (length (now out)) × SofarSome t s (now «data_set») (now packages) (now «map_heads») (now «map_room») (now «fragment_heads») (now bodies) (now set) (now out) ⌝ }
+    ensures { λ r. ⌜ SofarAfter (now (p .entry) ∷ []) 0 t s (now («data_set» .entry)) (now (packages .entry)) (now («map_heads» .entry)) (now («map_room» .entry)) (now («fragment_heads» .entry)) (now (bodies .entry)) (now (set .entry)) (now (out .entry)) r (now («data_set» .exit)) (now (packages .exit)) (now («map_heads» .exit)) (now («map_room» .exit)) (now («fragment_heads» .exit)) (now (bodies .exit)) (now (set .exit)) (now (out .exit)) × ((m : ℕ) → Fits s (length (now (p .entry)) + m) (length (now (out .entry))) → Fits r m (length (now (out .exit)))) ⌝ }
 {
     let o = t.options;
     let c = s.counts;
@@ -197,14 +197,14 @@ fn signalling(
         signal.id,
         t.most,
         before,
-        carousels,
+        data_set,
         packages,
-        maps,
-        room,
-        heads,
+        map_heads,
+        map_room,
+        fragment_heads,
         bodies,
     );
-    let is_ready = refreshed(e, s.ready, o, carousels, packages, maps, room, set);
+    let is_ready = refreshed(e, s.ready, o, data_set, packages, map_heads, map_room, set);
     let d = emit(p, signal, o, c, set, out);
     Progress {
         extent: e,
@@ -423,17 +423,17 @@ pub fn packets(
     from: usize,
     first: Progress,
     t: Terms,
-    carousels: &mut [u64; 1024],
+    data_set: &mut [u64; 1024],
     packages: &mut [u32; 255],
-    maps: &mut [u32; 64],
-    room: &mut [u16],
-    heads: &mut [u64; 256],
+    map_heads: &mut [u32; 64],
+    map_room: &mut [u16],
+    fragment_heads: &mut [u64; 256],
     bodies: &mut [u8],
     set: &mut [u64; 1024],
     out: &mut [u8],
 ) -> Scanned
-    requires { ⌜ (from ≤ length (now run)) × Fits first (length (now run) - from) (length (now out)) × SofarSome t first (now carousels) (now packages) (now maps) (now room) (now heads) (now bodies) (now set) (now out) ⌝ }
-    ensures { λ r. ⌜ ScannedAs (now (run .entry)) from t first (now (carousels .entry)) (now (packages .entry)) (now (maps .entry)) (now (room .entry)) (now (heads .entry)) (now (bodies .entry)) (now (set .entry)) (now (out .entry)) r (now (carousels .exit)) (now (packages .exit)) (now (maps .exit)) (now (room .exit)) (now (heads .exit)) (now (bodies .exit)) (now (set .exit)) (now (out .exit)) ⌝ }
+    requires { ⌜ (from ≤ length (now run)) × Fits first (length (now run) - from) (length (now out)) × SofarSome t first (now «data_set») (now packages) (now «map_heads») (now «map_room») (now «fragment_heads») (now bodies) (now set) (now out) ⌝ }
+    ensures { λ r. ⌜ ScannedAs (now (run .entry)) from t first (now («data_set» .entry)) (now (packages .entry)) (now («map_heads» .entry)) (now («map_room» .entry)) (now («fragment_heads» .entry)) (now (bodies .entry)) (now (set .entry)) (now (out .entry)) r (now («data_set» .exit)) (now (packages .exit)) (now («map_heads» .exit)) (now («map_room» .exit)) (now («fragment_heads» .exit)) (now (bodies .exit)) (now (set .exit)) (now (out .exit)) ⌝ }
 {
     let mut s = first;
     let mut at = from;
@@ -449,11 +449,11 @@ pub fn packets(
             signal,
             x.progress,
             t,
-            carousels,
+            data_set,
             packages,
-            maps,
-            room,
-            heads,
+            map_heads,
+            map_room,
+            fragment_heads,
             bodies,
             set,
             out,

@@ -67,16 +67,16 @@ next-ends word n w = omega (arith, w .end, item-long word n)
 
 -- ---- the line of the sums, from its parts
 
-pub sums-put : (c : Counts) (held : ℕ) {d d₁ d₂ d₃ d₄ d₅ d₆ d₇ : Bytes} {r₁ r₂ r₃ r₄ r₅ r₆ r₇ : ℕ}
+pub sums-put : (c : Counts) (held-count : ℕ) {d d₁ d₂ d₃ d₄ d₅ d₆ d₇ : Bytes} {r₁ r₂ r₃ r₄ r₅ r₆ r₇ : ℕ}
     → Wrote (item (0x70 ∷ 0x61 ∷ 0x63 ∷ 0x6B ∷ 0x65 ∷ 0x74 ∷ 0x73 ∷ []) (c .accepted)) d 0 d₁ r₁
     → Wrote (0x20 ∷ item (0x77 ∷ 0x72 ∷ 0x69 ∷ 0x74 ∷ 0x74 ∷ 0x65 ∷ 0x6E ∷ []) (c .written)) d₁ r₁ d₂ r₂
     → Wrote (0x20 ∷ item (0x72 ∷ 0x65 ∷ 0x77 ∷ 0x72 ∷ 0x69 ∷ 0x74 ∷ 0x74 ∷ 0x65 ∷ 0x6E ∷ []) (c .rewritten)) d₂ r₂ d₃ r₃
     → Wrote (0x20 ∷ item (0x73 ∷ 0x6B ∷ 0x69 ∷ 0x70 ∷ 0x70 ∷ 0x65 ∷ 0x64 ∷ []) (c .skipped)) d₃ r₃ d₄ r₄
-    → Wrote (0x20 ∷ item (0x68 ∷ 0x65 ∷ 0x6C ∷ 0x64 ∷ []) held) d₄ r₄ d₅ r₅
+    → Wrote (0x20 ∷ item (0x68 ∷ 0x65 ∷ 0x6C ∷ 0x64 ∷ []) held-count) d₄ r₄ d₅ r₅
     → Wrote (0x20 ∷ item (0x6C ∷ 0x6F ∷ 0x73 ∷ 0x74 ∷ []) (c .lost)) d₅ r₅ d₆ r₆
     → Wrote (0x0A ∷ []) d₆ r₆ d₇ r₇
-    → (r₇ ≤ length d₇) × ((s : Sums) → s .counts ≡ c → length (s .state .held) ≡ held → Wrote (sumsLine s) d 0 d₇ r₇)
+    → (r₇ ≤ length d₇) × ((s : Sums) → s .counts ≡ c → length (s .state .held) ≡ held-count → Wrote (sumsLine s) d 0 d₇ r₇)
 unfolding sumsLine
-sums-put c held p w x k h l n =
+sums-put c held-count p w x k h l n =
     let u = wrote-then (wrote-then (wrote-then (wrote-then (wrote-then (wrote-then p w) x) k) h) l) n in
     (wrote-within u, λ s e q. rw (e, q) u)

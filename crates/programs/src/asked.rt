@@ -2,8 +2,8 @@
 // `answerNumber` of its specs/Refusals.antt.
 ghost use mathlib.Core.Path.{_≡_};
 ghost use Prim.Native.Nat.{_/_, _%_};
-ghost use Rattle.meaning.specs.Programs.{serviceIf, optionsOf};
 ghost use Rattle.meaning.specs.Refusals.{numberOf, answerNumber};
+ghost use Rattle.meaning.specs.Programs.{serviceIf, optionsOf};
 use meaning::Answer;
 use meaning::Options;
 use meaning::Refusal;

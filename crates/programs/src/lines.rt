@@ -18,7 +18,7 @@ fn digit(n: usize) -> u8
     (48 + n) as u8
 }
 
-// Writes a number in at most `most` decimal digits at `to`; answers the place past them.
+// Writes a number in at most `most` decimal digits at `to`; answers the offset past them.
 fn put_digits(out: &mut [u8], to: usize, most: usize, n: usize) -> usize
     requires { ⌜ to + most ≤ length (now out) ⌝ }
     ensures { λ r. ⌜ Wrote (digits most n) (now (out .entry)) to (now (out .exit)) r ⌝ }
@@ -33,7 +33,7 @@ fn put_digits(out: &mut [u8], to: usize, most: usize, n: usize) -> usize
     put8(out, last, digit(n % 10))
 }
 
-// Writes a word, a space and a number at `to`; answers the place past them.
+// Writes a word, a space and a number at `to`; answers the offset past them.
 fn put_item(word: &[u8], n: usize, out: &mut [u8], to: usize) -> usize
     requires { ⌜ to + length (now word) + 21 ≤ length (now out) ⌝ }
     ensures { λ r. ⌜ Wrote (item (now (word .entry)) n) (now (out .entry)) to (now (out .exit)) r ⌝ }
@@ -62,15 +62,15 @@ pub fn put_refused(number: u8, out: &mut [u8]) -> usize
 }
 
 // Writes the line of the sums; answers its length.
-pub fn put_sums(c: Counts, held: usize, out: &mut [u8]) -> usize
+pub fn put_sums(c: Counts, held_count: usize, out: &mut [u8]) -> usize
     requires { ⌜ 170 ≤ length (now out) ⌝ }
-    ensures { λ r. ⌜ (r ≤ length (now (out .exit))) × ((s : Sums) → s .counts ≡ c → length (s .state .held) ≡ held → Wrote (sumsLine s) (now (out .entry)) 0 (now (out .exit)) r) ⌝ }
+    ensures { λ r. ⌜ (r ≤ length (now (out .exit))) × ((s : Sums) → s .counts ≡ c → length (s .state .held) ≡ «held_count» → Wrote (sumsLine s) (now (out .entry)) 0 (now (out .exit)) r) ⌝ }
 {
     let a = put_item(b"packets", c.accepted, out, 0);
     let b = put_next(b"written", c.written, out, a);
     let d = put_next(b"rewritten", c.rewritten, out, b);
     let e = put_next(b"skipped", c.skipped, out, d);
-    let f = put_next(b"held", held, out, e);
+    let f = put_next(b"held", held_count, out, e);
     let g = put_next(b"lost", c.lost, out, f);
     put8(out, g, 10)
 }

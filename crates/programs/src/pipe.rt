@@ -1,5 +1,5 @@
 // Standard input and standard output. A call that a signal interrupted is begun again, one that moved a part is gone on with; one that
-// fails is told in a line on standard error, and its caller ends the run. Over `libc`, whose contracts are assumed. Proved: every call
+// fails is told in a line on standard error, and its caller ends the program. Over `libc`, whose contracts are assumed. Proved: every call
 // gets a part of the slice that was lent, every count lies within it, every loop ends. No contract can say which bytes are moved.
 ghost use mathlib.Core.Path.{_≡_};
 ghost use Prim.Native.Nat.{_≤_};
@@ -38,7 +38,7 @@ fn read_some(buf: &mut [u8]) -> Filled
     read_failed()
 }
 
-// Reads until the slice is full or the input ends. What came before a read that failed is not told: the run ends with it.
+// Reads until the slice is full or the input ends. What came before a read that failed is not told: the program ends with it.
 pub fn fill(buf: &mut [u8]) -> Filled
     ensures { λ r. ⌜ cameOf r ≤ length (now (buf .exit)) ⌝ }
 {
@@ -142,7 +142,7 @@ pub fn close_output() {
     }
 }
 
-// Writes the last bytes of a run.
+// Writes the last bytes of a program.
 pub fn write_last(bytes: &[u8]) {
     if write_all(bytes) {
         close_output();

@@ -9,14 +9,17 @@ use lib.ListN.{length, take, drop, length-append, length-drop}
 use lib.Seq.{length-take-le, take-nil}
 use native.Mathlib.Nat.{sub-zero, zero-sub, suc-sub-suc}
 use Rattle.meaning.specs.Bytes.{Bytes}
-use Rattle.meaning.specs.Sets.{Words}
 use Rattle.meaning.specs.Writing.{Wrote}
+use Rattle.meaning.specs.Sets.{Words}
 use Rattle.meaning.specs.Packets.{cut}
-use Rattle.meaning.specs.Learn.{Limits, Known}
-use Rattle.meaning.specs.Rules.{copiesAll, drops, ready}
-use Rattle.meaning.specs.Refusals.{packetLimit}
-use Rattle.meaning.specs.Push.{Pushed, filtered, push, countsOf}
+use Rattle.meaning.specs.Wishes.{copiesAll}
+use Rattle.meaning.specs.Rooms.{packetLimit}
+use Rattle.meaning.specs.Learn.{Known}
+use Rattle.meaning.specs.Rules.{drops, ready}
 use Rattle.meaning.specs.Record.{State}
+use Rattle.meaning.specs.Calls.{countsOf}
+use Rattle.meaning.specs.Push.{Outcome, filtered, push}
+use Rattle.meaning.specs.declared.Limits.{Limits}
 use Rattle.meaning.specs.declared.Options.{Options}
 use Rattle.meaning.specs.declared.Counts.{Counts}
 use Rattle.learning.specs.Kept.{Keeps}
@@ -27,8 +30,8 @@ use Rattle.passing.specs.declared.Terms.{Terms}
 use Rattle.passing.specs.declared.Progress.{Progress}
 use Rattle.passing.specs.Passing.{Fits, Sofar, SofarSome}
 use Rattle.passing.proofs.WholeLaws.{begins, ended, ends, held-same, begins-fit}
-use Rattle.recorder.specs.declared.call.Ran.{Ran}
-use Rattle.recorder.specs.Calls.{RanAs}
+use Rattle.recorder.specs.declared.call.CarriedOut.{CarriedOut}
+use Rattle.recorder.specs.Calls.{CarriedOutAs}
 
 -- ---- the work room
 
@@ -38,18 +41,18 @@ drop-take (suc a) zero l = ap (λ (m : ℕ). take m (drop (suc a) l)) (sym (zero
 drop-take (suc a) (suc n) [] = sym (take-nil (suc n - suc a))
 drop-take (suc a) (suc n) (x ∷ l) = drop-take a n l ∙ ap (λ (m : ℕ). take m (drop a l)) (sym (suc-sub-suc n a))
 
-module _ (held : ℕ) (chunk work work₁ : Bytes) (n : ℕ) (w : Wrote chunk work held work₁ n) (fit : held + length chunk ≤ length work) (long : length work₁ ≡ length work) where
+module _ (held-count : ℕ) (chunk work work₁ : Bytes) (n : ℕ) (w : Wrote chunk work held-count work₁ n) (fit : held-count + length chunk ≤ length work) (long : length work₁ ≡ length work) where
   abbrev pub runOf : Bytes
   runOf = take (n - 0) (drop 0 work₁)
 
   whole : n - 0 ≡ n
   whole = omega arith
 
-  pub run-is : runOf ≡ take held work ++ chunk
+  pub run-is : runOf ≡ take held-count work ++ chunk
   run-is = ap (λ (m : ℕ). take m work₁) whole ∙ w .front
 
-  pub run-length : length runOf ≡ held + length chunk
-  run-length = ap length run-is ∙ length-append (take held work) chunk ∙ ap (λ (m : ℕ). m + length chunk) (length-take-le held work (omega arith))
+  pub run-length : length runOf ≡ held-count + length chunk
+  run-length = ap length run-is ∙ length-append (take held-count work) chunk ∙ ap (λ (m : ℕ). m + length chunk) (length-take-le held-count work (omega arith))
 
   module _ (work₂ : Bytes) (at r : ℕ) (v : Wrote (take (n - at) (drop at work₁)) work₁ 0 work₂ r) (inside : at ≤ length runOf) where
     pub kept-is : take (n - at) work₂ ≡ drop at runOf
@@ -62,15 +65,15 @@ module _ (held : ℕ) (chunk work work₁ : Bytes) (n : ℕ) (w : Wrote chunk wo
 
 -- ---- a call begins
 
-module _ (t : Terms) (e : Extent) (is : Bool) (first : Progress) (carousels packages maps room heads : List ℕ) (bodies : Bytes) (set : Words) (out : Bytes) (begun : first ≡ record { extent = e; counts = countsOf 0; ready = is }) (lost : e .lost ≡ 0)
-    (decided : (k : Known) → Keeps k e carousels packages maps room → SetIs (drops (t .options) k) set)
-    (told : (k : Known) (cs r : List ℕ) → Keeps k e cs packages maps r → is ≡ ready (t .options .service) k) where
-  pub call-begins : (L : Limits) (k : Known) → Holding (L .total) k e carousels packages maps room heads bodies → Sofar L (t .options) k out [] 0 first carousels packages maps room heads bodies set out
+module _ (t : Terms) (e : Extent) (is : Bool) (first : Progress) (data-set packages map-heads map-room fragment-heads : List ℕ) (bodies : Bytes) (set : Words) (out : Bytes) (begun : first ≡ record { extent = e; counts = countsOf 0; ready = is }) (lost : e .lost ≡ 0)
+    (decided : (k : Known) → Keeps k e data-set packages map-heads map-room → SetIs (drops (t .options) k) set)
+    (told : (k : Known) (cs r : List ℕ) → Keeps k e cs packages map-heads r → is ≡ ready (t .options .service) k) where
+  pub call-begins : (L : Limits) (k : Known) → Holding (L .total) k e data-set packages map-heads map-room fragment-heads bodies → Sofar L (t .options) k out [] 0 first data-set packages map-heads map-room fragment-heads bodies set out
   call-begins L k h =
-      subst (λ (x : Progress). Sofar L (t .options) k out [] 0 x carousels packages maps room heads bodies set out) (sym begun)
-      (begins L (t .options) k out e is carousels packages maps room heads bodies set h (decided k (h .tables-kept)) (told k carousels room (h .tables-kept)) lost)
+      subst (λ (x : Progress). Sofar L (t .options) k out [] 0 x data-set packages map-heads map-room fragment-heads bodies set out) (sym begun)
+      (begins L (t .options) k out e is data-set packages map-heads map-room fragment-heads bodies set h (decided k (h .tables-kept)) (told k data-set map-room (h .tables-kept)) lost)
 
-  pub some-begins : HoldingSome e carousels packages maps room heads bodies → SofarSome t first carousels packages maps room heads bodies set out
+  pub some-begins : HoldingSome e data-set packages map-heads map-room fragment-heads bodies → SofarSome t first data-set packages map-heads map-room fragment-heads bodies set out
   some-begins h =
       let L : Limits = record { work = 0; total = h .0; most = t .most } in
       (L, h .1, out, [], 0, refl, call-begins L (h .1) (h .2))
@@ -81,27 +84,27 @@ module _ (t : Terms) (e : Extent) (is : Bool) (first : Progress) (carousels pack
 
 -- ---- a call ends
 
-module _ (L : Limits) (t : Terms) (k : Known) (held n at r : ℕ) (chunk work work₁ work₂ out out′ : Bytes) (w : Wrote chunk work held work₁ n) (fit : held + length chunk ≤ length work) (long : length work₁ ≡ length work)
+module _ (L : Limits) (t : Terms) (k : Known) (held-count n at r : ℕ) (chunk work work₁ work₂ out out′ : Bytes) (w : Wrote chunk work held-count work₁ n) (fit : held-count + length chunk ≤ length work) (long : length work₁ ≡ length work)
     (v : Wrote (take (n - at) (drop at work₁)) work₁ 0 work₂ r) (inside : at ≤ length (take (n - 0) (drop 0 work₁))) where
   abbrev run : Bytes
   run = take (n - 0) (drop 0 work₁)
 
-  pub call-ends : (p : Progress) (carousels packages maps room heads : List ℕ) (bodies : Bytes) (set : Words) (x : Ran) → t .limit ≡ packetLimit (length work) → L .work ≡ length work
-      → Sofar L (t .options) k out ([] ++ cut (t .limit) (drop 0 run) .packets) (0 + cut (t .limit) (drop 0 run) .skipped) p carousels packages maps room heads bodies set out′
+  pub call-ends : (p : Progress) (data-set packages map-heads map-room fragment-heads : List ℕ) (bodies : Bytes) (set : Words) (x : CarriedOut) → t .limit ≡ packetLimit (length work) → L .work ≡ length work
+      → Sofar L (t .options) k out ([] ++ cut (t .limit) (drop 0 run) .packets) (0 + cut (t .limit) (drop 0 run) .skipped) p data-set packages map-heads map-room fragment-heads bodies set out′
       → drop at run ≡ cut (t .limit) (drop 0 run) .held
-      → x ≡ record { extent = p .extent; counts = ended L (t .options) k out p; held = n - at }
-      → RanAs L (filtered L (t .options) (record { held = take held work; known = k }) chunk) out x carousels packages maps room heads bodies work₂ out′
-  call-ends p carousels packages maps room heads bodies set x limit same f d e =
+      → x ≡ record { extent = p .extent; counts = ended L (t .options) k out p; «held_count» = n - at }
+      → CarriedOutAs L (filtered L (t .options) (record { held = take held-count work; known = k }) chunk) out x data-set packages map-heads map-room fragment-heads bodies work₂ out′
+  call-ends p data-set packages map-heads map-room fragment-heads bodies set x limit same f d e =
       let o = t .options in
       let q : t .limit ≡ packetLimit (L .work) = limit ∙ ap packetLimit (sym same) in
-      let ri : run ≡ take held work ++ chunk = run-is held chunk work work₁ n w fit long in
-      let y = ends L o k out (take held work) chunk run (t .limit) ri q p carousels packages maps room heads bodies set out′ f in
-      let h : drop at run ≡ filtered L o (record { held = take held work; known = k }) chunk .state .held = d ∙ held-same L o k out (take held work) chunk run (t .limit) ri q in
-      subst (λ (z : Ran). RanAs L (filtered L o (record { held = take held work; known = k }) chunk) out z carousels packages maps room heads bodies work₂ out′) (sym e)
+      let ri : run ≡ take held-count work ++ chunk = run-is held-count chunk work work₁ n w fit long in
+      let y = ends L o k out (take held-count work) chunk run (t .limit) ri q p data-set packages map-heads map-room fragment-heads bodies set out′ f in
+      let h : drop at run ≡ filtered L o (record { held = take held-count work; known = k }) chunk .state .held = d ∙ held-same L o k out (take held-count work) chunk run (t .limit) ri q in
+      subst (λ (z : CarriedOut). CarriedOutAs L (filtered L o (record { held = take held-count work; known = k }) chunk) out z data-set packages map-heads map-room fragment-heads bodies work₂ out′) (sym e)
       (record {
         holding = y .holding;
-        held-is = kept-length held chunk work work₁ n w fit long work₂ at r v inside ∙ ap length h;
-        held-bytes = kept-is held chunk work work₁ n w fit long work₂ at r v inside ∙ h;
+        held-is = kept-length held-count chunk work work₁ n w fit long work₂ at r v inside ∙ ap length h;
+        held-bytes = kept-is held-count chunk work work₁ n w fit long work₂ at r v inside ∙ h;
         counts-are = y .counts-are;
         written = y .written;
       })
@@ -109,13 +112,13 @@ module _ (L : Limits) (t : Terms) (k : Known) (held n at r : ℕ) (chunk work wo
 -- ---- copy-all, or not
 
 -- Copy-all writes the chunk and leaves the rest; it holds nothing.
-pub all-copied : (L : Limits) (o : Options) (k : Known) (held : ℕ) (chunk work out out′ : Bytes) (e : Extent) (x : Ran) (carousels packages maps room heads : List ℕ) (bodies : Bytes)
-    → copiesAll o ≡ true → held ≡ 0 → x ≡ record { extent = e; counts = countsOf (length chunk); held = 0 } → Wrote chunk out 0 out′ (length chunk)
-    → Holding (L .total) k e carousels packages maps room heads bodies
-    → RanAs L (push L o (record { held = take held work; known = k }) chunk) out x carousels packages maps room heads bodies work out′
+pub all-copied : (L : Limits) (o : Options) (k : Known) (held-count : ℕ) (chunk work out out′ : Bytes) (e : Extent) (x : CarriedOut) (data-set packages map-heads map-room fragment-heads : List ℕ) (bodies : Bytes)
+    → copiesAll o ≡ true → held-count ≡ 0 → x ≡ record { extent = e; counts = countsOf (length chunk); «held_count» = 0 } → Wrote chunk out 0 out′ (length chunk)
+    → Holding (L .total) k e data-set packages map-heads map-room fragment-heads bodies
+    → CarriedOutAs L (push L o (record { held = take held-count work; known = k }) chunk) out x data-set packages map-heads map-room fragment-heads bodies work out′
 unfolding push flatten
-all-copied L o k held chunk work out out′ e x carousels packages maps room heads bodies all none q w h =
-    let z : take held work ≡ [] = ap (λ (n : ℕ). take n work) none in
+all-copied L o k held-count chunk work out out′ e x data-set packages map-heads map-room fragment-heads bodies all none q w h =
+    let z : take held-count work ≡ [] = ap (λ (n : ℕ). take n work) none in
     rw (all, q)
     (record {
       holding = h;
@@ -129,9 +132,9 @@ pub not-all : (L : Limits) (o : Options) (st : State) (chunk : Bytes) → copies
 unfolding push
 not-all L o st chunk e = rw e
 
-module _ {L : Limits} {x y : Pushed} {out : Bytes} {r : Ran} {carousels packages maps room heads : List ℕ} {bodies work out′ : Bytes} where
-  pub ran-as : x ≡ y → RanAs L x out r carousels packages maps room heads bodies work out′ → RanAs L y out r carousels packages maps room heads bodies work out′
-  ran-as e h = subst (λ (z : Pushed). RanAs L z out r carousels packages maps room heads bodies work out′) e h
+module _ {L : Limits} {x y : Outcome} {out : Bytes} {r : CarriedOut} {data-set packages map-heads map-room fragment-heads : List ℕ} {bodies work out′ : Bytes} where
+  pub ran-as : x ≡ y → CarriedOutAs L x out r data-set packages map-heads map-room fragment-heads bodies work out′ → CarriedOutAs L y out r data-set packages map-heads map-room fragment-heads bodies work out′
+  ran-as e h = subst (λ (z : Outcome). CarriedOutAs L z out r data-set packages map-heads map-room fragment-heads bodies work out′) e h
 
 pub wrote-to : {y d d′ : Bytes} {at n m : ℕ} → n ≡ m → Wrote y d at d′ n → Wrote y d at d′ m
 wrote-to {y} {d} {d′} {at} e w = subst (λ (k : ℕ). Wrote y d at d′ k) e w

@@ -1,5 +1,5 @@
 -- From a sound record to arrays that hold its state, once unused slots are zero, and from arrays that hold a state to its record and back
--- to the state. Rests on SoundLaws of `meaning`, on Kept and Observed of `learning` and on PartLaws of `soundness`.
+-- to the state. Rests on SoundnessLaws of `meaning`, on Kept and Observed of `learning` and on PartLaws of `soundness`.
 use Prim.Native.Nat.{ℕ, _+_, _-_, _≤_}
 use mathlib.Core.Path.{_≡_, refl, sym, ap, ap₂, _∙_, subst}
 use mathlib.Core.Bool.{Bool, true, false, _&&_}
@@ -11,12 +11,13 @@ use lib.Dec.{leb}
 use borrow.Author.Tests.{leb-true}
 use Rattle.meaning.specs.Bytes.{Bytes}
 use Rattle.meaning.specs.Lists.{all, sum}
-use Rattle.meaning.specs.Learn.{Limits, heldBytes}
-use Rattle.meaning.specs.Record.{State, slots, Record, packPair, pairOf, packHead, headIdentifier, headFlags, headLength, recordOf, fragmentsIn, stateOf, rising, distinct, soundPackages, soundMaps, soundFragments, sound}
-use Rattle.meaning.specs.Sound.{HoldsPackages, HoldsMaps, HoldsFragments, bodies}
+use Rattle.meaning.specs.Learn.{fragmentBytes}
+use Rattle.meaning.specs.Record.{State, slots, Record, packPair, pairOf, fragmentHead, fragmentIdentifier, fragmentFlags, fragmentLength, recordOf, fragmentsIn, stateOf, bodiesOf}
+use Rattle.meaning.specs.Soundness.{rising, distinct, soundPackages, soundMaps, soundFragments, sound, HoldsPackages, HoldsMaps, HoldsFragments}
+use Rattle.meaning.specs.declared.Limits.{Limits}
 use Rattle.meaning.specs.declared.Options.{Options}
 use Rattle.meaning.proofs.ListLaws.{and-both}
-use Rattle.meaning.proofs.SoundLaws.{HoldsState, state-holds, state-back}
+use Rattle.meaning.proofs.SoundnessLaws.{HoldsState, state-holds, state-back}
 use Rattle.fragments.specs.Fragments.{KeptFragments}
 use Rattle.learning.specs.Kept.{pairsIn, Pairs, KeptPackages, KeptMaps}
 use Rattle.fragments.specs.Fragments.{lens}
@@ -70,47 +71,47 @@ module _ (n : ℕ) (xs : List ℕ) where
 -- ---- fragments: the heads' lengths are within the room
 
 -- A head again of what it tells.
-head-again : (h : ℕ) (body : Bytes) → length body ≡ headLength h → packHead (record { identifier = headIdentifier h; flags = headFlags h; body = body }) ≡ h
-unfolding packHead headIdentifier headFlags headLength
+head-again : (h : ℕ) (body : Bytes) → length body ≡ fragmentLength h → fragmentHead (record { identifier = fragmentIdentifier h; flags = fragmentFlags h; body = body }) ≡ h
+unfolding fragmentHead fragmentIdentifier fragmentFlags fragmentLength
 head-again h body e = omega arith
 
-bodies-in : (hs : List ℕ) (room : Bytes) → bodies (fragmentsIn hs room) ≡ take (lens hs) room
-unfolding fragmentsIn bodies flatten lens sum
-bodies-in [] room = refl
-bodies-in (h ∷ hs) room =
-    ap (λ (s : Bytes). take (headLength h) room ++ s) (bodies-in hs (drop (headLength h) room)) ∙ sym (take-add (headLength h) (lens hs) room)
+bodies-in : (hs : List ℕ) (map-room : Bytes) → bodiesOf (fragmentsIn hs map-room) ≡ take (lens hs) map-room
+unfolding fragmentsIn bodiesOf flatten lens sum
+bodies-in [] map-room = refl
+bodies-in (h ∷ hs) map-room =
+    ap (λ (s : Bytes). take (fragmentLength h) map-room ++ s) (bodies-in hs (drop (fragmentLength h) map-room)) ∙ sym (take-add (fragmentLength h) (lens hs) map-room)
 
 -- The heads of the fragments that heads tell are these, and their bytes are so many.
-record Again (hs : List ℕ) (room : Bytes) : Type 0 where
-  pub heads-are : map packHead (fragmentsIn hs room) ≡ hs
-  pub bytes-are : heldBytes (fragmentsIn hs room) ≡ lens hs
+record Again (hs : List ℕ) (map-room : Bytes) : Type 0 where
+  pub fragment-heads-are : map fragmentHead (fragmentsIn hs map-room) ≡ hs
+  pub bytes-are : fragmentBytes (fragmentsIn hs map-room) ≡ lens hs
 
-heads-again : (hs : List ℕ) (room : Bytes) → lens hs ≤ length room → Again hs room
-unfolding fragmentsIn heldBytes lens sum
-heads-again [] room w = record { heads-are = refl; bytes-are = refl }
-heads-again (h ∷ hs) room w =
-    let n = headLength h in
-    let d : length (drop n room) ≡ length room - n = length-drop n room in
-    let l : length (take n room) ≡ n = length-take-le n room (omega arith) in
-    let r = heads-again hs (drop n room) (omega arith) in
+fragment-heads-again : (hs : List ℕ) (map-room : Bytes) → lens hs ≤ length map-room → Again hs map-room
+unfolding fragmentsIn fragmentBytes lens sum
+fragment-heads-again [] map-room w = record { fragment-heads-are = refl; bytes-are = refl }
+fragment-heads-again (h ∷ hs) map-room w =
+    let n = fragmentLength h in
+    let d : length (drop n map-room) ≡ length map-room - n = length-drop n map-room in
+    let l : length (take n map-room) ≡ n = length-take-le n map-room (omega arith) in
+    let r = fragment-heads-again hs (drop n map-room) (omega arith) in
     record {
-      heads-are = ap₂ (λ (x : ℕ) (ys : List ℕ). x ∷ ys) (head-again h (take n room) l) (r .heads-are);
+      fragment-heads-are = ap₂ (λ (x : ℕ) (ys : List ℕ). x ∷ ys) (head-again h (take n map-room) l) (r .fragment-heads-are);
       bytes-are = ap₂ (λ (x y : ℕ). x + y) l (r .bytes-are);
     }
 
-pub fragments-kept : (T n : ℕ) (hs : List ℕ) (room : Bytes) → soundFragments T n hs ≡ true → length hs ≡ 256 → length room ≡ T → T ≤ 16777216
-    → HoldsFragments T (fragmentsIn (take n hs) room) → KeptFragments T (fragmentsIn (take n hs) room) n (cleared n hs) room
+pub fragments-kept : (T n : ℕ) (hs : List ℕ) (map-room : Bytes) → soundFragments T n hs ≡ true → length hs ≡ 256 → length map-room ≡ T → T ≤ 16777216
+    → HoldsFragments T (fragmentsIn (take n hs) map-room) → KeptFragments T (fragmentsIn (take n hs) map-room) n (cleared n hs) map-room
 unfolding soundFragments lens
-fragments-kept T n hs room e l t few h =
-    let fs = fragmentsIn (take n hs) room in
-    let apart = and-both (leb n 256 && distinct (map headIdentifier (take n hs))) (leb (lens (take n hs)) T) e in
-    let m : n ≤ 256 = leb-true n 256 (and-both (leb n 256) (distinct (map headIdentifier (take n hs))) (apart .0) .0) in
+fragments-kept T n hs map-room e l t few h =
+    let fs = fragmentsIn (take n hs) map-room in
+    let apart = and-both (leb n 256 && distinct (map fragmentIdentifier (take n hs))) (leb (lens (take n hs)) T) e in
+    let m : n ≤ 256 = leb-true n 256 (and-both (leb n 256) (distinct (map fragmentIdentifier (take n hs))) (apart .0) .0) in
     let w : lens (take n hs) ≤ T = leb-true (lens (take n hs)) T (apart .1) in
-    let g = heads-again (take n hs) room (omega arith) in
+    let g = fragment-heads-again (take n hs) map-room (omega arith) in
     record {
-      count = sym (sym (length-map fs packHead) ∙ ap length (g .heads-are) ∙ length-take-le n hs (omega arith));
-      are = slots-kept 256 n hs l m (map packHead fs) (g .heads-are);
-      front = ap (λ (k : ℕ). take k room) (g .bytes-are) ∙ sym (bodies-in (take n hs) room);
+      count = sym (sym (length-map fs fragmentHead) ∙ ap length (g .fragment-heads-are) ∙ length-take-le n hs (omega arith));
+      are = slots-kept 256 n hs l m (map fragmentHead fs) (g .fragment-heads-are);
+      front = ap (λ (k : ℕ). take k map-room) (g .bytes-are) ∙ sym (bodies-in (take n hs) map-room);
       total = t;
       total-few = few;
       hold = h;
@@ -120,80 +121,80 @@ fragments-kept T n hs room e l t few h =
 
 -- The extent of a record between two calls.
 abbrev pub extentIn : Record → Extent
-extentIn r = record { seen = r .plt-seen; packages = r .package-count; maps = r .map-count; fragments = r .fragment-count; lost = 0; changed = false }
+extentIn r = record { seen = r .plt-seen; «package_count» = r .package-count; «map_count» = r .map-count; «fragment_count» = r .fragment-count; lost = 0; changed = false }
 
 pub record-parts : (r : Record) (W T M : ℕ) → sound r W T M ≡ true
-    → SoundParts (r .limits) (r .options) (r .held) (extentIn r) (r .packages) (r .maps) (r .fragments) W T M
+    → SoundParts (r .limits) (r .options) (r .held-count) (extentIn r) (r .packages) (r .map-heads) (r .fragment-heads) W T M
 unfolding sound
-record-parts r W T M e = sound-parts (r .limits) (r .options) (r .held) (extentIn r) (r .packages) (r .maps) (r .fragments) W T M e
+record-parts r W T M e = sound-parts (r .limits) (r .options) (r .held-count) (extentIn r) (r .packages) (r .map-heads) (r .fragment-heads) W T M e
 
 -- ---- a sound record's state is held by its arrays, cleared
 
 -- All slots of a record's arrays are there.
 pub record Whole (r : Record) : Type 0 where
-  pub carousels-all : length (r .carousels) ≡ 1024
+  pub data-set-all : length (r .data-set) ≡ 1024
   pub packages-all : length (r .packages) ≡ 255
-  pub maps-all : length (r .maps) ≡ 64
-  pub fragments-all : length (r .fragments) ≡ 256
+  pub map-heads-all : length (r .map-heads) ≡ 64
+  pub fragments-all : length (r .fragment-heads) ≡ 256
 
 -- An extent has a record's numbers, whatever was lost and changed.
 pub record Extends (r : Record) (e : Extent) : Type 0 where
   pub seen-is : e .seen ≡ r .plt-seen
-  pub packages-are : e .packages ≡ r .package-count
-  pub maps-are : e .maps ≡ r .map-count
-  pub fragments-are : e .fragments ≡ r .fragment-count
+  pub packages-are : e .«package_count» ≡ r .package-count
+  pub map-heads-are : e .«map_count» ≡ r .map-count
+  pub fragments-are : e .«fragment_count» ≡ r .fragment-count
 
-pub state-held : (r : Record) (work bytes : Bytes) (room : List ℕ) (e : Extent) → sound r (length work) (length bytes) (length room) ≡ true → Whole r → Extends r e
-    → Holding (r .limits .total) (stateOf r work bytes room .known) e (r .carousels) (cleared (r .package-count) (r .packages)) (cleared (r .map-count) (r .maps)) room
-    (cleared (r .fragment-count) (r .fragments)) bytes
+pub state-held : (r : Record) (work bytes : Bytes) (map-room : List ℕ) (e : Extent) → sound r (length work) (length bytes) (length map-room) ≡ true → Whole r → Extends r e
+    → Holding (r .limits .total) (stateOf r work bytes map-room .known) e (r .data-set) (cleared (r .package-count) (r .packages)) (cleared (r .map-count) (r .map-heads)) map-room
+    (cleared (r .fragment-count) (r .fragment-heads)) bytes
 unfolding stateOf
-state-held r work bytes room e s w n =
-    let p = record-parts r (length work) (length bytes) (length room) s in
-    let h = state-holds r work bytes room s .known-holds in
+state-held r work bytes map-room e s w n =
+    let p = record-parts r (length work) (length bytes) (length map-room) s in
+    let h = state-holds r work bytes map-room s .known-holds in
     let T = r .limits .total in
     let t : length bytes ≡ T = sym (p .total-is) in
-    let f = subst (λ (z : ℕ). soundFragments z (r .fragment-count) (r .fragments) ≡ true) t (p .fragments-sound) in
+    let f = subst (λ (z : ℕ). soundFragments z (r .fragment-count) (r .fragment-heads) ≡ true) t (p .fragments-sound) in
     record {
       tables-kept = record {
         seen = n .seen-is;
         packages-kept = subst (λ (m : ℕ). KeptPackages (pairsIn (r .package-count) (r .packages)) m (cleared (r .package-count) (r .packages))) (sym (n .packages-are))
             (packages-kept (r .package-count) (r .packages) (p .packages-sound) (w .packages-all) (h .packages-hold));
-        maps-kept = subst (λ (m : ℕ). KeptMaps (pairsIn (r .map-count) (r .maps)) m (cleared (r .map-count) (r .maps))) (sym (n .maps-are))
-            (maps-kept (r .map-count) (r .maps) (p .maps-sound) (w .maps-all) (h .maps-hold));
-        carousels-are = refl;
-        carousels-all = w .carousels-all;
-        room-is = refl;
-        room-all = p .maps-room;
+        maps-kept = subst (λ (m : ℕ). KeptMaps (pairsIn (r .map-count) (r .map-heads)) m (cleared (r .map-count) (r .map-heads))) (sym (n .map-heads-are))
+            (maps-kept (r .map-count) (r .map-heads) (p .maps-sound) (w .map-heads-all) (h .maps-hold));
+        data-set-is = refl;
+        data-set-all = w .data-set-all;
+        map-room-is = refl;
+        map-room-all = p .map-room-good;
       };
-      fragments-kept = subst (λ (m : ℕ). KeptFragments T (fragmentsIn (take (r .fragment-count) (r .fragments)) bytes) m (cleared (r .fragment-count) (r .fragments)) bytes) (sym (n .fragments-are))
-          (fragments-kept T (r .fragment-count) (r .fragments) bytes f (w .fragments-all) t (omega (arith, p .total-few, p .total-is)) (h .fragments-hold));
+      fragments-kept = subst (λ (m : ℕ). KeptFragments T (fragmentsIn (take (r .fragment-count) (r .fragment-heads)) bytes) m (cleared (r .fragment-count) (r .fragment-heads)) bytes) (sym (n .fragments-are))
+          (fragments-kept T (r .fragment-count) (r .fragment-heads) bytes f (w .fragments-all) t (omega (arith, p .total-few, p .total-is)) (h .fragments-hold));
     }
 
 -- ---- the record of arrays that hold a state
 
 -- A record by an extent's numbers and arrays.
 abbrev pub recordWith : Limits → Options → ℕ → Extent → List ℕ → List ℕ → List ℕ → List ℕ → Record
-recordWith L o held e carousels packages maps heads = record {
+recordWith L o held-count e data-set packages map-heads fragment-heads = record {
   limits = L;
   options = o;
-  held = held;
+  held-count = held-count;
   plt-seen = e .seen;
-  package-count = e .packages;
-  map-count = e .maps;
-  fragment-count = e .fragments;
-  carousels = carousels;
+  package-count = e .«package_count»;
+  map-count = e .«map_count»;
+  fragment-count = e .«fragment_count»;
+  data-set = data-set;
   packages = packages;
-  maps = maps;
-  fragments = heads;
+  map-heads = map-heads;
+  fragment-heads = fragment-heads;
 }
 
 -- a list by its front
 by-front : (n : ℕ) (xs ys : List ℕ) → take n xs ≡ ys → xs ≡ ys ++ drop n xs
 by-front n xs ys e = sym (take-append-drop n xs) ∙ ap (λ (zs : List ℕ). zs ++ drop n xs) e
 
-module _ (L : Limits) (o : Options) (st : State) {e : Extent} {carousels packages maps room heads : List ℕ} {bytes : Bytes}
-    (k : Holding (L .total) (st .known) e carousels packages maps room heads bytes) where
-  pub record-back : (n : ℕ) → n ≡ length (st .held) → recordWith L o n e carousels packages maps heads ≡ recordOf L o st
+module _ (L : Limits) (o : Options) (st : State) {e : Extent} {data-set packages map-heads map-room fragment-heads : List ℕ} {bytes : Bytes}
+    (k : Holding (L .total) (st .known) e data-set packages map-heads map-room fragment-heads bytes) where
+  pub record-back : (n : ℕ) → n ≡ length (st .held) → recordWith L o n e data-set packages map-heads fragment-heads ≡ recordOf L o st
   unfolding recordOf
   record-back n h =
       let t = k .tables-kept in
@@ -201,25 +202,25 @@ module _ (L : Limits) (o : Options) (st : State) {e : Extent} {carousels package
       λ i. record {
         limits = L;
         options = o;
-        held = h i;
+        held-count = h i;
         plt-seen = t .seen i;
         package-count = t .packages-kept .pairs .count i;
         map-count = t .maps-kept .pairs .count i;
         fragment-count = f .count i;
-        carousels = t .carousels-are i;
+        data-set = t .data-set-is i;
         packages = t .packages-kept .pairs .are i;
-        maps = t .maps-kept .pairs .are i;
-        fragments = f .are i;
+        map-heads = t .maps-kept .pairs .are i;
+        fragment-heads = f .are i;
       }
 
   -- with a work room that begins with the held bytes, the record's state is this one
-  pub state-again : (work : Bytes) → HoldsState L o st → take (length (st .held)) work ≡ st .held → stateOf (recordOf L o st) work bytes room ≡ st
+  pub state-again : (work : Bytes) → HoldsState L o st → take (length (st .held)) work ≡ st .held → stateOf (recordOf L o st) work bytes map-room ≡ st
   state-again work h w =
       let fs = st .known .fragments in
       let n = length (st .held) in
-      let m = heldBytes fs in
+      let m = fragmentBytes fs in
       let at-work : work ≡ st .held ++ drop n work = by-front n work (st .held) w in
-      let at-bytes : bytes ≡ bodies fs ++ drop m bytes = by-front m bytes (bodies fs) (k .fragments-kept .front) in
-      let same : stateOf (recordOf L o st) work bytes room ≡ stateOf (recordOf L o st) (st .held ++ drop n work) (bodies fs ++ drop m bytes) (st .known .room) =
-      λ i. stateOf (recordOf L o st) (at-work i) (at-bytes i) (k .tables-kept .room-is i) in
+      let at-bytes : bytes ≡ bodiesOf fs ++ drop m bytes = by-front m bytes (bodiesOf fs) (k .fragments-kept .front) in
+      let same : stateOf (recordOf L o st) work bytes map-room ≡ stateOf (recordOf L o st) (st .held ++ drop n work) (bodiesOf fs ++ drop m bytes) (st .known .map-room) =
+      λ i. stateOf (recordOf L o st) (at-work i) (at-bytes i) (k .tables-kept .map-room-is i) in
       same ∙ state-back L o st (k .fragments-kept .total-few) h (drop n work) (drop m bytes)

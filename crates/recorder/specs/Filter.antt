@@ -3,29 +3,28 @@ use mathlib.Core.Bool.{false}
 use mathlib.Core.List.{List}
 use Prim.Native.Nat.{ℕ}
 use lib.ListN.{replicate}
-use Rattle.meaning.specs.Learn.{Limits}
 use Rattle.meaning.specs.Record.{Record}
+use Rattle.meaning.specs.declared.Limits.{Limits}
 use Rattle.meaning.specs.declared.Options.{Options}
 use Rattle.soundness.specs.Parts.{limitsOf}
-use Rattle.soundness.specs.declared.Limits as sound
 use Rattle.learning.specs.declared.Extent.{Extent}
 use Rattle.recorder.specs.declared.Filter.{Filter}
 use Rattle.recorder.specs.declared.call.Begun.{Begun}
-use Rattle.recorder.specs.declared.call.Ran.{Ran}
+use Rattle.recorder.specs.declared.call.CarriedOut.{CarriedOut}
 
 unfoldable pub recordIn : Filter → Record
 recordIn f = record {
   limits = limitsOf (f .work) (f .total) (f .most);
   options = f .options;
-  held = f .held;
+  held-count = f .«held_count»;
   plt-seen = f .seen;
   package-count = f .«package_count»;
   map-count = f .«map_count»;
   fragment-count = f .«fragment_count»;
-  carousels = f .carousels;
+  data-set = f .«data_set»;
   packages = f .packages;
-  maps = f .maps;
-  fragments = f .fragments;
+  map-heads = f .«map_heads»;
+  fragment-heads = f .«fragment_heads»;
 }
 
 -- A record that holds and knows nothing.
@@ -33,43 +32,43 @@ abbrev pub freshRecord : Limits → Options → Record
 freshRecord L o = record {
   limits = L;
   options = o;
-  held = 0;
+  held-count = 0;
   plt-seen = false;
   package-count = 0;
   map-count = 0;
   fragment-count = 0;
-  carousels = replicate 1024 0;
+  data-set = replicate 1024 0;
   packages = replicate 255 0;
-  maps = replicate 64 0;
-  fragments = replicate 256 0;
+  map-heads = replicate 64 0;
+  fragment-heads = replicate 256 0;
 }
 
 -- ---- the struct taken apart
 
-abbrev pub limitsIn : Filter → sound.Limits
+abbrev pub limitsIn : Filter → Limits
 limitsIn f = record { work = f .work; total = f .total; most = f .most }
 
 -- How much is known as a call begins.
 abbrev pub extentOf : Filter → Extent
-extentOf f = record { seen = f .seen; packages = f .«package_count»; maps = f .«map_count»; fragments = f .«fragment_count»; lost = 0; changed = false }
+extentOf f = record { seen = f .seen; «package_count» = f .«package_count»; «map_count» = f .«map_count»; «fragment_count» = f .«fragment_count»; lost = 0; changed = false }
 
 abbrev pub begunOf : Filter → Begun
-begunOf f = record { limits = limitsIn f; options = f .options; held = f .held; extent = extentOf f }
+begunOf f = record { limits = limitsIn f; options = f .options; «held_count» = f .«held_count»; extent = extentOf f }
 
 -- The record after a call: its limits and options stay.
-abbrev pub handedOf : Begun → Ran → List ℕ → List ℕ → List ℕ → List ℕ → Filter
-handedOf b x carousels packages maps heads = record {
+abbrev pub handedOf : Begun → CarriedOut → List ℕ → List ℕ → List ℕ → List ℕ → Filter
+handedOf b x data-set packages map-heads fragment-heads = record {
   work = b .limits .work;
   total = b .limits .total;
   most = b .limits .most;
   options = b .options;
-  held = x .held;
+  «held_count» = x .«held_count»;
   seen = x .extent .seen;
-  «package_count» = x .extent .packages;
-  «map_count» = x .extent .maps;
-  «fragment_count» = x .extent .fragments;
-  carousels = carousels;
+  «package_count» = x .extent .«package_count»;
+  «map_count» = x .extent .«map_count»;
+  «fragment_count» = x .extent .«fragment_count»;
+  «data_set» = data-set;
   packages = packages;
-  maps = maps;
-  fragments = heads;
+  «map_heads» = map-heads;
+  «fragment_heads» = fragment-heads;
 }

@@ -6,15 +6,18 @@ ghost use mathlib.Core.Bool.{true, cond};
 ghost use lib.Dec.{eqb};
 ghost use lib.ListN.{length};
 ghost use Rattle.meaning.specs.Writing.{Wrote};
-ghost use Rattle.meaning.specs.Rules.{copiesAll};
-ghost use Rattle.meaning.specs.Refusals.{packetLimit, answerNumber};
-ghost use Rattle.meaning.specs.Push.{countsOf, filtered, push, lengthRefusal};
+ghost use Rattle.meaning.specs.Wishes.{copiesAll};
+ghost use Rattle.meaning.specs.Rooms.{packetLimit};
+ghost use Rattle.meaning.specs.Refusals.{answerNumber};
+ghost use Rattle.meaning.specs.Calls.{countsOf};
+ghost use Rattle.meaning.specs.Push.{filtered, push, lengthRefusal};
 ghost use Rattle.observing.specs.Observed.{HoldingSome};
 ghost use Rattle.soundness.specs.Parts.{limitsOf, partsSound};
-ghost use Rattle.recorder.specs.Calls.{RoomFor, RunsAs};
+ghost use Rattle.recorder.specs.Calls.{RoomFor, CarriesOut};
 use learning::Extent;
 use meaning::Answer;
 use meaning::Counts;
+use meaning::Limits;
 use meaning::Options;
 use meaning::Refusal;
 use octets::copy;
@@ -24,7 +27,6 @@ use passing::Terms;
 use passing::packets;
 use rules::decide;
 use rules::ready;
-use soundness::Limits;
 use soundness::copies_all;
 use soundness::packet_limit;
 use soundness::parts_sound;
@@ -43,19 +45,19 @@ pub fn counts_of(bytes: usize) -> Counts
 }
 
 // What a call leaves beside the arrays.
-pub struct Ran {
+pub struct CarriedOut {
     pub extent: Extent,
     pub counts: Counts,
-    pub held: usize,
+    pub held_count: usize,
 }
 
 // The lost maps of the call go to its counts.
-fn ended(p: Progress, held: usize) -> Ran
-    ensures { λ r. ⌜ r ≡ record { extent = p .extent; counts = record { bytes = p .counts .bytes; accepted = p .counts .accepted; written = p .counts .written; rewritten = p .counts .rewritten; skipped = p .counts .skipped; lost = p .extent .lost }; held = held } ⌝ }
+fn ended(p: Progress, held_count: usize) -> CarriedOut
+    ensures { λ r. ⌜ r ≡ record { extent = p .extent; counts = record { bytes = p .counts .bytes; accepted = p .counts .accepted; written = p .counts .written; rewritten = p .counts .rewritten; skipped = p .counts .skipped; lost = p .extent .lost }; «held_count» = «held_count» } ⌝ }
 {
     let e = p.extent;
     let c = p.counts;
-    Ran {
+    CarriedOut {
         extent: e,
         counts: Counts {
             bytes: c.bytes,
@@ -65,7 +67,7 @@ fn ended(p: Progress, held: usize) -> Ran
             skipped: c.skipped,
             lost: e.lost,
         },
-        held,
+        held_count,
     }
 }
 
@@ -82,39 +84,39 @@ fn begins(e: Extent, is_ready: bool) -> Progress
 
 // The packets of held bytes and chunk.
 fn filtered(
-    held: usize,
+    held_count: usize,
     chunk: &[u8],
     e: Extent,
     t: Terms,
-    carousels: &mut [u64; 1024],
+    data_set: &mut [u64; 1024],
     packages: &mut [u32; 255],
-    maps: &mut [u32; 64],
-    room: &mut [u16],
-    heads: &mut [u64; 256],
+    map_heads: &mut [u32; 64],
+    map_room: &mut [u16],
+    fragment_heads: &mut [u64; 256],
     bodies: &mut [u8],
     work: &mut [u8],
     out: &mut [u8],
-) -> Ran
-    requires { ⌜ RoomFor e held (now chunk) (now work) (now out) × (t .limit ≡ packetLimit (length (now work))) × HoldingSome e (now carousels) (now packages) (now maps) (now room) (now heads) (now bodies) ⌝ }
-    ensures { λ r. ⌜ RunsAs (λ L st. filtered L (t .options) st (now (chunk .entry))) (t .most) held e (now (carousels .entry)) (now (packages .entry)) (now (maps .entry)) (now (room .entry)) (now (heads .entry)) (now (bodies .entry)) (now (work .entry)) (now (out .entry)) r (now (carousels .exit)) (now (packages .exit)) (now (maps .exit)) (now (room .exit)) (now (heads .exit)) (now (bodies .exit)) (now (work .exit)) (now (out .exit)) ⌝ }
+) -> CarriedOut
+    requires { ⌜ RoomFor e «held_count» (now chunk) (now work) (now out) × (t .limit ≡ packetLimit (length (now work))) × HoldingSome e (now «data_set») (now packages) (now «map_heads») (now «map_room») (now «fragment_heads») (now bodies) ⌝ }
+    ensures { λ r. ⌜ CarriesOut (λ L st. filtered L (t .options) st (now (chunk .entry))) (t .most) «held_count» e (now («data_set» .entry)) (now (packages .entry)) (now («map_heads» .entry)) (now («map_room» .entry)) (now («fragment_heads» .entry)) (now (bodies .entry)) (now (work .entry)) (now (out .entry)) r (now («data_set» .exit)) (now (packages .exit)) (now («map_heads» .exit)) (now («map_room» .exit)) (now («fragment_heads» .exit)) (now (bodies .exit)) (now (work .exit)) (now (out .exit)) ⌝ }
 {
     let mut set = [0u64; 1024];
     let o = t.options;
-    decide(o, e, carousels, packages, maps, room, &mut set);
+    decide(o, e, data_set, packages, map_heads, map_room, &mut set);
     let service = o.service;
-    let is_ready = ready(service, e, packages, maps);
-    let n = copy(chunk, work, held);
+    let is_ready = ready(service, e, packages, map_heads);
+    let n = copy(chunk, work, held_count);
     let first = begins(e, is_ready);
     let x = packets(
         &work[0..n],
         0,
         first,
         t,
-        carousels,
+        data_set,
         packages,
-        maps,
-        room,
-        heads,
+        map_heads,
+        map_room,
+        fragment_heads,
         bodies,
         &mut set,
         out,
@@ -124,15 +126,15 @@ fn filtered(
     ended(x.progress, n - at)
 }
 
-fn copied(chunk: &[u8], e: Extent, out: &mut [u8]) -> Ran
+fn copied(chunk: &[u8], e: Extent, out: &mut [u8]) -> CarriedOut
     requires { ⌜ length (now chunk) ≤ length (now out) ⌝ }
-    ensures { λ r. ⌜ (r ≡ record { extent = e; counts = countsOf (length (now (chunk .entry))); held = 0 }) × Wrote (now (chunk .entry)) (now (out .entry)) 0 (now (out .exit)) (length (now (chunk .entry))) ⌝ }
+    ensures { λ r. ⌜ (r ≡ record { extent = e; counts = countsOf (length (now (chunk .entry))); «held_count» = 0 }) × Wrote (now (chunk .entry)) (now (out .entry)) 0 (now (out .exit)) (length (now (chunk .entry))) ⌝ }
 {
     let n = copy(chunk, out, 0);
-    Ran {
+    CarriedOut {
         extent: e,
         counts: counts_of(n),
-        held: 0,
+        held_count: 0,
     }
 }
 
@@ -140,25 +142,25 @@ fn copied(chunk: &[u8], e: Extent, out: &mut [u8]) -> Ran
 pub struct Begun {
     pub limits: Limits,
     pub options: Options,
-    pub held: usize,
+    pub held_count: usize,
     pub extent: Extent,
 }
 
 // A call that is not refused.
-pub fn run_call(
+pub fn carry_out(
     b: Begun,
     chunk: &[u8],
-    carousels: &mut [u64; 1024],
+    data_set: &mut [u64; 1024],
     packages: &mut [u32; 255],
-    maps: &mut [u32; 64],
-    room: &mut [u16],
-    heads: &mut [u64; 256],
+    map_heads: &mut [u32; 64],
+    map_room: &mut [u16],
+    fragment_heads: &mut [u64; 256],
     bodies: &mut [u8],
     work: &mut [u8],
     out: &mut [u8],
-) -> Ran
-    requires { ⌜ RoomFor (b .extent) (b .held) (now chunk) (now work) (now out) × (copiesAll (b .options) ≡ true → b .held ≡ 0) × HoldingSome (b .extent) (now carousels) (now packages) (now maps) (now room) (now heads) (now bodies) ⌝ }
-    ensures { λ r. ⌜ RunsAs (λ L st. push L (b .options) st (now (chunk .entry))) (b .limits .most) (b .held) (b .extent) (now (carousels .entry)) (now (packages .entry)) (now (maps .entry)) (now (room .entry)) (now (heads .entry)) (now (bodies .entry)) (now (work .entry)) (now (out .entry)) r (now (carousels .exit)) (now (packages .exit)) (now (maps .exit)) (now (room .exit)) (now (heads .exit)) (now (bodies .exit)) (now (work .exit)) (now (out .exit)) ⌝ }
+) -> CarriedOut
+    requires { ⌜ RoomFor (b .extent) (b .«held_count») (now chunk) (now work) (now out) × (copiesAll (b .options) ≡ true → b .«held_count» ≡ 0) × HoldingSome (b .extent) (now «data_set») (now packages) (now «map_heads») (now «map_room») (now «fragment_heads») (now bodies) ⌝ }
+    ensures { λ r. ⌜ CarriesOut (λ L st. push L (b .options) st (now (chunk .entry))) (b .limits .most) (b .«held_count») (b .extent) (now («data_set» .entry)) (now (packages .entry)) (now («map_heads» .entry)) (now («map_room» .entry)) (now («fragment_heads» .entry)) (now (bodies .entry)) (now (work .entry)) (now (out .entry)) r (now («data_set» .exit)) (now (packages .exit)) (now («map_heads» .exit)) (now («map_room» .exit)) (now («fragment_heads» .exit)) (now (bodies .exit)) (now (work .exit)) (now (out .exit)) ⌝ }
 {
     let o = b.options;
     let e = b.extent;
@@ -172,15 +174,15 @@ pub fn run_call(
         most: l.most,
     };
     filtered(
-        b.held,
+        b.held_count,
         chunk,
         e,
         t,
-        carousels,
+        data_set,
         packages,
-        maps,
-        room,
-        heads,
+        map_heads,
+        map_room,
+        fragment_heads,
         bodies,
         work,
         out,
@@ -202,7 +204,7 @@ pub fn is_done(a: Answer) -> bool
 pub struct Lengths {
     pub work: usize,
     pub bodies: usize,
-    pub room: usize,
+    pub map_room: usize,
     pub chunk: usize,
     pub out: usize,
 }
@@ -211,24 +213,35 @@ pub struct Lengths {
 pub fn call_answer(
     b: Begun,
     packages: &[u32; 255],
-    maps: &[u32; 64],
-    heads: &[u64; 256],
+    map_heads: &[u32; 64],
+    fragment_heads: &[u64; 256],
     n: Lengths,
 ) -> Answer
-    requires { ⌜ (length (now packages) ≡ 255) × (length (now maps) ≡ 64) × (length (now heads) ≡ 256) ⌝ }
-    ensures { λ r. ⌜ answerNumber r ≡ cond (partsSound (limitsOf (b .limits .work) (b .limits .total) (b .limits .most)) (b .options) (b .held) (b .extent) (now (packages .entry)) (now (maps .entry)) (now (heads .entry)) (n .work) (n .bodies) (n .room)) (lengthRefusal (n .work) (b .held) (n .chunk) (n .out)) 4 ⌝ }
+    requires { ⌜ (length (now packages) ≡ 255) × (length (now «map_heads») ≡ 64) × (length (now «fragment_heads») ≡ 256) ⌝ }
+    ensures { λ r. ⌜ answerNumber r ≡ cond (partsSound (limitsOf (b .limits .work) (b .limits .total) (b .limits .most)) (b .options) (b .«held_count») (b .extent) (now (packages .entry)) (now («map_heads» .entry)) (now («fragment_heads» .entry)) (n .work) (n .bodies) (n .«map_room»)) (lengthRefusal (n .work) (b .«held_count») (n .chunk) (n .out)) 4 ⌝ }
 {
     let l = b.limits;
     let o = b.options;
     let e = b.extent;
     let w = n.work;
-    if !parts_sound(l, o, b.held, e, packages, maps, heads, w, n.bodies, n.room) {
+    if !parts_sound(
+        l,
+        o,
+        b.held_count,
+        e,
+        packages,
+        map_heads,
+        fragment_heads,
+        w,
+        n.bodies,
+        n.map_room,
+    ) {
         return Answer::Refused(Refusal::Unsound);
     }
     if w - packet_limit(w) < n.chunk {
         return Answer::Refused(Refusal::Long);
     }
-    if n.out < b.held + n.chunk {
+    if n.out < b.held_count + n.chunk {
         return Answer::Refused(Refusal::Short);
     }
     Answer::Done

@@ -7,34 +7,35 @@ pub mod sound;
 ghost use mathlib.Core.Path.{_≡_};
 ghost use lib.ListN.{length};
 ghost use Rattle.meaning.specs.Refusals.{numberOf, answerNumber};
-ghost use Rattle.meaning.specs.Push.{blank, countsOf};
+ghost use Rattle.meaning.specs.Calls.{countsOf};
+ghost use Rattle.meaning.specs.Start.{blank};
 ghost use Rattle.soundness.specs.Parts.{limitsOf};
 ghost use Rattle.recorder.specs.Filter.{recordIn, freshRecord, limitsIn, extentOf, begunOf, handedOf};
 ghost use Rattle.recorder.specs.Slots.{cleared};
 ghost use Rattle.recorder.specs.Calls.{StartedAs, PushedAs, DroppedAs};
 use crate::call::Begun;
+use crate::call::CarriedOut;
 use crate::call::Lengths;
-use crate::call::Ran;
 use crate::call::call_answer;
+use crate::call::carry_out;
 use crate::call::counts_of;
 use crate::call::is_done;
-use crate::call::run_call;
 use crate::slots::clear32;
 use crate::slots::clear64;
 use crate::sound::is_sound;
 use learning::Extent;
 use meaning::Answer;
 use meaning::Counts;
+use meaning::Limits;
 use meaning::Options;
 use meaning::Refusal;
 use meaning::Service;
 use rules::dropped;
-use soundness::Limits;
-use soundness::good_fragments;
-use soundness::good_maps;
-use soundness::good_work;
+use soundness::good_fragment_room;
+use soundness::good_map_room;
+use soundness::good_work_room;
 
-// The record, as specs/Record.antt of `meaning` has it. Unused slots are zero.
+// The record, as specs/Record.antt of `meaning` has it. In one that a call hands back unused slots are zero; in one handed in they may hold anything (D9).
 pub struct Filter {
     // The start's limits: the lengths of the work room and of the fragment room, and the most bytes of one message.
     pub work: usize,
@@ -42,20 +43,20 @@ pub struct Filter {
     pub most: usize,
     pub options: Options,
     // How many bytes are held, at the front of the work room.
-    pub held: usize,
+    pub held_count: usize,
     // Whether a PLT was seen.
     pub seen: bool,
     pub package_count: usize,
     pub map_count: usize,
     pub fragment_count: usize,
     // The set of data-carousel identifiers, one bit each.
-    pub carousels: [u64; 1024],
+    pub data_set: [u64; 1024],
     // service * 65,536 + identifier
     pub packages: [u32; 255],
     // identifier * 65,536 + count
-    pub maps: [u32; 64],
+    pub map_heads: [u32; 64],
     // identifier * 2^48 + flags * 2^40 + length
-    pub fragments: [u64; 256],
+    pub fragment_heads: [u64; 256],
 }
 
 // What a start answers, and the record to begin with; refused, one that can be used for nothing.
@@ -73,15 +74,15 @@ fn fresh(work: usize, total: usize, most: usize, options: Options) -> Filter
         total,
         most,
         options,
-        held: 0,
+        held_count: 0,
         seen: false,
         package_count: 0,
         map_count: 0,
         fragment_count: 0,
-        carousels: [0u64; 1024],
+        data_set: [0u64; 1024],
         packages: [0u32; 255],
-        maps: [0u32; 64],
-        fragments: [0u64; 256],
+        map_heads: [0u32; 64],
+        fragment_heads: [0u64; 256],
     }
 }
 
@@ -100,17 +101,17 @@ fn not_started(r: Refusal) -> Started
     }
 }
 
-// A recorder with these rooms; at most `most` bytes of one message are held.
-pub fn start(work: &[u8], bodies: &[u8], room: &[u16], most: usize, options: Options) -> Started
-    ensures { λ x. ⌜ StartedAs (limitsOf (length (now (work .entry))) (length (now (bodies .entry))) most) options (now (room .entry)) x ⌝ }
+// A recorder with these rooms. A middle or last that takes a message above `most` bytes discards it; a first is not asked.
+pub fn start(work: &[u8], bodies: &[u8], map_room: &[u16], most: usize, options: Options) -> Started
+    ensures { λ x. ⌜ StartedAs (limitsOf (length (now (work .entry))) (length (now (bodies .entry))) most) options (now («map_room» .entry)) x ⌝ }
 {
-    if !good_work(work.len()) {
+    if !good_work_room(work.len()) {
         return not_started(Refusal::WorkRoom);
     }
-    if !good_fragments(bodies.len(), most) {
+    if !good_fragment_room(bodies.len(), most) {
         return not_started(Refusal::FragmentRoom);
     }
-    if !good_maps(room.len()) {
+    if !good_map_room(map_room.len()) {
         return not_started(Refusal::MapRoom);
     }
     Started {
@@ -150,9 +151,9 @@ fn extent_of(f: Filter) -> Extent
 {
     Extent {
         seen: f.seen,
-        packages: f.package_count,
-        maps: f.map_count,
-        fragments: f.fragment_count,
+        package_count: f.package_count,
+        map_count: f.map_count,
+        fragment_count: f.fragment_count,
         lost: 0,
         changed: false,
     }
@@ -165,30 +166,35 @@ fn begun(f: Filter) -> Begun
     Begun {
         limits: limits_of(f),
         options: o,
-        held: f.held,
+        held_count: f.held_count,
         extent: extent_of(f),
     }
 }
 
-fn lengths(work: usize, bodies: usize, room: usize, chunk: usize, out: usize) -> Lengths
-    ensures { λ r. ⌜ r ≡ record { work = work; bodies = bodies; room = room; chunk = chunk; out = out } ⌝ }
+fn lengths(work: usize, bodies: usize, map_room: usize, chunk: usize, out: usize) -> Lengths
+    ensures { λ r. ⌜ r ≡ record { work = work; bodies = bodies; «map_room» = «map_room»; chunk = chunk; out = out } ⌝ }
 {
     Lengths {
         work,
         bodies,
-        room,
+        map_room,
         chunk,
         out,
     }
 }
 
 // Unused slots set to zero.
-fn clear_unused(e: Extent, packages: &mut [u32; 255], maps: &mut [u32; 64], heads: &mut [u64; 256])
-    ensures { λ _. ⌜ (now (packages .exit) ≡ cleared (e .packages) (now (packages .entry))) × (now (maps .exit) ≡ cleared (e .maps) (now (maps .entry))) × (now (heads .exit) ≡ cleared (e .fragments) (now (heads .entry))) ⌝ }
+fn clear_unused(
+    e: Extent,
+    packages: &mut [u32; 255],
+    map_heads: &mut [u32; 64],
+    fragment_heads: &mut [u64; 256],
+)
+    ensures { λ _. ⌜ (now (packages .exit) ≡ cleared (e .«package_count») (now (packages .entry))) × (now («map_heads» .exit) ≡ cleared (e .«map_count») (now («map_heads» .entry))) × (now («fragment_heads» .exit) ≡ cleared (e .«fragment_count») (now («fragment_heads» .entry))) ⌝ }
 {
-    clear32(packages, e.packages);
-    clear32(maps, e.maps);
-    clear64(heads, e.fragments);
+    clear32(packages, e.package_count);
+    clear32(map_heads, e.map_count);
+    clear64(fragment_heads, e.fragment_count);
 }
 
 // ---- and put together
@@ -196,13 +202,13 @@ fn clear_unused(e: Extent, packages: &mut [u32; 255], maps: &mut [u32; 64], head
 // The record after a call.
 fn handed(
     b: Begun,
-    r: Ran,
-    carousels: [u64; 1024],
+    r: CarriedOut,
+    data_set: [u64; 1024],
     packages: [u32; 255],
-    maps: [u32; 64],
-    heads: [u64; 256],
+    map_heads: [u32; 64],
+    fragment_heads: [u64; 256],
 ) -> Filter
-    ensures { λ x. ⌜ x ≡ handedOf b r carousels packages maps heads ⌝ }
+    ensures { λ x. ⌜ x ≡ handedOf b r «data_set» packages «map_heads» «fragment_heads» ⌝ }
 {
     let l = b.limits;
     let o = b.options;
@@ -212,15 +218,35 @@ fn handed(
         total: l.total,
         most: l.most,
         options: o,
-        held: r.held,
+        held_count: r.held_count,
         seen: e.seen,
-        package_count: e.packages,
-        map_count: e.maps,
-        fragment_count: e.fragments,
-        carousels,
+        package_count: e.package_count,
+        map_count: e.map_count,
+        fragment_count: e.fragment_count,
+        data_set,
         packages,
-        maps,
-        fragments: heads,
+        map_heads,
+        fragment_heads,
+    }
+}
+
+// What a push that was carried out answers.
+fn hand_back(
+    a: Answer,
+    b: Begun,
+    r: CarriedOut,
+    data_set: [u64; 1024],
+    packages: [u32; 255],
+    map_heads: [u32; 64],
+    fragment_heads: [u64; 256],
+) -> Pushed
+    ensures { λ x. ⌜ x ≡ record { answer = a; counts = r .counts; filter = handedOf b r «data_set» packages «map_heads» «fragment_heads» } ⌝ }
+{
+    let c = r.counts;
+    Pushed {
+        answer: a,
+        counts: c,
+        filter: handed(b, r, data_set, packages, map_heads, fragment_heads),
     }
 }
 
@@ -242,63 +268,64 @@ impl Filter {
         chunk: &[u8],
         work: &mut [u8],
         bodies: &mut [u8],
-        room: &mut [u16],
+        map_room: &mut [u16],
         out: &mut [u8],
     ) -> Pushed
-        ensures { λ r. ⌜ PushedAs (recordIn self) (now (work .entry)) (now (bodies .entry)) (now (room .entry)) (now (chunk .entry)) (now (out .entry)) r (now (work .exit)) (now (bodies .exit)) (now (room .exit)) (now (out .exit)) ⌝ }
+        ensures { λ r. ⌜ PushedAs (recordIn self) (now (work .entry)) (now (bodies .entry)) (now («map_room» .entry)) (now (chunk .entry)) (now (out .entry)) r (now (work .exit)) (now (bodies .exit)) (now («map_room» .exit)) (now (out .exit)) ⌝ }
     {
         let b = begun(self);
-        let n = lengths(work.len(), bodies.len(), room.len(), chunk.len(), out.len());
+        let n = lengths(
+            work.len(),
+            bodies.len(),
+            map_room.len(),
+            chunk.len(),
+            out.len(),
+        );
         let mut packages = self.packages;
-        let mut maps = self.maps;
-        let mut heads = self.fragments;
-        let a = call_answer(b, &packages, &maps, &heads, n);
+        let mut map_heads = self.map_heads;
+        let mut fragment_heads = self.fragment_heads;
+        let a = call_answer(b, &packages, &map_heads, &fragment_heads, n);
         if !is_done(a) {
             return not_pushed(a, self);
         }
         let e = b.extent;
-        clear_unused(e, &mut packages, &mut maps, &mut heads);
-        let mut carousels = self.carousels;
-        let r = run_call(
+        clear_unused(e, &mut packages, &mut map_heads, &mut fragment_heads);
+        let mut data_set = self.data_set;
+        let r = carry_out(
             b,
             chunk,
-            &mut carousels,
+            &mut data_set,
             &mut packages,
-            &mut maps,
-            room,
-            &mut heads,
+            &mut map_heads,
+            map_room,
+            &mut fragment_heads,
             bodies,
             work,
             out,
         );
-        let c = r.counts;
-        Pushed {
-            answer: a,
-            counts: c,
-            filter: handed(b, r, carousels, packages, maps, heads),
-        }
+        hand_back(a, b, r, data_set, packages, map_heads, fragment_heads)
     }
 
     // How many identifiers the present rules drop.
-    pub fn dropped(self, work: &[u8], bodies: &[u8], room: &[u16]) -> Dropped
-        ensures { λ r. ⌜ DroppedAs (recordIn self) (now (work .entry)) (now (bodies .entry)) (now (room .entry)) r ⌝ }
+    pub fn dropped(self, work: &[u8], bodies: &[u8], map_room: &[u16]) -> Dropped
+        ensures { λ r. ⌜ DroppedAs (recordIn self) (now (work .entry)) (now (bodies .entry)) (now («map_room» .entry)) r ⌝ }
     {
-        if !is_sound(self, work.len(), bodies.len(), room.len()) {
+        if !is_sound(self, work.len(), bodies.len(), map_room.len()) {
             return Dropped {
                 answer: Answer::Refused(Refusal::Unsound),
                 count: 0,
             };
         }
         let o = self.options;
-        let carousels = self.carousels;
+        let data_set = self.data_set;
         let mut packages = self.packages;
-        let mut maps = self.maps;
+        let mut map_heads = self.map_heads;
         clear32(&mut packages, self.package_count);
-        clear32(&mut maps, self.map_count);
+        clear32(&mut map_heads, self.map_count);
         let e = extent_of(self);
         Dropped {
             answer: Answer::Done,
-            count: dropped(o, e, &carousels, &packages, &maps, room),
+            count: dropped(o, e, &data_set, &packages, &map_heads, map_room),
         }
     }
 }

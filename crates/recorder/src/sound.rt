@@ -1,6 +1,6 @@
 // Whether a record handed back is sound: its parts are, as `soundness` tells.
 ghost use mathlib.Core.Path.{_≡_};
-ghost use Rattle.meaning.specs.Record.{sound};
+ghost use Rattle.meaning.specs.Soundness.{sound};
 ghost use Rattle.recorder.specs.Filter.{recordIn};
 use crate::Filter;
 use crate::extent_of;
@@ -8,25 +8,25 @@ use crate::limits_of;
 use soundness::parts_sound;
 
 // Whether a record is sound with rooms of these lengths.
-pub fn is_sound(f: Filter, work: usize, total: usize, maps: usize) -> bool
-    ensures { λ r. ⌜ r ≡ sound (recordIn f) work total maps ⌝ }
+pub fn is_sound(f: Filter, work: usize, total: usize, map_length: usize) -> bool
+    ensures { λ r. ⌜ r ≡ sound (recordIn f) work total «map_length» ⌝ }
 {
     let l = limits_of(f);
     let o = f.options;
     let e = extent_of(f);
     let packages = f.packages;
-    let lists = f.maps;
-    let heads = f.fragments;
+    let map_heads = f.map_heads;
+    let fragment_heads = f.fragment_heads;
     parts_sound(
         l,
         o,
-        f.held,
+        f.held_count,
         e,
         &packages,
-        &lists,
-        &heads,
+        &map_heads,
+        &fragment_heads,
         work,
         total,
-        maps,
+        map_length,
     )
 }

@@ -8,11 +8,10 @@ use native.Mathlib.Omega.{arith}
 use lib.Dec.{eqb}
 use borrow.Author.Tests.{eqb-true, eqb-false, eq-eqb, ne-eqb}
 use Rattle.meaning.specs.Sets.{Words, inSet, howMany}
-use Rattle.meaning.specs.Lists.{all, any}
-use Rattle.meaning.specs.Record.{rising}
-use Rattle.meaning.specs.Sound.{services}
+use Rattle.meaning.specs.Lists.{all, any, isSome}
 use Rattle.meaning.specs.Learn.{Listed, Known, lists, listsIn}
-use Rattle.meaning.specs.Rules.{listOf, isHeld, keptBy, droppedBy, inDropSet, drops, dropped, needsMet, ready}
+use Rattle.meaning.specs.Rules.{listOf, keptBy, droppedBy, inDropSet, drops, dropped, needsMet, ready}
+use Rattle.meaning.specs.Soundness.{rising, firsts}
 use Rattle.meaning.specs.declared.Options.{Options}
 use Rattle.meaning.specs.declared.Service.{Service}
 use Rattle.meaning.specs.declared.Service.the-variants.{Every, Only}
@@ -21,8 +20,8 @@ use Rattle.meaning.proofs.SetLaws.{many-same}
 use Rattle.learning.specs.Kept.{pairsIn, Keeps}
 use Rattle.learning.proofs.PairLaws.{pairs-in, pairs-length}
 use Rattle.learning.specs.declared.Extent.{Extent}
-use Rattle.rules.specs.Changes.{SetIs, Inserts, Removes, Packages, Heads, Rooms, listsAt, listHeld}
-use Rattle.rules.proofs.ReadyRules.{held-is}
+use Rattle.rules.specs.Changes.{SetIs, Inserts, Removes, Packages, MapHeads, MapLists, listsAt, hasList}
+use Rattle.rules.proofs.ReadyRules.{has-list}
 
 -- ---- Bool
 
@@ -62,40 +61,40 @@ unfolding all
 all-same p q h [] = refl
 all-same p q h (x ∷ xs) = rw (h x, all-same p q h xs)
 
-module _ {k : Known} {e : Extent} {carousels packages maps room : List ℕ} (h : Keeps k e carousels packages maps room) where
-  packages-are : pairsIn (e .packages) packages ≡ k .packages
+module _ {k : Known} {e : Extent} {data-set packages map-heads map-room : List ℕ} (h : Keeps k e data-set packages map-heads map-room) where
+  packages-are : pairsIn (e .«package_count») packages ≡ k .packages
   packages-are = pairs-in (h .packages-kept .pairs)
 
-  maps-are : pairsIn (e .maps) maps ≡ k .maps
-  maps-are = pairs-in (h .maps-kept .pairs)
+  map-heads-are : pairsIn (e .«map_count») map-heads ≡ k .map-heads
+  map-heads-are = pairs-in (h .maps-kept .pairs)
 
-  lists-are : listsAt (e .maps) maps room ≡ lists k
+  lists-are : listsAt (e .«map_count») map-heads map-room ≡ lists k
   unfolding lists
-  lists-are = ap₂ (λ (ms : List (ℕ × ℕ)) (r : List ℕ). listsIn ms r) maps-are (h .room-is)
+  lists-are = ap₂ (λ (ms : List (ℕ × ℕ)) (r : List ℕ). listsIn ms r) map-heads-are (h .map-room-is)
 
-  pub packages-there : Packages (e .packages) packages
+  pub packages-there : Packages (e .«package_count») packages
   packages-there = record { few = omega (arith, h .packages-kept .pairs .count, h .packages-kept .pairs .few); slots-all = pairs-length (h .packages-kept .pairs) }
 
-  pub heads-there : Heads (e .maps) maps
-  heads-there = record { few = omega (arith, h .maps-kept .pairs .count, h .maps-kept .pairs .few); slots-all = pairs-length (h .maps-kept .pairs) }
+  pub map-heads-there : MapHeads (e .«map_count») map-heads
+  map-heads-there = record { few = omega (arith, h .maps-kept .pairs .count, h .maps-kept .pairs .few); slots-all = pairs-length (h .maps-kept .pairs) }
 
-  pub rooms-there : Rooms (e .maps) maps room
-  rooms-there = record { heads = heads-there; small = rw maps-are (h .maps-kept .hold .small); room-all = h .room-all }
+  pub map-lists-there : MapLists (e .«map_count») map-heads map-room
+  map-lists-there = record { heads = map-heads-there; small = rw map-heads-are (h .maps-kept .hold .small); map-room-all = h .map-room-all }
 
-  pub services-rise : rising (services (pairsIn (e .packages) packages)) ≡ true
+  pub services-rise : rising (firsts (pairsIn (e .«package_count») packages)) ≡ true
   services-rise = rw packages-are (h .packages-kept .hold .rise)
 
   -- ---- the set
 
   module _ (o : Options) where
     abbrev byDropped : ℕ → Bool
-    byDropped q = any (droppedBy o (listsAt (e .maps) maps room) q) (pairsIn (e .packages) packages)
+    byDropped q = any (droppedBy o (listsAt (e .«map_count») map-heads map-room) q) (pairsIn (e .«package_count») packages)
 
     abbrev byKept : ℕ → Bool
-    byKept q = any (keptBy o (listsAt (e .maps) maps room) q) (pairsIn (e .packages) packages)
+    byKept q = any (keptBy o (listsAt (e .«map_count») map-heads map-room) q) (pairsIn (e .«package_count») packages)
 
     -- first the data set, then what is dropped, then what is kept taken out, then identifier 0
-    pub decided : {a b c d : Words} → SetIs (λ q. not (o .carousel) && inSet carousels q) a → Inserts byDropped a b → Removes byKept b c → Removes (eqb 0) c d
+    pub decided : {a b c d : Words} → SetIs (λ q. not (o .carousel) && inSet data-set q) a → Inserts byDropped a b → Removes byKept b c → Removes (eqb 0) c d
         → SetIs (inDropSet o k) d
     unfolding inDropSet
     decided u v w z =
@@ -104,8 +103,8 @@ module _ {k : Known} {e : Extent} {carousels packages maps room : List ℕ} (h :
           member = λ q l.
               z .member q l
               ∙ ap (λ (t : Bool). t && not (eqb 0 q)) (w .member q l ∙ ap (λ (t : Bool). t && not (byKept q)) (v .member q l ∙ ap (λ (t : Bool). t || byDropped q) (u .member q l)))
-              ∙ arrange (not (o .carousel) && inSet carousels q) (byDropped q) (byKept q) (eqb 0 q)
-              ∙ rw (eqb-swap 0 q, lists-are, packages-are, h .carousels-are);
+              ∙ arrange (not (o .carousel) && inSet data-set q) (byDropped q) (byKept q) (eqb 0 q)
+              ∙ rw (eqb-swap 0 q, lists-are, packages-are, h .data-set-is);
         }
 
     pub eit-kept : {d : Words} → o .eit ≡ true → SetIs (inDropSet o k) d → SetIs (drops o k) d
@@ -128,8 +127,8 @@ module _ {k : Known} {e : Extent} {carousels packages maps room : List ℕ} (h :
 
   -- ---- ready
 
-  held-same : (x : ℕ × ℕ) → listHeld (e .maps) maps x ≡ isHeld (listOf (x .1) (lists k))
-  held-same x = held-is (e .maps) maps room x (omega (arith, heads-there .few, heads-there .slots-all)) ∙ ap (λ (ls : List (ℕ × Listed)). isHeld (listOf (x .1) ls)) lists-are
+  has-list-same : (x : ℕ × ℕ) → hasList (e .«map_count») map-heads x ≡ isSome (listOf (x .1) (lists k))
+  has-list-same x = has-list (e .«map_count») map-heads map-room x (omega (arith, map-heads-there .few, map-heads-there .slots-all)) ∙ ap (λ (ls : List (ℕ × Listed)). isSome (listOf (x .1) ls)) lists-are
 
   pub not-seen : (s : Service) → e .seen ≡ false → false ≡ ready s k
   unfolding ready
@@ -139,10 +138,10 @@ module _ {k : Known} {e : Extent} {carousels packages maps room : List ℕ} (h :
   unfolding ready
   seen-then s t = rw (← h .seen, t)
 
-  pub all-ready : e .seen ≡ true → all (listHeld (e .maps) maps) (pairsIn (e .packages) packages) ≡ ready Every k
-  all-ready t = rw packages-are (all-same (listHeld (e .maps) maps) (λ x. isHeld (listOf (x .1) (lists k))) held-same (k .packages)) ∙ seen-then Every t
+  pub all-ready : e .seen ≡ true → all (hasList (e .«map_count») map-heads) (pairsIn (e .«package_count») packages) ≡ ready Every k
+  all-ready t = rw packages-are (all-same (hasList (e .«map_count») map-heads) (λ x. isSome (listOf (x .1) (lists k))) has-list-same (k .packages)) ∙ seen-then Every t
 
-  pub service-ready : (s : ℕ) → e .seen ≡ true → any (λ x. eqb (x .0) s && listHeld (e .maps) maps x) (pairsIn (e .packages) packages) ≡ ready (Only s) k
+  pub service-ready : (s : ℕ) → e .seen ≡ true → any (λ x. eqb (x .0) s && hasList (e .«map_count») map-heads x) (pairsIn (e .«package_count») packages) ≡ ready (Only s) k
   service-ready s t =
-      rw packages-are (any-same (λ x. eqb (x .0) s && listHeld (e .maps) maps x) (λ x. eqb (x .0) s && isHeld (listOf (x .1) (lists k)))
-      (λ x. ap (λ (b : Bool). eqb (x .0) s && b) (held-same x)) (k .packages)) ∙ seen-then (Only s) t
+      rw packages-are (any-same (λ x. eqb (x .0) s && hasList (e .«map_count») map-heads x) (λ x. eqb (x .0) s && isSome (listOf (x .1) (lists k)))
+      (λ x. ap (λ (b : Bool). eqb (x .0) s && b) (has-list-same x)) (k .packages)) ∙ seen-then (Only s) t

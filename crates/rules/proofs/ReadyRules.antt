@@ -10,26 +10,26 @@ use native.Mathlib.Numerals.{add-one}
 use lib.Dec.{eqb, ltb}
 use lib.ListN.{length, getD}
 use borrow.Author.Tests.{ltb-true, lt-ltb, le-ltb, eq-eqb, ne-eqb}
-use Rattle.meaning.specs.Lists.{all, any}
-use Rattle.meaning.specs.Record.{pairOf, rising}
-use Rattle.meaning.specs.Sound.{services}
+use Rattle.meaning.specs.Lists.{all, any, isSome}
 use Rattle.meaning.specs.Learn.{placeFor}
-use Rattle.meaning.specs.Rules.{listOf, isHeld}
+use Rattle.meaning.specs.Rules.{listOf}
+use Rattle.meaning.specs.Record.{pairOf}
+use Rattle.meaning.specs.Soundness.{rising, firsts}
 use Rattle.meaning.proofs.ListLaws.{and-both, and-true, or-neither}
 use Rattle.learning.specs.Kept.{pairsIn}
-use Rattle.rules.specs.Changes.{listsAt, listHeld}
+use Rattle.rules.specs.Changes.{listsAt, hasList}
 use Rattle.rules.proofs.MemberLaws.{or-false, and-false}
 use Rattle.rules.proofs.AssetRules.{any-more}
 use Rattle.rules.proofs.PackageRules.{list-found, list-none, pairs-more}
 
 -- a list is held where its place is one of the heads'
-pub held-is : (n : ℕ) (maps room : List ℕ) (x : ℕ × ℕ) → n ≤ length maps → listHeld n maps x ≡ isHeld (listOf (x .1) (listsAt n maps room))
-held-is n maps room x l =
-    elim (decLt (placeFor (x .1) (pairsIn n maps)) n) [
-      | yes h ↦ rw (list-found (x .1) n maps room l h, lt-ltb (placeFor (x .1) (pairsIn n maps)) n h)
+pub has-list : (n : ℕ) (map-heads map-room : List ℕ) (x : ℕ × ℕ) → n ≤ length map-heads → hasList n map-heads x ≡ isSome (listOf (x .1) (listsAt n map-heads map-room))
+has-list n map-heads map-room x l =
+    elim (decLt (placeFor (x .1) (pairsIn n map-heads)) n) [
+      | yes h ↦ rw (list-found (x .1) n map-heads map-room l h, lt-ltb (placeFor (x .1) (pairsIn n map-heads)) n h)
       | no h ↦
-          let k : n ≤ placeFor (x .1) (pairsIn n maps) = omega arith in
-          rw (list-none (x .1) n maps room k, le-ltb (placeFor (x .1) (pairsIn n maps)) n k)
+          let k : n ≤ placeFor (x .1) (pairsIn n map-heads) = omega arith in
+          rw (list-none (x .1) n map-heads map-room k, le-ltb (placeFor (x .1) (pairsIn n map-heads)) n k)
     ]
 
 -- ---- all packages
@@ -67,11 +67,11 @@ module _ (s : ℕ) (g : ℕ × ℕ → Bool) where
   serves x = eqb (x .0) s && g x
 
   -- no later one has the service
-  later : (a : ℕ) (ps : List (ℕ × ℕ)) → s ≤ a → rising (a ∷ services ps) ≡ true → any serves ps ≡ false
+  later : (a : ℕ) (ps : List (ℕ × ℕ)) → s ≤ a → rising (a ∷ firsts ps) ≡ true → any serves ps ≡ false
   unfolding any rising
   later a [] h e = refl
   later a (x ∷ ps) h e =
-      let b = and-both (ltb a (x .0)) (rising (services (x ∷ ps))) e in
+      let b = and-both (ltb a (x .0)) (rising (firsts (x ∷ ps))) e in
       let l : a < x .0 = ltb-true a (x .0) (b .0) in
       rw (ne-eqb (x .0) s (λ z. omega arith)) (later (x .0) ps (omega arith) (b .1))
 
@@ -85,7 +85,7 @@ module _ (s : ℕ) (g : ℕ × ℕ → Bool) where
       rw (add-one i, pairs-more i xs l) (any-more serves (pairsIn i xs) (pairOf (getD xs i 0)) ∙ rw (e, ne-eqb (getD xs i 0 / 65536) s h))
 
   pub service-here : (n i : ℕ) (xs : List ℕ) → i < n → n ≤ length xs → any serves (pairsIn i xs) ≡ false → getD xs i 0 / 65536 ≡ s
-      → rising (services (pairsIn n xs)) ≡ true → any serves (pairsIn n xs) ≡ g (pairOf (getD xs i 0))
+      → rising (firsts (pairsIn n xs)) ≡ true → any serves (pairsIn n xs) ≡ g (pairOf (getD xs i 0))
   unfolding any pairOf
   service-here zero i xs h l e q r = absurd (omega arith)
   service-here (suc n) i [] h l e q r = absurd (omega arith)
@@ -93,4 +93,4 @@ module _ (s : ℕ) (g : ℕ × ℕ → Bool) where
       rw (later (x / 65536) (pairsIn n xs) (omega arith) r, eq-eqb (x / 65536) s q) (or-false (g (pairOf x)))
   service-here (suc n) (suc i) (x ∷ xs) h l e q r =
       let b = or-neither (serves (pairOf x)) (any serves (pairsIn i xs)) e in
-      rw (b .0) (service-here n i xs (omega arith) (omega arith) (b .1) q (rising-rest (x / 65536) (services (pairsIn n xs)) r))
+      rw (b .0) (service-here n i xs (omega arith) (omega arith) (b .1) q (rising-rest (x / 65536) (firsts (pairsIn n xs)) r))

@@ -7,7 +7,7 @@ use lib.ListN.{length}
 use lib.Dec.{ltb}
 use Rattle.meaning.specs.Sets.{Words, inSet}
 use Rattle.meaning.specs.Learn.{Listed, listsIn, placeFor}
-use Rattle.meaning.specs.Sound.{Below}
+use Rattle.meaning.specs.Soundness.{SecondsBelow}
 use Rattle.learning.specs.Kept.{pairsIn}
 
 -- ---- sets of 65,536 identifiers
@@ -43,19 +43,19 @@ pub record Packages (n : ℕ) (packages : List ℕ) : Type 0 where
   pub slots-all : length packages ≡ 255
 
 -- The heads of n lists in an array of 64.
-pub record Heads (n : ℕ) (maps : List ℕ) : Type 0 where
+pub record MapHeads (n : ℕ) (map-heads : List ℕ) : Type 0 where
   pub few : n ≤ 64
-  pub slots-all : length maps ≡ 64
+  pub slots-all : length map-heads ≡ 64
 
 -- The heads, and the assets in the map room.
-pub record Rooms (n : ℕ) (maps room : List ℕ) : Type 0 where
-  pub heads : Heads n maps
-  pub small : Below 256 (pairsIn n maps)
-  pub room-all : length room ≡ 32768
+pub record MapLists (n : ℕ) (map-heads map-room : List ℕ) : Type 0 where
+  pub heads : MapHeads n map-heads
+  pub small : SecondsBelow 256 (pairsIn n map-heads)
+  pub map-room-all : length map-room ≡ 32768
 
 abbrev pub listsAt : ℕ → List ℕ → List ℕ → List (ℕ × Listed)
-listsAt n maps room = listsIn (pairsIn n maps) room
+listsAt n map-heads map-room = listsIn (pairsIn n map-heads) map-room
 
 -- Whether a package's MPT has its list, among n.
-abbrev pub listHeld : ℕ → List ℕ → ℕ × ℕ → Bool
-listHeld n maps pkg = ltb (placeFor (pkg .1) (pairsIn n maps)) n
+abbrev pub hasList : ℕ → List ℕ → ℕ × ℕ → Bool
+hasList n map-heads pkg = ltb (placeFor (pkg .1) (pairsIn n map-heads)) n

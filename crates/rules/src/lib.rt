@@ -8,13 +8,14 @@ ghost use lib.ListN.{length, drop};
 ghost use lib.Dec.{eqb};
 ghost use Rattle.meaning.specs.Sets.{inSet};
 ghost use Rattle.meaning.specs.Lists.{all, any};
-ghost use Rattle.meaning.specs.Narrow.{wanted};
-ghost use Rattle.meaning.specs.Record.{rising, pairOf};
-ghost use Rattle.meaning.specs.Sound.{services};
-ghost use Rattle.meaning.specs.Learn.{Known, kindOf, assetsIn};
-ghost use Rattle.meaning.specs.Rules.{ours, listsIt, keptBy, droppedBy, drops, dropped, ready};
+ghost use Rattle.meaning.specs.Tables.{kindOf};
+ghost use Rattle.meaning.specs.Wishes.{wanted, ours};
+ghost use Rattle.meaning.specs.Learn.{Known, assetsIn};
+ghost use Rattle.meaning.specs.Rules.{listsIt, keptBy, droppedBy, drops, dropped, ready};
+ghost use Rattle.meaning.specs.Record.{pairOf};
+ghost use Rattle.meaning.specs.Soundness.{rising, firsts};
 ghost use Rattle.learning.specs.Kept.{Keeps, pairsIn};
-ghost use Rattle.rules.specs.Changes.{SetIs, Inserts, Removes, Packages, Heads, Rooms, listsAt, listHeld};
+ghost use Rattle.rules.specs.Changes.{SetIs, Inserts, Removes, Packages, MapHeads, MapLists, listsAt, hasList};
 use learning::Extent;
 use learning::lists::place_for;
 use meaning::Options;
@@ -55,14 +56,21 @@ fn is_kept(o: Options, ours: bool, kind: u16) -> bool
 }
 
 // Puts the assets of a list of `n` at `base` into the set: those not wanted, or all where the service is not ours.
-fn drop_assets(o: Options, ours: bool, room: &[u16], base: usize, n: usize, set: &mut [u64; 1024])
-    requires { ⌜ (base + 2 * n ≤ length (now room)) × (length (now set) ≡ 1024) ⌝ }
-    ensures { λ _. ⌜ Inserts (λ q. listsIt (λ part. not (ours && wanted o part)) q (some (assetsIn n (drop base (now (room .entry)))))) (now (set .entry)) (now (set .exit)) ⌝ }
+fn drop_assets(
+    o: Options,
+    ours: bool,
+    map_room: &[u16],
+    base: usize,
+    n: usize,
+    set: &mut [u64; 1024],
+)
+    requires { ⌜ (base + 2 * n ≤ length (now «map_room»)) × (length (now set) ≡ 1024) ⌝ }
+    ensures { λ _. ⌜ Inserts (λ q. listsIt (λ part. not (ours && wanted o part)) q (some (assetsIn n (drop base (now («map_room» .entry)))))) (now (set .entry)) (now (set .exit)) ⌝ }
 {
     let mut i: usize = 0;
     while i < n {
-        let id = room[base + 2 * i];
-        let kept = is_kept(o, ours, room[base + 2 * i + 1]);
+        let id = map_room[base + 2 * i];
+        let kept = is_kept(o, ours, map_room[base + 2 * i + 1]);
         i += 1;
         if !kept {
             insert(set, id);
@@ -71,14 +79,14 @@ fn drop_assets(o: Options, ours: bool, room: &[u16], base: usize, n: usize, set:
 }
 
 // Takes the wanted assets of a list out of the set.
-fn keep_assets(o: Options, room: &[u16], base: usize, n: usize, set: &mut [u64; 1024])
-    requires { ⌜ (base + 2 * n ≤ length (now room)) × (length (now set) ≡ 1024) ⌝ }
-    ensures { λ _. ⌜ Removes (λ q. listsIt (wanted o) q (some (assetsIn n (drop base (now (room .entry)))))) (now (set .entry)) (now (set .exit)) ⌝ }
+fn keep_assets(o: Options, map_room: &[u16], base: usize, n: usize, set: &mut [u64; 1024])
+    requires { ⌜ (base + 2 * n ≤ length (now «map_room»)) × (length (now set) ≡ 1024) ⌝ }
+    ensures { λ _. ⌜ Removes (λ q. listsIt (wanted o) q (some (assetsIn n (drop base (now («map_room» .entry)))))) (now (set .entry)) (now (set .exit)) ⌝ }
 {
     let mut i: usize = 0;
     while i < n {
-        let id = room[base + 2 * i];
-        let kept = wants(o, room[base + 2 * i + 1]);
+        let id = map_room[base + 2 * i];
+        let kept = wants(o, map_room[base + 2 * i + 1]);
         i += 1;
         if kept {
             remove(set, id);
@@ -90,13 +98,13 @@ fn keep_assets(o: Options, room: &[u16], base: usize, n: usize, set: &mut [u64; 
 fn drop_package(
     o: Options,
     p: u32,
-    maps: &[u32; 64],
-    held: usize,
-    room: &[u16],
+    map_heads: &[u32; 64],
+    map_count: usize,
+    map_room: &[u16],
     set: &mut [u64; 1024],
 )
-    requires { ⌜ Rooms held (now maps) (now room) × (length (now set) ≡ 1024) ⌝ }
-    ensures { λ _. ⌜ Inserts (λ q. droppedBy o (listsAt held (now (maps .entry)) (now (room .entry))) q (pairOf p)) (now (set .entry)) (now (set .exit)) ⌝ }
+    requires { ⌜ MapLists «map_count» (now «map_heads») (now «map_room») × (length (now set) ≡ 1024) ⌝ }
+    ensures { λ _. ⌜ Inserts (λ q. droppedBy o (listsAt «map_count» (now («map_heads» .entry)) (now («map_room» .entry))) q (pairOf p)) (now (set .entry)) (now (set .exit)) ⌝ }
 {
     let id = (p % 65536) as u16;
     let s = o.service;
@@ -104,9 +112,16 @@ fn drop_package(
     if !ours {
         insert(set, id);
     }
-    let i = place_for(maps, held, id);
-    if i < held {
-        drop_assets(o, ours, room, 512 * i, (maps[i] % 65536) as usize, set);
+    let i = place_for(map_heads, map_count, id);
+    if i < map_count {
+        drop_assets(
+            o,
+            ours,
+            map_room,
+            512 * i,
+            (map_heads[i] % 65536) as usize,
+            set,
+        );
     }
 }
 
@@ -114,13 +129,13 @@ fn drop_package(
 fn keep_package(
     o: Options,
     p: u32,
-    maps: &[u32; 64],
-    held: usize,
-    room: &[u16],
+    map_heads: &[u32; 64],
+    map_count: usize,
+    map_room: &[u16],
     set: &mut [u64; 1024],
 )
-    requires { ⌜ Rooms held (now maps) (now room) × (length (now set) ≡ 1024) ⌝ }
-    ensures { λ _. ⌜ Removes (λ q. keptBy o (listsAt held (now (maps .entry)) (now (room .entry))) q (pairOf p)) (now (set .entry)) (now (set .exit)) ⌝ }
+    requires { ⌜ MapLists «map_count» (now «map_heads») (now «map_room») × (length (now set) ≡ 1024) ⌝ }
+    ensures { λ _. ⌜ Removes (λ q. keptBy o (listsAt «map_count» (now («map_heads» .entry)) (now («map_room» .entry))) q (pairOf p)) (now (set .entry)) (now (set .exit)) ⌝ }
 {
     let s = o.service;
     if !is_ours(s, p / 65536) {
@@ -128,9 +143,9 @@ fn keep_package(
     }
     let id = (p % 65536) as u16;
     remove(set, id);
-    let i = place_for(maps, held, id);
-    if i < held {
-        keep_assets(o, room, 512 * i, (maps[i] % 65536) as usize, set);
+    let i = place_for(map_heads, map_count, id);
+    if i < map_count {
+        keep_assets(o, map_room, 512 * i, (map_heads[i] % 65536) as usize, set);
     }
 }
 
@@ -138,15 +153,15 @@ fn drop_packages(
     o: Options,
     e: Extent,
     packages: &[u32; 255],
-    maps: &[u32; 64],
-    room: &[u16],
+    map_heads: &[u32; 64],
+    map_room: &[u16],
     set: &mut [u64; 1024],
 )
-    requires { ⌜ Packages (e .packages) (now packages) × Rooms (e .maps) (now maps) (now room) × (length (now set) ≡ 1024) ⌝ }
-    ensures { λ _. ⌜ Inserts (λ q. any (droppedBy o (listsAt (e .maps) (now (maps .entry)) (now (room .entry))) q) (pairsIn (e .packages) (now (packages .entry)))) (now (set .entry)) (now (set .exit)) ⌝ }
+    requires { ⌜ Packages (e .«package_count») (now packages) × MapLists (e .«map_count») (now «map_heads») (now «map_room») × (length (now set) ≡ 1024) ⌝ }
+    ensures { λ _. ⌜ Inserts (λ q. any (droppedBy o (listsAt (e .«map_count») (now («map_heads» .entry)) (now («map_room» .entry))) q) (pairsIn (e .«package_count») (now (packages .entry)))) (now (set .entry)) (now (set .exit)) ⌝ }
 {
-    for i in 0..e.packages {
-        drop_package(o, packages[i], maps, e.maps, room, set);
+    for i in 0..e.package_count {
+        drop_package(o, packages[i], map_heads, e.map_count, map_room, set);
     }
 }
 
@@ -154,27 +169,27 @@ fn keep_packages(
     o: Options,
     e: Extent,
     packages: &[u32; 255],
-    maps: &[u32; 64],
-    room: &[u16],
+    map_heads: &[u32; 64],
+    map_room: &[u16],
     set: &mut [u64; 1024],
 )
-    requires { ⌜ Packages (e .packages) (now packages) × Rooms (e .maps) (now maps) (now room) × (length (now set) ≡ 1024) ⌝ }
-    ensures { λ _. ⌜ Removes (λ q. any (keptBy o (listsAt (e .maps) (now (maps .entry)) (now (room .entry))) q) (pairsIn (e .packages) (now (packages .entry)))) (now (set .entry)) (now (set .exit)) ⌝ }
+    requires { ⌜ Packages (e .«package_count») (now packages) × MapLists (e .«map_count») (now «map_heads») (now «map_room») × (length (now set) ≡ 1024) ⌝ }
+    ensures { λ _. ⌜ Removes (λ q. any (keptBy o (listsAt (e .«map_count») (now («map_heads» .entry)) (now («map_room» .entry))) q) (pairsIn (e .«package_count») (now (packages .entry)))) (now (set .entry)) (now (set .exit)) ⌝ }
 {
-    for i in 0..e.packages {
-        keep_package(o, packages[i], maps, e.maps, room, set);
+    for i in 0..e.package_count {
+        keep_package(o, packages[i], map_heads, e.map_count, map_room, set);
     }
 }
 
 // With carousels off the data set is dropped.
-fn first_drops(o: Options, carousels: &[u64; 1024], set: &mut [u64; 1024])
-    requires { ⌜ length (now carousels) ≡ 1024 ⌝ }
-    ensures { λ _. ⌜ SetIs (λ q. not (o .carousel) && inSet (now (carousels .entry)) q) (now (set .exit)) ⌝ }
+fn first_drops(o: Options, data_set: &[u64; 1024], set: &mut [u64; 1024])
+    requires { ⌜ length (now «data_set») ≡ 1024 ⌝ }
+    ensures { λ _. ⌜ SetIs (λ q. not (o .carousel) && inSet (now («data_set» .entry)) q) (now (set .exit)) ⌝ }
 {
     if o.carousel {
         *set = [0u64; 1024];
     } else {
-        *set = *carousels;
+        *set = *data_set;
     }
 }
 
@@ -182,18 +197,18 @@ fn first_drops(o: Options, carousels: &[u64; 1024], set: &mut [u64; 1024])
 pub fn decide(
     o: Options,
     e: Extent,
-    carousels: &[u64; 1024],
+    data_set: &[u64; 1024],
     packages: &[u32; 255],
-    maps: &[u32; 64],
-    room: &[u16],
+    map_heads: &[u32; 64],
+    map_room: &[u16],
     set: &mut [u64; 1024],
 )
-    requires { ⌜ ((k : Known) × Keeps k e (now carousels) (now packages) (now maps) (now room)) ⌝ }
-    ensures { λ _. ⌜ ((k : Known) → Keeps k e (now (carousels .entry)) (now (packages .entry)) (now (maps .entry)) (now (room .entry)) → SetIs (drops o k) (now (set .exit))) ⌝ }
+    requires { ⌜ ((k : Known) × Keeps k e (now «data_set») (now packages) (now «map_heads») (now «map_room»)) ⌝ }
+    ensures { λ _. ⌜ ((k : Known) → Keeps k e (now («data_set» .entry)) (now (packages .entry)) (now («map_heads» .entry)) (now («map_room» .entry)) → SetIs (drops o k) (now (set .exit))) ⌝ }
 {
-    first_drops(o, carousels, set);
-    drop_packages(o, e, packages, maps, room, set);
-    keep_packages(o, e, packages, maps, room, set);
+    first_drops(o, data_set, set);
+    drop_packages(o, e, packages, map_heads, map_room, set);
+    keep_packages(o, e, packages, map_heads, map_room, set);
     remove(set, 0);
     if !o.eit {
         insert(set, 0x8000);
@@ -201,14 +216,14 @@ pub fn decide(
 }
 
 // Whether each package's MPT has its list.
-fn all_listed(e: Extent, packages: &[u32; 255], maps: &[u32; 64]) -> bool
-    requires { ⌜ Packages (e .packages) (now packages) × Heads (e .maps) (now maps) ⌝ }
-    ensures { λ r. ⌜ r ≡ all (listHeld (e .maps) (now (maps .entry))) (pairsIn (e .packages) (now (packages .entry))) ⌝ }
+fn all_listed(e: Extent, packages: &[u32; 255], map_heads: &[u32; 64]) -> bool
+    requires { ⌜ Packages (e .«package_count») (now packages) × MapHeads (e .«map_count») (now «map_heads») ⌝ }
+    ensures { λ r. ⌜ r ≡ all (hasList (e .«map_count») (now («map_heads» .entry))) (pairsIn (e .«package_count») (now (packages .entry))) ⌝ }
 {
     let mut i: usize = 0;
-    while i < e.packages {
+    while i < e.package_count {
         let id = (packages[i] % 65536) as u16;
-        if place_for(maps, e.maps, id) == e.maps {
+        if place_for(map_heads, e.map_count, id) == e.map_count {
             return false;
         }
         i += 1;
@@ -217,15 +232,15 @@ fn all_listed(e: Extent, packages: &[u32; 255], maps: &[u32; 64]) -> bool
 }
 
 // Whether the service is in the PLT and its MPT has its list.
-fn service_listed(service: u16, e: Extent, packages: &[u32; 255], maps: &[u32; 64]) -> bool
-    requires { ⌜ Packages (e .packages) (now packages) × Heads (e .maps) (now maps) × (rising (services (pairsIn (e .packages) (now packages))) ≡ true) ⌝ }
-    ensures { λ r. ⌜ r ≡ any (λ pkg. eqb (pkg .0) service && listHeld (e .maps) (now (maps .entry)) pkg) (pairsIn (e .packages) (now (packages .entry))) ⌝ }
+fn service_listed(service: u16, e: Extent, packages: &[u32; 255], map_heads: &[u32; 64]) -> bool
+    requires { ⌜ Packages (e .«package_count») (now packages) × MapHeads (e .«map_count») (now «map_heads») × (rising (firsts (pairsIn (e .«package_count») (now packages))) ≡ true) ⌝ }
+    ensures { λ r. ⌜ r ≡ any (λ pkg. eqb (pkg .0) service && hasList (e .«map_count») (now («map_heads» .entry)) pkg) (pairsIn (e .«package_count») (now (packages .entry))) ⌝ }
 {
     let mut i: usize = 0;
-    while i < e.packages {
+    while i < e.package_count {
         let p = packages[i];
         if p / 65536 == (service as u32) {
-            return place_for(maps, e.maps, (p % 65536) as u16) < e.maps;
+            return place_for(map_heads, e.map_count, (p % 65536) as u16) < e.map_count;
         }
         i += 1;
     }
@@ -233,16 +248,16 @@ fn service_listed(service: u16, e: Extent, packages: &[u32; 255], maps: &[u32; 6
 }
 
 // Whether everything that the latest PLT asks for is known.
-pub fn ready(s: Service, e: Extent, packages: &[u32; 255], maps: &[u32; 64]) -> bool
-    requires { ⌜ ((k : Known) × (c room : List ℕ) × Keeps k e c (now packages) (now maps) room) ⌝ }
-    ensures { λ r. ⌜ ((k : Known) (c room : List ℕ) → Keeps k e c (now (packages .entry)) (now (maps .entry)) room → r ≡ ready s k) ⌝ }
+pub fn ready(s: Service, e: Extent, packages: &[u32; 255], map_heads: &[u32; 64]) -> bool
+    requires { ⌜ ((k : Known) × (c «map_room» : List ℕ) × Keeps k e c (now packages) (now «map_heads») «map_room») ⌝ }
+    ensures { λ r. ⌜ ((k : Known) (c «map_room» : List ℕ) → Keeps k e c (now (packages .entry)) (now («map_heads» .entry)) «map_room» → r ≡ ready s k) ⌝ }
 {
     if !e.seen {
         return false;
     }
     match s {
-        Service::Every => all_listed(e, packages, maps),
-        Service::Only(n) => service_listed(n, e, packages, maps),
+        Service::Every => all_listed(e, packages, map_heads),
+        Service::Only(n) => service_listed(n, e, packages, map_heads),
     }
 }
 
@@ -250,15 +265,15 @@ pub fn ready(s: Service, e: Extent, packages: &[u32; 255], maps: &[u32; 64]) -> 
 pub fn dropped(
     o: Options,
     e: Extent,
-    carousels: &[u64; 1024],
+    data_set: &[u64; 1024],
     packages: &[u32; 255],
-    maps: &[u32; 64],
-    room: &[u16],
+    map_heads: &[u32; 64],
+    map_room: &[u16],
 ) -> u32
-    requires { ⌜ ((k : Known) × Keeps k e (now carousels) (now packages) (now maps) (now room)) ⌝ }
-    ensures { λ r. ⌜ ((k : Known) → Keeps k e (now (carousels .entry)) (now (packages .entry)) (now (maps .entry)) (now (room .entry)) → r ≡ dropped o k) ⌝ }
+    requires { ⌜ ((k : Known) × Keeps k e (now «data_set») (now packages) (now «map_heads») (now «map_room»)) ⌝ }
+    ensures { λ r. ⌜ ((k : Known) → Keeps k e (now («data_set» .entry)) (now (packages .entry)) (now («map_heads» .entry)) (now («map_room» .entry)) → r ≡ dropped o k) ⌝ }
 {
     let mut set = [0u64; 1024];
-    decide(o, e, carousels, packages, maps, room, &mut set);
+    decide(o, e, data_set, packages, map_heads, map_room, &mut set);
     count(&set)
 }

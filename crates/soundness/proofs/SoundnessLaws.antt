@@ -11,9 +11,10 @@ use lib.ListN.{length, take, drop, getD, replicate, length-set}
 use lib.Seq.{drop-cons}
 use lib.Dec.{eqb}
 use borrow.Author.Tests.{eqb-true, eqb-false, lt-ltb, le-ltb}
-use Rattle.meaning.specs.Lists.{all, any, sum}
 use Rattle.meaning.specs.Sets.{Words, inSet, withId}
-use Rattle.meaning.specs.Record.{pairOf, rising, distinct}
+use Rattle.meaning.specs.Lists.{all, any, sum}
+use Rattle.meaning.specs.Record.{pairOf}
+use Rattle.meaning.specs.Soundness.{rising, distinct}
 use Rattle.meaning.proofs.SetLaws.{insert-same, insert-other}
 use Rattle.rules.proofs.MemberLaws.{and-true, and-false, empty}
 
@@ -57,13 +58,13 @@ all-turn f n i xs h l b e = ap (all f) (rest-next n i xs h l) ∙ ap (λ (t : Bo
 
 -- ---- numbers rise, as f reads them
 
--- Read up to place i, the one before it last.
+-- Read up to index i, the one before it last.
 pub record Rises (f : ℕ → ℕ) (n : ℕ) (xs : List ℕ) (i : ℕ) : Type 0 where
   pub later : 1 ≤ i
   pub are : rising (map f (take n xs)) ≡ rising (map f (rest n (i - 1) xs))
 
 module _ (f : ℕ → ℕ) (n : ℕ) (xs : List ℕ) (l : n ≤ length xs) where
-  -- those from j on, and i is the next place
+  -- those from j on, and i is the next index
   first : (j i : ℕ) → i ≡ j + 1 → j < n → map f (rest n j xs) ≡ f (getD xs j 0) ∷ map f (rest n i xs)
   first j i e h = ap (map f) (rest-next n j xs h l ∙ ap (λ (z : ℕ). getD xs j 0 ∷ rest n z xs) (sym e))
 
@@ -158,7 +159,7 @@ once-begin f n xs =
     }
 
 module _ {f : ℕ → ℕ} {n : ℕ} {xs : List ℕ} {ws : Words} {i : ℕ} (k : Once f n xs ws i) where
-  -- p is the identifier at place i
+  -- p is the identifier at index i
   module _ (h : i < n) (l : n ≤ length xs) {p : ℕ} (e : p ≡ f (getD xs i 0)) where
     here : distinct (map f (take n xs)) ≡ (avoids ws (p ∷ map f (rest n (i + 1) xs)) && distinct (p ∷ map f (rest n (i + 1) xs)))
     here =

@@ -2,8 +2,8 @@
 use Prim.Native.Nat.{ℕ}
 use mathlib.Core.Bool.{Bool, _&&_}
 use mathlib.Core.List.{List}
-use Rattle.meaning.specs.Learn.{Limits}
-use Rattle.meaning.specs.Record.{soundRooms, soundHeld, soundPackages, soundMaps, soundFragments}
+use Rattle.meaning.specs.Soundness.{soundRooms, soundHeld, soundPackages, soundMaps, soundFragments}
+use Rattle.meaning.specs.declared.Limits.{Limits}
 use Rattle.meaning.specs.declared.Options.{Options}
 use Rattle.learning.specs.declared.Extent.{Extent}
 
@@ -11,5 +11,5 @@ abbrev pub limitsOf : ℕ → ℕ → ℕ → Limits
 limitsOf work total most = record { work = work; total = total; most = most }
 
 abbrev pub partsSound : Limits → Options → ℕ → Extent → List ℕ → List ℕ → List ℕ → ℕ → ℕ → ℕ → Bool
-partsSound L o held e packages maps heads w t m =
-    soundRooms L w t m && soundHeld L o held && soundPackages (e .packages) packages && soundMaps (e .maps) maps && soundFragments t (e .fragments) heads
+partsSound L o held-count e packages map-heads fragment-heads w t m =
+    soundRooms L w t m && soundHeld L o held-count && soundPackages (e .«package_count») packages && soundMaps (e .«map_count») map-heads && soundFragments t (e .«fragment_count») fragment-heads

@@ -5,14 +5,15 @@ ghost use Prim.Native.Nat.{ℕ, _≤_, _<_};
 ghost use mathlib.Core.List.{map};
 ghost use lib.ListN.{length, take};
 ghost use lib.Dec.{leb};
-ghost use Rattle.meaning.specs.Lists.{all, sum};
 ghost use Rattle.meaning.specs.Sets.{inSet, withId};
-ghost use Rattle.meaning.specs.Rules.{copiesAll};
-ghost use Rattle.meaning.specs.Refusals.{packetLimit, goodWork, goodFragments, goodMaps};
-ghost use Rattle.meaning.specs.Record.{pairOf, headIdentifier, headLength, rising, distinct};
-ghost use Rattle.meaning.specs.Record.{soundRooms, soundHeld, soundPackages, soundMaps, soundFragments};
+ghost use Rattle.meaning.specs.Lists.{all, sum};
+ghost use Rattle.meaning.specs.Wishes.{copiesAll};
+ghost use Rattle.meaning.specs.Rooms.{packetLimit, goodWorkRoom, goodFragmentRoom, goodMapRoom};
+ghost use Rattle.meaning.specs.Record.{pairOf, fragmentIdentifier, fragmentLength};
+ghost use Rattle.meaning.specs.Soundness.{rising, distinct, soundRooms, soundHeld, soundPackages, soundMaps, soundFragments};
 ghost use Rattle.soundness.specs.Parts.{limitsOf, partsSound};
 use learning::Extent;
+use meaning::Limits;
 use meaning::Options;
 use meaning::Service;
 use octets::has;
@@ -31,8 +32,8 @@ pub fn packet_limit(work: usize) -> usize
     65539
 }
 
-pub fn good_work(work: usize) -> bool
-    ensures { λ r. ⌜ r ≡ goodWork work ⌝ }
+pub fn good_work_room(work: usize) -> bool
+    ensures { λ r. ⌜ r ≡ goodWorkRoom work ⌝ }
 {
     if work < 4096 {
         return false;
@@ -40,8 +41,8 @@ pub fn good_work(work: usize) -> bool
     work <= 131078
 }
 
-pub fn good_fragments(total: usize, most: usize) -> bool
-    ensures { λ r. ⌜ r ≡ goodFragments total most ⌝ }
+pub fn good_fragment_room(total: usize, most: usize) -> bool
+    ensures { λ r. ⌜ r ≡ goodFragmentRoom total most ⌝ }
 {
     if total < 1 {
         return false;
@@ -55,13 +56,13 @@ pub fn good_fragments(total: usize, most: usize) -> bool
     most <= total
 }
 
-pub fn good_maps(maps: usize) -> bool
-    ensures { λ r. ⌜ r ≡ goodMaps maps ⌝ }
+pub fn good_map_room(map_heads: usize) -> bool
+    ensures { λ r. ⌜ r ≡ goodMapRoom «map_heads» ⌝ }
 {
-    maps == 32768
+    map_heads == 32768
 }
 
-// Whether the limits are the lengths of the lent rooms (work `w`, fragments `t`, maps `m`), and in range.
+// Whether the limits are the lengths of the lent rooms (work room `w`, fragment room `t`, map room `m`), and in range.
 fn sound_rooms(work: usize, total: usize, most: usize, w: usize, t: usize, m: usize) -> bool
     ensures { λ r. ⌜ r ≡ soundRooms (limitsOf work total most) w t m ⌝ }
 {
@@ -71,13 +72,13 @@ fn sound_rooms(work: usize, total: usize, most: usize, w: usize, t: usize, m: us
     if total != t {
         return false;
     }
-    if !good_maps(m) {
+    if !good_map_room(m) {
         return false;
     }
-    if !good_work(w) {
+    if !good_work_room(w) {
         return false;
     }
-    good_fragments(t, most)
+    good_fragment_room(t, most)
 }
 
 // ---- held bytes
@@ -102,16 +103,16 @@ pub fn copies_all(o: Options) -> bool
 }
 
 // Fewer are held than the packet limit, none in copy-all.
-fn sound_held(work: usize, o: Options, held: usize) -> bool
-    ensures { λ r. ⌜ ((total most : ℕ) → r ≡ soundHeld (limitsOf work total most) o held) ⌝ }
+fn sound_held(work: usize, o: Options, held_count: usize) -> bool
+    ensures { λ r. ⌜ ((total most : ℕ) → r ≡ soundHeld (limitsOf work total most) o «held_count») ⌝ }
 {
-    if packet_limit(work) <= held {
+    if packet_limit(work) <= held_count {
         return false;
     }
     if !copies_all(o) {
         return true;
     }
-    held == 0
+    held_count == 0
 }
 
 // ---- packages
@@ -155,13 +156,13 @@ fn seen_before(set: &mut [u64; 1024], id: u16) -> bool
 // ---- maps
 
 // Whether each of the first `n` counts at most 255 assets.
-fn counts_few(maps: &[u32; 64], n: usize) -> bool
-    requires { ⌜ (n ≤ 64) × (length (now maps) ≡ 64) ⌝ }
-    ensures { λ r. ⌜ r ≡ all (λ x. leb (pairOf x .1) 255) (take n (now (maps .entry))) ⌝ }
+fn counts_few(map_heads: &[u32; 64], n: usize) -> bool
+    requires { ⌜ (n ≤ 64) × (length (now «map_heads») ≡ 64) ⌝ }
+    ensures { λ r. ⌜ r ≡ all (λ x. leb (pairOf x .1) 255) (take n (now («map_heads» .entry))) ⌝ }
 {
     let mut i: usize = 0;
     while i < n {
-        if 255 < maps[i] % 65536 {
+        if 255 < map_heads[i] % 65536 {
             return false;
         }
         i += 1;
@@ -176,14 +177,14 @@ fn map_identifier(head: u32) -> u16
     (head / 65536) as u16
 }
 
-fn maps_distinct(maps: &[u32; 64], n: usize) -> bool
-    requires { ⌜ (n ≤ 64) × (length (now maps) ≡ 64) ⌝ }
-    ensures { λ r. ⌜ r ≡ distinct (map (λ x. pairOf x .0) (take n (now (maps .entry)))) ⌝ }
+fn maps_distinct(map_heads: &[u32; 64], n: usize) -> bool
+    requires { ⌜ (n ≤ 64) × (length (now «map_heads») ≡ 64) ⌝ }
+    ensures { λ r. ⌜ r ≡ distinct (map (λ x. pairOf x .0) (take n (now («map_heads» .entry)))) ⌝ }
 {
     let mut set = [0u64; 1024];
     let mut i: usize = 0;
     while i < n {
-        let id = map_identifier(maps[i]);
+        let id = map_identifier(map_heads[i]);
         if seen_before(&mut set, id) {
             return false;
         }
@@ -192,36 +193,36 @@ fn maps_distinct(maps: &[u32; 64], n: usize) -> bool
     true
 }
 
-fn sound_maps(maps: &[u32; 64], n: usize) -> bool
-    requires { ⌜ length (now maps) ≡ 64 ⌝ }
-    ensures { λ r. ⌜ r ≡ soundMaps n (now (maps .entry)) ⌝ }
+fn sound_maps(map_heads: &[u32; 64], n: usize) -> bool
+    requires { ⌜ length (now «map_heads») ≡ 64 ⌝ }
+    ensures { λ r. ⌜ r ≡ soundMaps n (now («map_heads» .entry)) ⌝ }
 {
     if 64 < n {
         return false;
     }
-    if !counts_few(maps, n) {
+    if !counts_few(map_heads, n) {
         return false;
     }
-    maps_distinct(maps, n)
+    maps_distinct(map_heads, n)
 }
 
 // ---- fragments
 
 // The identifier in a fragment's head.
 fn fragment_identifier(head: u64) -> u16
-    ensures { λ r. ⌜ (r ≡ headIdentifier head) × (r < 65536) ⌝ }
+    ensures { λ r. ⌜ (r ≡ fragmentIdentifier head) × (r < 65536) ⌝ }
 {
     (head / 281474976710656) as u16
 }
 
-fn fragments_distinct(heads: &[u64; 256], n: usize) -> bool
-    requires { ⌜ (n ≤ 256) × (length (now heads) ≡ 256) ⌝ }
-    ensures { λ r. ⌜ r ≡ distinct (map headIdentifier (take n (now (heads .entry)))) ⌝ }
+fn fragments_distinct(fragment_heads: &[u64; 256], n: usize) -> bool
+    requires { ⌜ (n ≤ 256) × (length (now «fragment_heads») ≡ 256) ⌝ }
+    ensures { λ r. ⌜ r ≡ distinct (map fragmentIdentifier (take n (now («fragment_heads» .entry)))) ⌝ }
 {
     let mut set = [0u64; 1024];
     let mut i: usize = 0;
     while i < n {
-        let id = fragment_identifier(heads[i]);
+        let id = fragment_identifier(fragment_heads[i]);
         if seen_before(&mut set, id) {
             return false;
         }
@@ -231,68 +232,61 @@ fn fragments_distinct(heads: &[u64; 256], n: usize) -> bool
 }
 
 // The bytes of the first `n`.
-fn lengths(heads: &[u64; 256], n: usize) -> usize
-    requires { ⌜ (n ≤ 256) × (length (now heads) ≡ 256) ⌝ }
-    ensures { λ r. ⌜ r ≡ sum (map headLength (take n (now (heads .entry)))) ⌝ }
+fn lengths(fragment_heads: &[u64; 256], n: usize) -> usize
+    requires { ⌜ (n ≤ 256) × (length (now «fragment_heads») ≡ 256) ⌝ }
+    ensures { λ r. ⌜ r ≡ sum (map fragmentLength (take n (now («fragment_heads» .entry)))) ⌝ }
 {
     let mut sum: usize = 0;
     let mut i: usize = 0;
     while i < n {
-        sum += (heads[i] % 1099511627776) as usize;
+        sum += (fragment_heads[i] % 1099511627776) as usize;
         i += 1;
     }
     sum
 }
 
-fn sound_fragments(heads: &[u64; 256], n: usize, total: usize) -> bool
-    requires { ⌜ length (now heads) ≡ 256 ⌝ }
-    ensures { λ r. ⌜ r ≡ soundFragments total n (now (heads .entry)) ⌝ }
+fn sound_fragments(fragment_heads: &[u64; 256], n: usize, total: usize) -> bool
+    requires { ⌜ length (now «fragment_heads») ≡ 256 ⌝ }
+    ensures { λ r. ⌜ r ≡ soundFragments total n (now («fragment_heads» .entry)) ⌝ }
 {
     if 256 < n {
         return false;
     }
-    if !fragments_distinct(heads, n) {
+    if !fragments_distinct(fragment_heads, n) {
         return false;
     }
-    lengths(heads, n) <= total
+    lengths(fragment_heads, n) <= total
 }
 
 // ---- the record
-
-// The limits of a start: the lengths of the work room and of the fragment room, and the most bytes of one message.
-pub struct Limits {
-    pub work: usize,
-    pub total: usize,
-    pub most: usize,
-}
 
 // Whether the parts of a record are sound with rooms of these lengths.
 pub fn parts_sound(
     l: Limits,
     o: Options,
-    held: usize,
+    held_count: usize,
     e: Extent,
     packages: &[u32; 255],
-    maps: &[u32; 64],
-    heads: &[u64; 256],
+    map_heads: &[u32; 64],
+    fragment_heads: &[u64; 256],
     w: usize,
     t: usize,
     m: usize,
 ) -> bool
-    requires { ⌜ (length (now packages) ≡ 255) × (length (now maps) ≡ 64) × (length (now heads) ≡ 256) ⌝ }
-    ensures { λ r. ⌜ r ≡ partsSound (limitsOf (l .work) (l .total) (l .most)) o held e (now (packages .entry)) (now (maps .entry)) (now (heads .entry)) w t m ⌝ }
+    requires { ⌜ (length (now packages) ≡ 255) × (length (now «map_heads») ≡ 64) × (length (now «fragment_heads») ≡ 256) ⌝ }
+    ensures { λ r. ⌜ r ≡ partsSound (limitsOf (l .work) (l .total) (l .most)) o «held_count» e (now (packages .entry)) (now («map_heads» .entry)) (now («fragment_heads» .entry)) w t m ⌝ }
 {
     if !sound_rooms(l.work, l.total, l.most, w, t, m) {
         return false;
     }
-    if !sound_held(l.work, o, held) {
+    if !sound_held(l.work, o, held_count) {
         return false;
     }
-    if !sound_packages(packages, e.packages) {
+    if !sound_packages(packages, e.package_count) {
         return false;
     }
-    if !sound_maps(maps, e.maps) {
+    if !sound_maps(map_heads, e.map_count) {
         return false;
     }
-    sound_fragments(heads, e.fragments, t)
+    sound_fragments(fragment_heads, e.fragment_count, t)
 }

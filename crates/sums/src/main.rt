@@ -1,6 +1,6 @@
 // The program `sums`: prints a line of sums of what it reads, or the line of a refusal.
-use programs::run::run;
+use programs::stream::stream;
 
 fn main() {
-    run(false);
+    stream(false);
 }

@@ -12,9 +12,9 @@ use lib.Seq.{drop-cons}
 use lib.Dec.{eqb}
 use Rattle.meaning.specs.Bytes.{Bytes}
 use Rattle.meaning.specs.Readers.{Out, Reader, bind, _>>=_, give, u8, bytes, counted8, counted16, announced, many, raw}
+use Rattle.meaning.specs.Tables.{clockRelation, location, asset, entry, sameBytes, partOf, mptFront, firstOf}
 use Rattle.meaning.specs.Tables as meant
 use Rattle.meaning.specs.declared.Part.{Part}
-use Rattle.meaning.specs.Tables.{clockRelation, location, asset, entry, sameBytes, partOf, mptFront, firstOf}
 use Rattle.meaning.proofs.ListLaws.{clash}
 use Rattle.meaning.proofs.Local.{asset-local}
 use Rattle.meaning.proofs.Framed.{progress}
@@ -112,11 +112,11 @@ and-nothing true = refl
 and-nothing false = refl
 
 -- the test of the four, one after the other
-pub kind-at : (s : Bytes) (at a b : ℕ) → at + 4 ≤ length s
+pub asset-type-at : (s : Bytes) (at a b : ℕ) → at + 4 ≤ length s
     → sameBytes (take 4 (drop at s)) (a ∷ b ∷ 0x70 ∷ 0x70 ∷ [])
     ≡ (eqb (getD s at 0) a && (eqb (getD s (at + 1) 0) b && (eqb (getD s (at + 2) 0) 0x70 && eqb (getD s (at + 3) 0) 0x70)))
 unfolding sameBytes
-kind-at s at a b h = rw (four-at s at h, and-nothing (eqb (getD s (at + 3) 0) 0x70))
+asset-type-at s at a b h = rw (four-at s at h, and-nothing (eqb (getD s (at + 3) 0) 0x70))
 
 -- ---- an entry
 
@@ -137,17 +137,17 @@ bind-under (some x) f g e = e (x .0) (x .1)
 
 -- an asset of this kind with these locations
 abbrev made : Bytes → List (Option ℕ) → meant.Asset
-made kind ls = record { kind = kind; carrier = firstOf ls }
+made asset-type ls = record { asset-type = asset-type; carrier = firstOf ls }
 
 -- what an asset has behind its flags
 abbrev behindFlags : Bytes → ℕ → Reader meant.Asset
-behindFlags kind flags =
-    announced (flags % 2) clockRelation >>= (λ _. u8 >>= (λ n. many n location >>= (λ ls. counted16 >>= (λ _. give (made kind ls)))))
+behindFlags asset-type flags =
+    announced (flags % 2) clockRelation >>= (λ _. u8 >>= (λ n. many n location >>= (λ ls. counted16 >>= (λ _. give (made asset-type ls)))))
 
 -- that is `assetTail`
-behind-flags : (kind : Bytes) (flags : ℕ) (s : Bytes) → behindFlags kind flags s ≡ bind (assetTail flags s) (λ ls. give (made kind ls))
+behind-flags : (asset-type : Bytes) (flags : ℕ) (s : Bytes) → behindFlags asset-type flags s ≡ bind (assetTail flags s) (λ ls. give (made asset-type ls))
 unfolding assetTail
-behind-flags kind flags s =
+behind-flags asset-type flags s =
     bind-under (announced (flags % 2) clockRelation s) _ _
     (λ _ r. bind-under (u8 r) _ _ (λ n r. bind-under (many n location r) _ _ (λ ls r. bind-under (counted16 r) _ _ (λ _ r. refl))))
 
@@ -161,7 +161,7 @@ module _ (s : Bytes) (at : ℕ) (small : (i : ℕ) → getD s i 0 < 256) where
         | no k ↦ rw (u8-none s at (omega arith))
       ]
 
-  module _ (kind n : ℕ) (six : at + 6 ≤ length s) (is : n ≡ getD s (at + 5) 0) (k-is : kind ≡ at + 6 + n) where
+  module _ (type-at n : ℕ) (six : at + 6 ≤ length s) (is : n ≡ getD s (at + 5) 0) (k-is : type-at ≡ at + 6 + n) where
     -- as far as the identifier's length
     asset-front : asset (drop at s) ≡ bind (bytes n (drop (at + 6) s)) (λ _. bytes 4 >>= (λ k. u8 >>= (λ flags. behindFlags k flags)))
     unfolding asset counted8
@@ -174,20 +174,20 @@ module _ (s : Bytes) (at : ℕ) (small : (i : ℕ) → getD s i 0 < 256) where
         )
 
     -- not as far as the flags
-    asset-cut : length s ≤ kind + 4 → asset (drop at s) ≡ none
+    asset-cut : length s ≤ type-at + 4 → asset (drop at s) ≡ none
     asset-cut h = asset-front ∙ bytes-then s (at + 6) n _ six (λ k. bytes-then s (at + 6 + n) 4 _ k (λ k2. rw (u8-none s (at + 6 + n + 4) (omega arith))))
 
     -- as far as the flags
-    asset-head : kind + 4 < length s
-        → asset (drop at s) ≡ bind (assetTail (getD s (kind + 4) 0) (drop (kind + 5) s)) (λ ls. give (made (take 4 (drop kind s)) ls))
+    asset-head : type-at + 4 < length s
+        → asset (drop at s) ≡ bind (assetTail (getD s (type-at + 4) 0) (drop (type-at + 5) s)) (λ ls. give (made (take 4 (drop type-at s)) ls))
     asset-head h =
         asset-front
         ∙ rw (
-          bytes-at s (at + 6) n kind (omega arith) k-is,
-          bytes-at s kind 4 (kind + 4) (omega arith) refl,
-          u8-at s (kind + 4) (kind + 5) h (small (kind + 4)) (omega arith),
+          bytes-at s (at + 6) n type-at (omega arith) k-is,
+          bytes-at s type-at 4 (type-at + 4) (omega arith) refl,
+          u8-at s (type-at + 4) (type-at + 5) h (small (type-at + 4)) (omega arith),
         )
-        (behind-flags (take 4 (drop kind s)) (getD s (kind + 4) 0) (drop (kind + 5) s))
+        (behind-flags (take 4 (drop type-at s)) (getD s (type-at + 4) 0) (drop (type-at + 5) s))
 
 -- an entry is an asset with its bytes
 entry-none : (s : Bytes) → asset s ≡ none → entry s ≡ none
@@ -201,7 +201,7 @@ asset-nothing = refl
 
 -- those between where it starts and where it ends
 entry-at : (s : Bytes) (at e : ℕ) (a : meant.Asset) → e ≤ length s → asset (drop at s) ≡ some (a, drop e s)
-    → (at < e) × (entry (drop at s) ≡ some (record { part = partOf (a .kind); carrier = a .carrier; bytes-of = take (e - at) (drop at s) }, drop e s))
+    → (at < e) × (entry (drop at s) ≡ some (record { part = partOf (a .asset-type); carrier = a .carrier; bytes-of = take (e - at) (drop at s) }, drop e s))
 unfolding entry raw
 entry-at s at e a h q =
     let l = progress asset-local asset-nothing (drop at s) a (drop e s) q in
@@ -213,23 +213,23 @@ module _ (s : Bytes) (at : ℕ) (small : (i : ℕ) → getD s i 0 < 256) where
   pub entry-short : length s < at + 6 → entry (drop at s) ≡ none
   entry-short h = entry-none (drop at s) (asset-short s at small h)
 
-  module _ (kind n : ℕ) (six : at + 6 ≤ length s) (is : n ≡ getD s (at + 5) 0) (k-is : kind ≡ at + 6 + n) where
-    pub entry-cut : length s ≤ kind + 4 → entry (drop at s) ≡ none
-    entry-cut h = entry-none (drop at s) (asset-cut s at small kind n six is k-is h)
+  module _ (type-at n : ℕ) (six : at + 6 ≤ length s) (is : n ≡ getD s (at + 5) 0) (k-is : type-at ≡ at + 6 + n) where
+    pub entry-cut : length s ≤ type-at + 4 → entry (drop at s) ≡ none
+    entry-cut h = entry-none (drop at s) (asset-cut s at small type-at n six is k-is h)
 
-    module _ (h : kind + 4 < length s) where
+    module _ (h : type-at + 4 < length s) where
       -- what follows its flags
       abbrev Rest : Out (List (Option ℕ))
-      Rest = Tail s (kind + 5) (getD s (kind + 4) 0)
+      Rest = Tail s (type-at + 5) (getD s (type-at + 4) 0)
 
       pub entry-broken : Rest ≡ none → entry (drop at s) ≡ none
-      entry-broken t = entry-none (drop at s) (asset-head s at small kind n six is k-is h ∙ rw t)
+      entry-broken t = entry-none (drop at s) (asset-head s at small type-at n six is k-is h ∙ rw t)
 
-      pub entry-whole : (e : ℕ) (part : Part) (c : Carrier) → LocationsAre Rest s (Located.To e c) → part ≡ partOf (take 4 (drop kind s))
+      pub entry-whole : (e : ℕ) (part : Part) (c : Carrier) → LocationsAre Rest s (Located.To e c) → part ≡ partOf (take 4 (drop type-at s))
           → AssetIs s at (Asset.Entry e part c)
       entry-whole e part c t p =
-          let a = made (take 4 (drop kind s)) (t .1 .0) in
-          let u = entry-at s at e a (t .0) (asset-head s at small kind n six is k-is h ∙ rw (t .1 .1)) in
+          let a = made (take 4 (drop type-at s)) (t .1 .0) in
+          let u = entry-at s at e a (t .0) (asset-head s at small type-at n six is k-is h ∙ rw (t .1 .1)) in
           (t .0, u .0, (firstOf (t .1 .0), rw p (u .1), t .1 .2))
 
 -- ---- the front of an MPT

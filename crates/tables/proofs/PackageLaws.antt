@@ -55,43 +55,43 @@ module _ (s : Bytes) (at : ℕ) where
   unfolding counted8
   counted h = rw (byte-at s at (at + 1) h refl)
 
-  -- the name is the bytes from behind its length to `place`
-  module _ (place : ℕ) (n : Bytes) (in-s : place ≤ length s) where
+  -- the name is the bytes from behind its length to `name-end`
+  module _ (name-end : ℕ) (n : Bytes) (in-s : name-end ≤ length s) where
     abbrev Named-to : Type 0
-    Named-to = (at < place) × (n ≡ take (place - at - 1) (drop (at + 1) s))
+    Named-to = (at < name-end) × (n ≡ take (name-end - at - 1) (drop (at + 1) s))
 
-    named-go : (m : ℕ) → at < length s → bytes m (drop (at + 1) s) ≡ some (n, drop place s) → Named-to
+    named-go : (m : ℕ) → at < length s → bytes m (drop (at + 1) s) ≡ some (n, drop name-end s) → Named-to
     named-go m k e =
         elim (decLt (length s) (at + 1 + m)) [
           | yes l ↦ absurd (Option·none-ne-some _ (sym (bytes-none s (at + 1) m (omega arith)) ∙ e))
           | no l ↦
               let q = Option·some-injective _ _ (sym (bytes-at s (at + 1) m (at + 1 + m) (omega arith) refl) ∙ e) in
-              let p : place ≡ at + 1 + m = omega (arith, ap (λ z. length (z .1)) q, length-drop (at + 1 + m) s, length-drop place s) in
-              let w : place - at - 1 ≡ m = omega arith in
+              let p : name-end ≡ at + 1 + m = omega (arith, ap (λ z. length (z .1)) q, length-drop (at + 1 + m) s, length-drop name-end s) in
+              let w : name-end - at - 1 ≡ m = omega arith in
               (omega arith, rw w (sym (ap (λ z. z .0) q)))
         ]
 
-    named : counted8 (drop at s) ≡ some (n, drop place s) → Named-to
+    named : counted8 (drop at s) ≡ some (n, drop name-end s) → Named-to
     named e =
         elim (decLt at (length s)) [
           | yes k ↦ named-go _ k (sym (counted k) ∙ e)
           | no k ↦ absurd (Option·none-ne-some _ (sym (counted8-none s at (omega arith)) ∙ e))
         ]
 
-  module _ (place : ℕ) (name-ends : Ends (counted8 (drop at s)) s (At place)) where
-    pub name-in : (at < place) × (place ≤ length s)
-    name-in = (named place (name-ends .1 .0) (name-ends .0) (name-ends .1 .1) .0, name-ends .0)
+  module _ (name-end : ℕ) (name-ends : Ends (counted8 (drop at s)) s (At name-end)) where
+    pub name-in : (at < name-end) × (name-end ≤ length s)
+    name-in = (named name-end (name-ends .1 .0) (name-ends .0) (name-ends .1 .1) .0, name-ends .0)
 
-    pub package-placeless : location (drop place s) ≡ none → packageEntry (drop at s) ≡ none
+    pub package-placeless : location (drop name-end s) ≡ none → packageEntry (drop at s) ≡ none
     unfolding packageEntry
     package-placeless e = rw (name-ends .1 .1, e)
 
-    pub package-at : (e : ℕ) (name : Named) (c : Carrier) → LocationIs (location (drop place s)) s (To e c)
-        → name ≡ nameOf (serviceOf (take (place - at - 1) (drop (at + 1) s))) → PackageIs s at (Entry e name c)
+    pub package-at : (e : ℕ) (name : Named) (c : Carrier) → LocationIs (location (drop name-end s)) s (To e c)
+        → name ≡ nameOf (serviceOf (take (name-end - at - 1) (drop (at + 1) s))) → PackageIs s at (Entry e name c)
     unfolding packageEntry location
     package-at e name c f is =
-        let w = named place (name-ends .1 .0) (name-ends .0) (name-ends .1 .1) in
-        let l = progress location-local refl (drop place s) (f .1 .0) (drop e s) (f .1 .1) in
-        let k : at < e = omega (arith, w .0, l, f .0, length-drop place s, length-drop e s) in
+        let w = named name-end (name-ends .1 .0) (name-ends .0) (name-ends .1 .1) in
+        let l = progress location-local refl (drop name-end s) (f .1 .0) (drop e s) (f .1 .1) in
+        let k : at < e = omega (arith, w .0, l, f .0, length-drop name-end s, length-drop e s) in
         let size : length (drop at s) - length (drop e s) ≡ e - at = omega (arith, f .0, length-drop at s, length-drop e s) in
         (f .0, k, (name-ends .1 .0, f .1 .0, rw (name-ends .1 .1, f .1 .1, size), rw (w .1) is, f .1 .2))

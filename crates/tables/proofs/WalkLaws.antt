@@ -1,4 +1,4 @@
--- The table at a place of a PA body: how it reads by itself, and that the walk over the tables goes on behind it or stops there. Rests on
+-- The table at an offset of a PA body: how it reads by itself, and that the walk over the tables goes on behind it or stops there. Rests on
 -- Framed of `meaning`.
 use Prim.Native.Nat.{ℕ, _+_, _-_}
 use mathlib.Core.Path.{_≡_, refl, ap}

@@ -77,7 +77,7 @@ nameOf (some n) = Named.Service n
 abbrev pub PackageIs : Bytes → ℕ → Package → Type 0
 PackageIs s at (Package.Entry e name c) =
     (e ≤ length s) × (at < e)
-    × ((n : Bytes) × (q : Option ℕ) × (meant.packageEntry (drop at s) ≡ some (record { name = n; place = q; bytes-of = take (e - at) (drop at s) }, drop e s))
+    × ((n : Bytes) × (q : Option ℕ) × (meant.packageEntry (drop at s) ≡ some (record { name = n; carrier = q; bytes-of = take (e - at) (drop at s) }, drop e s))
     × (name ≡ nameOf (meant.serviceOf n)) × (c ≡ carrierOf q))
 PackageIs s at Package.Broken = meant.packageEntry (drop at s) ≡ none
 
@@ -91,7 +91,7 @@ abbrev pub MessageIs : Out messages.Message → Bytes → Found → Type 0
 MessageIs o s (Found.Message n a e) = (3 < a) × (a ≤ e) × (e ≤ length s) × (o ≡ some (record { number = n; body = take (e - a) (drop a s) }, drop e s))
 MessageIs o s Found.Nothing = o ≡ none
 
--- The table at a place: it ends at e, or it is cut, or fewer bytes than a table's head has are left.
+-- The table at an offset: it ends at e, or it is cut, or fewer bytes than a table's head has are left.
 abbrev pub TableIs : Out meant.Table → Bytes → ℕ → Table → Type 0
 TableIs o s at (Table.To e) =
     (at + 4 ≤ e) × (e ≤ length s)

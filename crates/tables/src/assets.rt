@@ -64,7 +64,7 @@ fn tail_at(s: &[u8], at: usize, flags: u8) -> Located
 }
 
 // Whether the four bytes at `at` are a, b, `p`, `p`.
-fn is_kind(s: &[u8], at: usize, a: u8, b: u8) -> bool
+fn is_asset_type(s: &[u8], at: usize, a: u8, b: u8) -> bool
     requires { ⌜ at + 4 ≤ length (now s) ⌝ }
     ensures { λ r. ⌜ r ≡ sameBytes (take 4 (drop at (now (s .entry)))) (a ∷ b ∷ 0x70 ∷ 0x70 ∷ []) ⌝ }
 {
@@ -85,10 +85,10 @@ fn part_of(s: &[u8], at: usize) -> Part
     requires { ⌜ at + 4 ≤ length (now s) ⌝ }
     ensures { λ r. ⌜ r ≡ partOf (take 4 (drop at (now (s .entry)))) ⌝ }
 {
-    if is_kind(s, at, 0x73, 0x74) {
+    if is_asset_type(s, at, 0x73, 0x74) {
         return Part::Caption;
     }
-    if is_kind(s, at, 0x61, 0x61) {
+    if is_asset_type(s, at, 0x61, 0x61) {
         return Part::Carousel;
     }
     Part::Other
@@ -105,16 +105,16 @@ pub fn asset_at(s: &[u8], at: usize) -> Asset
     if len - 6 < at {
         return Asset::Broken;
     }
-    let kind = at + 6 + wide(s[at + 5]);
-    if len <= kind + 4 {
+    let type_at = at + 6 + wide(s[at + 5]);
+    if len <= type_at + 4 {
         return Asset::Broken;
     }
-    let Located::To(end, carrier) = tail_at(s, kind + 5, s[kind + 4]) else {
+    let Located::To(end, carrier) = tail_at(s, type_at + 5, s[type_at + 4]) else {
         return Asset::Broken;
     };
     Asset::Entry {
         end,
-        part: part_of(s, kind),
+        part: part_of(s, type_at),
         carrier,
     }
 }

@@ -49,8 +49,8 @@ pub fn location_at(s: &[u8], at: usize) -> Located
     if s.len() <= at {
         return Located::Broken;
     }
-    let kind = s[at];
-    match kind {
+    let location_type = s[at];
+    match location_type {
         0 => here(s, at + 1),
         1 => elsewhere(bytes_end(s, at + 1, 12)),
         2 | 4 => elsewhere(bytes_end(s, at + 1, 36)),

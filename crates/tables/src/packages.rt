@@ -41,15 +41,15 @@ fn name_at(s: &[u8], at: usize, end: usize) -> Named
 pub fn package_at(s: &[u8], at: usize) -> Package
     ensures { λ r. ⌜ PackageIs (now (s .entry)) at r ⌝ }
 {
-    let End::At(place) = counted_end(s, at) else {
+    let End::At(name_end) = counted_end(s, at) else {
         return Package::Broken;
     };
-    let Located::To(end, carrier) = location_at(s, place) else {
+    let Located::To(end, carrier) = location_at(s, name_end) else {
         return Package::Broken;
     };
     Package::Entry {
         end,
-        name: name_at(s, at, place),
+        name: name_at(s, at, name_end),
         carrier,
     }
 }

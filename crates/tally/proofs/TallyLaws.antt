@@ -9,7 +9,7 @@ use borrow.Author.Tests.{leb-true, leb-false, ltb-true, lt-ltb, le-ltb}
 use Rattle.meaning.specs.declared.Counts.{Counts}
 use Rattle.meaning.specs.declared.Answer.{Answer}
 use Rattle.meaning.specs.Refusals.{answerNumber}
-use Rattle.meaning.specs.Push.{addCounts, fits64, tallyRefusal, tallied}
+use Rattle.meaning.specs.Tally.{addCounts, fits64, tallyRefusal, tallied}
 use Rattle.meaning.proofs.ListLaws.{and-both}
 use Rattle.tally.proofs.AnswerLaws.{answer-told}
 

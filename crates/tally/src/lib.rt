@@ -1,10 +1,10 @@
 // The day tally: counts that the caller lends and that gain each call's counts. Where a sum would not fit, the call is
-// refused and the tally stays as it was. Over `tallyRefusal` and `tallied` of `meaning`, specs/Push.antt.
+// refused and the tally stays as it was. Over `tallyRefusal` and `tallied` of `meaning`, specs/Tally.antt.
 ghost use mathlib.Core.Path.{_≡_};
 ghost use Prim.Native.Nat.{_+_, _^_};
 ghost use lib.Dec.{ltb};
-ghost use Rattle.meaning.specs.Push.{addCounts, fits64, tallyRefusal, tallied};
 ghost use Rattle.meaning.specs.Refusals.{answerNumber};
+ghost use Rattle.meaning.specs.Tally.{addCounts, fits64, tallyRefusal, tallied};
 use meaning::Answer;
 use meaning::Counts;
 use meaning::Refusal;

@@ -1,5 +1,5 @@
 -- One law for each return of the readers: what the code's tests show is what the definition says. First finding packets, then the
--- place of the MMTP, then its head.
+-- offset of the MMTP, then its header.
 use Prim.Native.Nat.{ℕ, zero, suc, _+_, _-_, _*_, _/_, _%_, _≤_, _<_}
 use mathlib.Core.Path.{_≡_, refl, sym, ap, ap₂, _∙_}
 use mathlib.Core.Logic.{_⊎_, inl, inr}
@@ -18,13 +18,13 @@ use Rattle.meaning.specs.Packets.{sizeOf, isType, candidate, followed, stepOf}
 use Rattle.meaning.specs.Mmtp as meant
 use Rattle.meaning.specs.declared.Step.the-variants.{Packet, Skip, Keep}
 use Rattle.meaning.proofs.Reading.{u8-none, u8-some, u16-at, u16-none, u32-at, u32-none, bytes-at, bytes-none, counted16-at, counted16-none}
-use Rattle.tlv.specs.Answers.{placed, headTo, extendedTo, Headed}
-use Rattle.tlv.specs.declared.Head.{Head}
-use Rattle.tlv.specs.declared.Head.the-variants.{Cut}
-use Rattle.tlv.specs.declared.Place.{Place}
-use Rattle.tlv.specs.declared.Place.the-variants.{Unread, At}
+use Rattle.tlv.specs.Answers.{asOffset, headerTo, extendedTo, HeaderIs}
+use Rattle.tlv.specs.declared.Header.{Header}
+use Rattle.tlv.specs.declared.Header.the-variants.{Cut}
+use Rattle.tlv.specs.declared.Offset.{Offset}
+use Rattle.tlv.specs.declared.Offset.the-variants.{Unread, At}
 
--- ---- finding packets: the fields at a place of the run
+-- ---- finding packets: the fields at an offset of the run
 
 module _ (run : Bytes) (at : ℕ) where
   pub size-is : sizeOf (drop at run) ≡ 4 + be16At run (at + 2)
@@ -62,10 +62,10 @@ module _ (P : ℕ) (s : Bytes) where
   unfolding stepOf
   packet-here h f l = rw (le-ltb _ _ h, f, le-leb _ _ l)
 
--- ---- the head: its twelve bytes
+-- ---- the header: its twelve bytes
 
-pub head-short : (s : Bytes) → length s < 12 → meant.mmtpHead s ≡ none
-unfolding meant.mmtpHead
+pub head-short : (s : Bytes) → length s < 12 → meant.mmtpHeader s ≡ none
+unfolding meant.mmtpHeader
 head-short s h =
     elim (decLt 0 (length s)) [
       | no k ↦ rw (u8-none s 0 (omega arith))
@@ -82,13 +82,13 @@ head-short s h =
     ]
 
 -- what follows the twelve bytes, by the two flags
-abbrev flags-rest : Bytes → ℕ → Out meant.Head
+abbrev flags-rest : Bytes → ℕ → Out meant.MmtpHeader
 flags-rest s f =
     bind (announced (f / 32 % 2) (bytes 4) (drop 12 s))
-    (λ _. announced (f / 2 % 2) meant.extension >>= (λ _. give (record { identifier = be16At s 2; kind = getD s 1 0 % 64 })))
+    (λ _. announced (f / 2 % 2) meant.extension >>= (λ _. give (record { identifier = be16At s 2; payload-type = getD s 1 0 % 64 })))
 
-twelve : (s : Bytes) → 12 ≤ length s → getD s 0 0 < 256 → meant.mmtpHead s ≡ flags-rest s (getD s 0 0)
-unfolding meant.mmtpHead
+twelve : (s : Bytes) → 12 ≤ length s → getD s 0 0 < 256 → meant.mmtpHeader s ≡ flags-rest s (getD s 0 0)
+unfolding meant.mmtpHeader
 twelve s h b =
     let f : getD s 0 0 % 256 ≡ getD s 0 0 = omega arith in
     let k : getD s 1 0 % 256 % 64 ≡ getD s 1 0 % 64 = omega arith in
@@ -113,8 +113,8 @@ module _ (s : Bytes) (at : ℕ) (long : 12 ≤ length s) (small : getD s 0 0 < 2
   v = omega arith
 
   -- no extension
-  pub head-plain : getD s 0 0 / 2 % 2 ≡ 0 → Headed (meant.mmtpHead s) s (headTo s at)
-  unfolding headTo announced
+  pub head-plain : getD s 0 0 / 2 % 2 ≡ 0 → HeaderIs (meant.mmtpHeader s) s (headerTo s at)
+  unfolding headerTo announced
   head-plain e =
       elim (decLt (length s) at) [
         | yes k ↦ rw (lt-ltb (length s) at k) (twelve s long small ∙ counter-cut s _ (getD s 0 0 / 32 % 2) v long (omega arith))
@@ -123,8 +123,8 @@ module _ (s : Bytes) (at : ℕ) (long : 12 ≤ length s) (small : getD s 0 0 < 2
       ]
 
   -- an extension
-  pub head-extended : getD s 0 0 / 2 % 2 ≡ 1 → Headed (meant.mmtpHead s) s (extendedTo s at)
-  unfolding extendedTo headTo announced meant.extension
+  pub head-extended : getD s 0 0 / 2 % 2 ≡ 1 → HeaderIs (meant.mmtpHeader s) s (extendedTo s at)
+  unfolding extendedTo headerTo announced meant.extension
   head-extended e =
       elim (decLt (length s) at) [
         | yes k ↦ rw (lt-ltb (length s) (at + 4) (omega arith)) (twelve s long small ∙ counter-cut s _ (getD s 0 0 / 32 % 2) v long (omega arith))
@@ -135,10 +135,10 @@ module _ (s : Bytes) (at : ℕ) (long : 12 ≤ length s) (small : getD s 0 0 < 2
         ]
       ]
     where
-      head : meant.Head
-      head = record { identifier = be16At s 2; kind = getD s 1 0 % 64 }
+      head : meant.MmtpHeader
+      head = record { identifier = be16At s 2; payload-type = getD s 1 0 % 64 }
 
-      after : Bytes → Reader meant.Head
+      after : Bytes → Reader meant.MmtpHeader
       after = λ _. give head
 
       cut-short : length s < at + 4 → bind (bind (u16 (drop at s)) (λ _. counted16)) after ≡ none
@@ -147,7 +147,7 @@ module _ (s : Bytes) (at : ℕ) (long : 12 ≤ length s) (small : getD s 0 0 < 2
         | no m ↦ rw (u16-at s at (at + 2) (omega arith) refl, counted16-none s (at + 2) (omega arith))
       ]
 
-      sized : at + 4 ≤ length s → Headed (meant.mmtpHead s) s (cond (ltb (length s) (at + 4 + be16At s (at + 2))) Cut (Head.Read (at + 4 + be16At s (at + 2)) (be16At s 2) (getD s 1 0 % 64)))
+      sized : at + 4 ≤ length s → HeaderIs (meant.mmtpHeader s) s (cond (ltb (length s) (at + 4 + be16At s (at + 2))) Cut (Header.Read (at + 4 + be16At s (at + 2)) (be16At s 2) (getD s 1 0 % 64)))
       sized l =
           let four : at + 2 + 2 ≡ at + 4 = omega arith in
           elim (decLt (length s) (at + 4 + be16At s (at + 2))) [
@@ -167,13 +167,13 @@ module _ (s : Bytes) (at : ℕ) (long : 12 ≤ length s) (small : getD s 0 0 < 2
 pub to-end : (s : Bytes) (n : ℕ) → take (length s - n) (drop n s) ≡ drop n s
 to-end s n = take-all (length s - n) (drop n s) (omega (arith, length-drop n s))
 
--- ---- a place out of what the code has
+-- ---- an offset out of what the code has
 
-pub unplaced : (o : meant.Place) → Unread ≡ placed o → o ≡ none
+pub unplaced : (o : meant.Offset) → Unread ≡ asOffset o → o ≡ none
 unplaced none e = refl
 unplaced (some x) e = let z : _≡_ {A = ℕ} 0 1 = cc in absurd (omega arith)
 
-pub placed-at : (o : meant.Place) (at : ℕ) (w : Bool) → At at w ≡ placed o → o ≡ some (at, w)
+pub placed-at : (o : meant.Offset) (at : ℕ) (w : Bool) → At at w ≡ asOffset o → o ≡ some (at, w)
 placed-at none at w e = let z : _≡_ {A = ℕ} 0 1 = cc in absurd (omega arith)
 placed-at (some x) at w e = let a : at ≡ x .0 = cc in let b : w ≡ x .1 = cc in ap₂ (λ (m : ℕ) (v : Bool). some (m, v)) (sym a) (sym b)
 
@@ -185,34 +185,34 @@ module _ (p : Bytes) where
   unread-short h = rw (lt-leb 4 (length p) h)
 
   module _ (four : 4 ≤ length p) where
-    pub unread-place : meant.placeOf (getD p 1 0) (drop 4 p) ≡ none → meant.mmtpOf p ≡ none
+    pub unread-offset : meant.offsetOf (getD p 1 0) (drop 4 p) ≡ none → meant.mmtpOf p ≡ none
     unfolding meant.mmtpOf
-    unread-place e = rw (le-leb 4 (length p) four, e)
+    unread-offset e = rw (le-leb 4 (length p) four, e)
 
-    module _ (at : ℕ) (w : Bool) (e : meant.placeOf (getD p 1 0) (drop 4 p) ≡ some (at, w)) where
+    module _ (at : ℕ) (w : Bool) (e : meant.offsetOf (getD p 1 0) (drop 4 p) ≡ some (at, w)) where
       pub unread-past : length p - 4 < at → meant.mmtpOf p ≡ none
       unfolding meant.mmtpOf
       unread-past h = rw (le-leb 4 (length p) four, e, lt-leb at (length (drop 4 p)) (omega (arith, length-drop 4 p)))
 
-      pub unread-head : at ≤ length p - 4 → meant.mmtpHead (drop (at + 4) p) ≡ none → meant.mmtpOf p ≡ none
+      pub unread-head : at ≤ length p - 4 → meant.mmtpHeader (drop (at + 4) p) ≡ none → meant.mmtpOf p ≡ none
       unfolding meant.mmtpOf
       unread-head h g =
           let d : drop at (drop 4 p) ≡ drop (at + 4) p = (let q : 4 + at ≡ at + 4 = omega arith in drop-drop at 4 p ∙ ap (λ (n : ℕ). drop n p) q) in
           rw (le-leb 4 (length p) four, e, le-leb at (length (drop 4 p)) (omega (arith, length-drop 4 p)), d, g)
 
-      pub read-all : at ≤ length p - 4 → (start i k : ℕ) → meant.mmtpHead (drop (at + 4) p) ≡ some (record { identifier = i; kind = k }, drop start (drop (at + 4) p))
-          → meant.mmtpOf p ≡ some (record { identifier = i; kind = k; rewritable = w; payload = drop (at + 4 + start) p })
+      pub read-all : at ≤ length p - 4 → (start i k : ℕ) → meant.mmtpHeader (drop (at + 4) p) ≡ some (record { identifier = i; payload-type = k }, drop start (drop (at + 4) p))
+          → meant.mmtpOf p ≡ some (record { identifier = i; payload-type = k; rewritable = w; payload = drop (at + 4 + start) p })
       unfolding meant.mmtpOf
       read-all h start i k g =
           let d : drop at (drop 4 p) ≡ drop (at + 4) p = (let q : 4 + at ≡ at + 4 = omega arith in drop-drop at 4 p ∙ ap (λ (n : ℕ). drop n p) q) in
           rw (le-leb 4 (length p) four, e, le-leb at (length (drop 4 p)) (omega (arith, length-drop 4 p)), d, g, drop-drop start (at + 4) p)
 
--- ---- a compressed header that is of no known kind; a type that is no IP
+-- ---- a compressed header that is of no known type; a type that is no IP
 
-pub no-kind : (k : ℕ) → ((k ≡ 0x21) ⊎ (k ≡ 0x61) → ⊥) → (k ≡ 0x20 → ⊥) → (k ≡ 0x60 → ⊥) → meant.byKind k ≡ none
-unfolding meant.byKind
-no-kind k a b c = rw (ne-eqb k 0x21 (λ e. a (inl e)), ne-eqb k 0x61 (λ e. a (inr e)), ne-eqb k 0x20 b, ne-eqb k 0x60 c)
+pub no-header-type : (k : ℕ) → ((k ≡ 0x21) ⊎ (k ≡ 0x61) → ⊥) → (k ≡ 0x20 → ⊥) → (k ≡ 0x60 → ⊥) → meant.byHeaderType k ≡ none
+unfolding meant.byHeaderType
+no-header-type k a b c = rw (ne-eqb k 0x21 (λ e. a (inl e)), ne-eqb k 0x61 (λ e. a (inr e)), ne-eqb k 0x20 b, ne-eqb k 0x60 c)
 
-pub no-ip : (t : ℕ) (s : Bytes) → (t ≡ 0x03 → ⊥) → (t ≡ 0x01 → ⊥) → (t ≡ 0x02 → ⊥) → meant.placeOf t s ≡ none
-unfolding meant.placeOf
+pub no-ip : (t : ℕ) (s : Bytes) → (t ≡ 0x03 → ⊥) → (t ≡ 0x01 → ⊥) → (t ≡ 0x02 → ⊥) → meant.offsetOf t s ≡ none
+unfolding meant.offsetOf
 no-ip t s a b c = rw (ne-eqb t 0x03 a, ne-eqb t 0x01 b, ne-eqb t 0x02 c)

@@ -8,34 +8,34 @@ use lib.Dec.{ltb}
 use Rattle.meaning.specs.Bytes.{Bytes, be16At}
 use Rattle.meaning.specs.Readers.{Out}
 use Rattle.meaning.specs.Mmtp as meant
-use Rattle.tlv.specs.declared.Place.{Place}
-use Rattle.tlv.specs.declared.Place.the-variants.{Unread, At}
-use Rattle.tlv.specs.declared.Head.{Head}
-use Rattle.tlv.specs.declared.Head.the-variants.{Cut}
+use Rattle.tlv.specs.declared.Offset.{Offset}
+use Rattle.tlv.specs.declared.Offset.the-variants.{Unread, At}
+use Rattle.tlv.specs.declared.Header.{Header}
+use Rattle.tlv.specs.declared.Header.the-variants.{Cut}
 use Rattle.tlv.specs.declared.Mmtp.{Mmtp}
 
--- A place, as the code has it.
-abbrev pub placed : meant.Place → Place
-placed none = Unread
-placed (some x) = At (x .0) (x .1)
+-- An offset, as the code has it.
+abbrev pub asOffset : meant.Offset → Offset
+asOffset none = Unread
+asOffset (some x) = At (x .0) (x .1)
 
--- A head that ends at a place, of twelve bytes at least.
-unfoldable pub headTo : Bytes → ℕ → Head
+-- A header that ends at an offset, of twelve bytes at least.
+unfoldable pub headerTo : Bytes → ℕ → Header
 unfolding be16At
-headTo s n = cond (ltb (length s) n) Cut (Head.Read n (be16At s 2) (getD s 1 0 % 64))
+headerTo s n = cond (ltb (length s) n) Cut (Header.Read n (be16At s 2) (getD s 1 0 % 64))
 
--- A head whose extension is at a place.
-unfoldable pub extendedTo : Bytes → ℕ → Head
-unfolding headTo
-extendedTo s at = cond (ltb (length s) (at + 4)) Cut (headTo s (at + 4 + be16At s (at + 2)))
+-- A header whose extension is at an offset.
+unfoldable pub extendedTo : Bytes → ℕ → Header
+unfolding headerTo
+extendedTo s at = cond (ltb (length s) (at + 4)) Cut (headerTo s (at + 4 + be16At s (at + 2)))
 
--- The head that is read, and the payload as the rest of the bytes.
-abbrev pub Headed : Out meant.Head → Bytes → Head → Type 0
-Headed o s Cut = o ≡ none
-Headed o s (Head.Read start p k) = (12 ≤ start) × (start ≤ length s) × (o ≡ some (record { identifier = p; kind = k }, drop start s))
+-- The header that is read, and the payload as the rest of the bytes.
+abbrev pub HeaderIs : Out meant.MmtpHeader → Bytes → Header → Type 0
+HeaderIs o s Cut = o ≡ none
+HeaderIs o s (Header.Read start p k) = (12 ≤ start) × (start ≤ length s) × (o ≡ some (record { identifier = p; payload-type = k }, drop start s))
 
 -- The MMTP that is read of a packet; its payload is the rest of the packet.
 abbrev pub MmtpIs : Option meant.Mmtp → Bytes → Mmtp → Type 0
 MmtpIs o p Mmtp.Unread = o ≡ none
 MmtpIs o p (Mmtp.Read body q k w) =
-    (16 ≤ body) × (body ≤ length p) × (o ≡ some (record { identifier = q; kind = k; rewritable = w; payload = drop body p }))
+    (16 ≤ body) × (body ≤ length p) × (o ≡ some (record { identifier = q; payload-type = k; rewritable = w; payload = drop body p }))

@@ -9,7 +9,7 @@ use Rattle.meaning.specs.declared.Step.the-variants.{Skip}
 abbrev pub skipMany : ℕ → Cut → Cut
 skipMany n c = record { packets = c .packets; skipped = n + c .skipped; held = c .held }
 
--- From a place to the first at which nothing is skipped.
+-- From an offset to the first at which nothing is skipped.
 pub record GapTo (P : ℕ) (run : Bytes) (at r : ℕ) : Type 0 where
   pub forth : at ≤ r
   pub inside : r ≤ length run

@@ -1,11 +1,11 @@
-// From a run of bytes to the MMTP payload of a packet: the step that finds packets, the place of the MMTP, its head.
+// From a run of bytes to the MMTP payload of a packet: the step that finds packets, the offset of the MMTP, its header.
 ghost use mathlib.Core.Path.{_≡_};
 ghost use mathlib.Core.Bool.{_&&_};
 ghost use Prim.Native.Nat.{_+_, _*_, _%_, _≤_, _<_};
 ghost use lib.ListN.{length, drop, getD};
 ghost use Rattle.meaning.specs.Packets.{isType, sizeOf, candidate, followed, stepOf};
-ghost use Rattle.meaning.specs.Mmtp.{compressed, udp, placeOf, mmtpHead, mmtpOf};
-ghost use Rattle.tlv.specs.Answers.{placed, headTo, extendedTo, Headed, MmtpIs};
+ghost use Rattle.meaning.specs.Mmtp.{compressed, udp, offsetOf, mmtpHeader, mmtpOf};
+ghost use Rattle.tlv.specs.Answers.{asOffset, headerTo, extendedTo, HeaderIs, MmtpIs};
 ghost use Rattle.tlv.specs.Gaps.{GapTo};
 use meaning::Step;
 use octets::be16;
@@ -13,28 +13,28 @@ use octets::id16;
 use octets::wide;
 
 // Where the MMTP of a packet is: an offset in the TLV payload, and whether the packet may be rewritten.
-pub enum Place {
+pub enum Offset {
     Unread,
     At(usize, bool),
 }
 
-// The MMTP head: where the payload starts, the packet identifier and the payload type.
-pub enum Head {
+// The MMTP header: where the payload starts, the packet identifier and the payload type.
+pub enum Header {
     Cut,
     Read {
         start: usize,
         identifier: u16,
-        kind: u8,
+        payload_type: u8,
     },
 }
 
-// What is read of a packet: where in it the payload starts, and what its head says.
+// What is read of a packet: where in it the payload starts, and what its header says.
 pub enum Mmtp {
     Unread,
     Read {
         body: usize,
         identifier: u16,
-        kind: u8,
+        payload_type: u8,
         rewritable: bool,
     },
 }
@@ -57,7 +57,7 @@ fn known_type(t: u8) -> bool
     t == 0xFF
 }
 
-// The size of the packet whose head is at `at`.
+// The size of the packet whose header is at `at`.
 fn size_at(run: &[u8], at: usize) -> usize
     requires { ⌜ at + 4 ≤ length (now run) ⌝ }
     ensures { λ r. ⌜ (r ≡ sizeOf (drop at (now (run .entry)))) × (r < 65540) ⌝ }
@@ -130,33 +130,33 @@ pub fn gap_end(run: &[u8], at: usize, most: usize) -> usize
 }
 
 // The MMTP behind a compressed IP header.
-fn compressed(s: &[u8]) -> Place
-    ensures { λ r. ⌜ r ≡ placed (compressed (now (s .entry))) ⌝ }
+fn compressed(s: &[u8]) -> Offset
+    ensures { λ r. ⌜ r ≡ asOffset (compressed (now (s .entry))) ⌝ }
 {
     if s.len() < 3 {
-        return Place::Unread;
+        return Offset::Unread;
     }
-    let kind = s[2];
-    match kind {
-        0x21 | 0x61 => Place::At(3, true),
-        0x20 => Place::At(23, false),
-        0x60 => Place::At(45, false),
-        _ => Place::Unread,
+    let header_type = s[2];
+    match header_type {
+        0x21 | 0x61 => Offset::At(3, true),
+        0x20 => Offset::At(23, false),
+        0x60 => Offset::At(45, false),
+        _ => Offset::Unread,
     }
 }
 
 // The MMTP behind an IP header of `header` bytes and a UDP header; port 123 is the clock.
-fn udp_body(s: &[u8], header: usize) -> Place
+fn udp_body(s: &[u8], header: usize) -> Offset
     requires { ⌜ header ≤ 60 ⌝ }
-    ensures { λ r. ⌜ r ≡ placed (udp header (now (s .entry))) ⌝ }
+    ensures { λ r. ⌜ r ≡ asOffset (udp header (now (s .entry))) ⌝ }
 {
     if s.len() < header + 4 {
-        return Place::Unread;
+        return Offset::Unread;
     }
     if be16(s, header + 2) == 123 {
-        return Place::Unread;
+        return Offset::Unread;
     }
-    Place::At(header + 8, false)
+    Offset::At(header + 8, false)
 }
 
 // The length of an IPv4 header, by its first byte.
@@ -169,57 +169,57 @@ fn header_length(s: &[u8]) -> usize
     wide(s[0] % 16) * 4
 }
 
-// Where the MMTP is in the TLV payload of a packet of type `kind`.
-pub fn place_of(kind: u8, s: &[u8]) -> Place
-    ensures { λ r. ⌜ r ≡ placed (placeOf kind (now (s .entry))) ⌝ }
+// Where the MMTP is in the TLV payload of a packet of type `tlv_type`.
+pub fn offset_of(tlv_type: u8, s: &[u8]) -> Offset
+    ensures { λ r. ⌜ r ≡ asOffset (offsetOf «tlv_type» (now (s .entry))) ⌝ }
 {
-    match kind {
+    match tlv_type {
         0x03 => compressed(s),
         0x01 => udp_body(s, header_length(s)),
         0x02 => udp_body(s, 40),
-        _ => Place::Unread,
+        _ => Offset::Unread,
     }
 }
 
-// A head that ends at `start`.
-fn head_to(s: &[u8], start: usize) -> Head
+// A header that ends at `start`.
+fn header_to(s: &[u8], start: usize) -> Header
     requires { ⌜ 12 ≤ length (now s) ⌝ }
-    ensures { λ r. ⌜ r ≡ headTo (now (s .entry)) start ⌝ }
+    ensures { λ r. ⌜ r ≡ headerTo (now (s .entry)) start ⌝ }
 {
     if s.len() < start {
-        return Head::Cut;
+        return Header::Cut;
     }
-    Head::Read {
+    Header::Read {
         start,
         identifier: id16(s, 2),
-        kind: s[1] % 64,
+        payload_type: s[1] % 64,
     }
 }
 
-// A head with an extension at `at`.
-fn extended(s: &[u8], at: usize) -> Head
+// A header with an extension at `at`.
+fn extended(s: &[u8], at: usize) -> Header
     requires { ⌜ (12 ≤ length (now s)) × (at ≤ 16) ⌝ }
     ensures { λ r. ⌜ r ≡ extendedTo (now (s .entry)) at ⌝ }
 {
     if s.len() < at + 4 {
-        return Head::Cut;
+        return Header::Cut;
     }
-    head_to(s, at + 4 + be16(s, at + 2))
+    header_to(s, at + 4 + be16(s, at + 2))
 }
 
-// The MMTP head at the front of `s`.
-pub fn head_of(s: &[u8]) -> Head
-    ensures { λ r. ⌜ Headed (mmtpHead (now (s .entry))) (now (s .entry)) r ⌝ }
+// The MMTP header at the front of `s`.
+pub fn header_of(s: &[u8]) -> Header
+    ensures { λ r. ⌜ HeaderIs (mmtpHeader (now (s .entry))) (now (s .entry)) r ⌝ }
 {
     if s.len() < 12 {
-        return Head::Cut;
+        return Header::Cut;
     }
     let flags = s[0];
     let at = 12 + wide((flags >> 5) & 1) * 4;
     if (flags >> 1) & 1 == 1 {
         return extended(s, at);
     }
-    head_to(s, at)
+    header_to(s, at)
 }
 
 // The payload: the rest of the caller's bytes.
@@ -239,25 +239,25 @@ pub fn mmtp_of(p: &[u8]) -> Mmtp
     if p.len() < 4 {
         return Mmtp::Unread;
     }
-    let Place::At(at, rewritable) = place_of(p[1], &p[4..]) else {
+    let Offset::At(at, rewritable) = offset_of(p[1], &p[4..]) else {
         return Mmtp::Unread;
     };
     if p.len() - 4 < at {
         return Mmtp::Unread;
     }
-    let place = at + 4;
-    let Head::Read {
+    let mmtp_at = at + 4;
+    let Header::Read {
         start,
         identifier,
-        kind,
-    } = head_of(&p[place..])
+        payload_type,
+    } = header_of(&p[mmtp_at..])
     else {
         return Mmtp::Unread;
     };
     Mmtp::Read {
-        body: place + start,
+        body: mmtp_at + start,
         identifier,
-        kind,
+        payload_type,
         rewritable,
     }
 }

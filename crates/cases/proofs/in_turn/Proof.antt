@@ -5,10 +5,10 @@ use Rattle.cases.proofs.in_turn.Statement.{statement}
 use Rattle.cases.proofs.in_turn.Tie as tie
 
 abbrev Inv-loop : tie.InvT-loop
-Inv-loop input₀ work₀ bodies₀ room₀ out₀ kind₀ turns₀ input work bodies room out kind turns = length kind ≡ 1
+Inv-loop input₀ work₀ bodies₀ map-room₀ out₀ case-kind₀ turns₀ input work bodies map-room out case-kind turns = length case-kind ≡ 1
 
 abbrev μ-loop : tie.MeasureT-loop
-μ-loop input₀ work₀ bodies₀ room₀ out₀ kind₀ turns₀ input work bodies room out kind turns = turns
+μ-loop input₀ work₀ bodies₀ map-room₀ out₀ case-kind₀ turns₀ input work bodies map-room out case-kind turns = turns
 
 loop-holds : tie.Need-loop-holds Inv-loop μ-loop
 loop-holds c = search needs

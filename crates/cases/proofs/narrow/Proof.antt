@@ -19,7 +19,7 @@ same-length : tie.Need-same-length
 same-length c = search needs
 
 returns : tie.Need-returns
-returns c = let a = c .before .before .before .before .before .before .before .before .before .before .before .args in rw (case-table (a .kind) (a .head .now) (a .input .now) _ _ (c .before .before .before .before .before .before .id16 .ensures) (c .before .before .before .before .before .options-of .ensures) (c .before .before .before .before .if1 .taken)) (c .before .before .narrow-table .ensures)
+returns c = let a = c .before .before .before .before .before .before .before .before .before .before .before .args in rw (case-table (a .case-kind) (a .head .now) (a .input .now) _ _ (c .before .before .before .before .before .before .id16 .ensures) (c .before .before .before .before .before .options-of .ensures) (c .before .before .before .before .if1 .taken)) (c .before .before .narrow-table .ensures)
 
 id16-requires-2 : tie.Need-id16-requires-2
 id16-requires-2 c κs = search needs
@@ -31,7 +31,7 @@ same-length-2 : tie.Need-same-length-2
 same-length-2 c = search needs
 
 returns-2 : tie.Need-returns-2
-returns-2 c = let a = c .before .before .before .before .before .before .before .before .before .before .before .before .before .args in rw (case-payload (a .kind) (a .head .now) (a .input .now) _ _ (c .before .before .before .before .before .before .before .before .id16 .ensures) (c .before .before .before .before .before .before .before .options-of .ensures) _ (c .before .before .before .before .id162 .ensures) (c .before .before .before .before .before .before .if1 .left) (c .before .before .before .before .before .if2 .taken)) (c .before .before .narrow-payload .ensures)
+returns-2 c = let a = c .before .before .before .before .before .before .before .before .before .before .before .before .before .args in rw (case-payload (a .case-kind) (a .head .now) (a .input .now) _ _ (c .before .before .before .before .before .before .before .before .id16 .ensures) (c .before .before .before .before .before .before .before .options-of .ensures) _ (c .before .before .before .before .id162 .ensures) (c .before .before .before .before .before .before .if1 .left) (c .before .before .before .before .before .if2 .taken)) (c .before .before .narrow-payload .ensures)
 
 narrow-packet-requires : tie.Need-narrow-packet-requires
 narrow-packet-requires c κs = search needs
@@ -40,7 +40,7 @@ same-length-3 : tie.Need-same-length-3
 same-length-3 c = search needs
 
 returns-3 : tie.Need-returns-3
-returns-3 c = let a = c .before .before .before .before .before .before .before .before .before .before .before .before .args in rw (case-packet (a .kind) (a .head .now) (a .input .now) _ _ (c .before .before .before .before .before .before .before .id16 .ensures) (c .before .before .before .before .before .before .options-of .ensures) (c .before .before .before .before .before .if1 .left) (c .before .before .before .before .if2 .left)) (c .before .before .narrow-packet .ensures)
+returns-3 c = let a = c .before .before .before .before .before .before .before .before .before .before .before .before .args in rw (case-packet (a .case-kind) (a .head .now) (a .input .now) _ _ (c .before .before .before .before .before .before .before .id16 .ensures) (c .before .before .before .before .before .before .options-of .ensures) (c .before .before .before .before .before .if1 .left) (c .before .before .before .before .if2 .left)) (c .before .before .narrow-packet .ensures)
 
 pub narrow-spec : {M : Type 1} → statement M
 narrow-spec =

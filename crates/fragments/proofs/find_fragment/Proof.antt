@@ -1,6 +1,6 @@
-use Rattle.fragments.proofs.FragmentLaws.{place-here, place-next, place-end}
-use Rattle.fragments.specs.Fragments.{placeIn}
-use Rattle.meaning.specs.Record.{headIdentifier}
+use Rattle.fragments.proofs.FragmentLaws.{index-here, index-next, index-end}
+use Rattle.fragments.specs.Fragments.{indexIn}
+use Rattle.meaning.specs.Record.{fragmentIdentifier}
 use lib.ListN.{take, drop}
 use Prim.Native.Nat.{ℕ, _+_, _-_, _≤_}
 use mathlib.Core.Path.{_≡_, ap, _∙_}
@@ -10,10 +10,10 @@ use Rattle.fragments.proofs.find_fragment.Statement.{statement}
 use Rattle.fragments.proofs.find_fragment.Tie as tie
 
 abbrev Inv-loop : tie.InvT-loop
-Inv-loop heads n id p i₀ i = (i ≤ n) × (i + placeIn id (drop i (take n heads)) ≡ placeIn id (take n heads))
+Inv-loop fragment-heads n id p i₀ i = (i ≤ n) × (i + indexIn id (drop i (take n fragment-heads)) ≡ indexIn id (take n fragment-heads))
 
 abbrev μ-loop : tie.MeasureT-loop
-μ-loop heads n id p i₀ i = n - i
+μ-loop fragment-heads n id p i₀ i = n - i
 
 loop-holds : tie.Need-loop-holds Inv-loop μ-loop
 loop-holds c = (omega arith, zero-add _)
@@ -25,11 +25,11 @@ element-copy-out-if1 : tie.Need-element-copy-out-if1 Inv-loop μ-loop
 element-copy-out-if1 c = omega arith
 
 returns : tie.Need-returns Inv-loop μ-loop
-unfolding headIdentifier
+unfolding fragmentIdentifier
 returns c =
     let a = c .before .before .before .before .args in
     let i = c .before .before .before .loop .i in
-    let t = place-here (a .id) (a .heads .now) (a .n) (omega arith) i (omega arith) (omega arith) in
+    let t = index-here (a .id) (a .fragment-heads .now) (a .n) (omega arith) i (omega arith) (omega arith) in
     (omega arith, omega arith)
 
 add-i : tie.Need-add-i Inv-loop μ-loop
@@ -39,18 +39,18 @@ loop-less : tie.Need-loop-less Inv-loop μ-loop
 loop-less c = omega arith
 
 loop-again : tie.Need-loop-again Inv-loop μ-loop
-unfolding headIdentifier
+unfolding fragmentIdentifier
 loop-again c =
     let a = c .before .before .before .before .args in
     let i = c .before .before .before .loop .i in
-    let t = place-next (a .id) (a .heads .now) (a .n) (omega arith) i (omega arith) (λ e. absurd (omega (arith, e))) in
+    let t = index-next (a .id) (a .fragment-heads .now) (a .n) (omega arith) i (omega arith) (λ e. absurd (omega (arith, e))) in
     (omega arith, omega (arith, t))
 
 returns-2 : tie.Need-returns-2 Inv-loop μ-loop
 returns-2 c =
     let a = c .before .before .args in
     let z : c .before .loop .i ≡ a .n = omega arith in
-    let t = ap (λ (k : ℕ). placeIn (a .id) (drop k (take (a .n) (a .heads .now)))) z ∙ place-end (a .id) (a .heads .now) (a .n) (omega arith) in
+    let t = ap (λ (k : ℕ). indexIn (a .id) (drop k (take (a .n) (a .fragment-heads .now)))) z ∙ index-end (a .id) (a .fragment-heads .now) (a .n) (omega arith) in
     (omega (arith, t), omega arith)
 
 pub find-fragment-spec : {M : Type 1} → statement M

@@ -1,4 +1,4 @@
-use Rattle.meaning.specs.Record.{headFlags}
+use Rattle.meaning.specs.Record.{fragmentFlags}
 use mathlib.Core.Path.{refl}
 use borrow.Author.Needs.{needs}
 use Rattle.fragments.proofs.flags_of.Statement.{statement}
@@ -8,7 +8,7 @@ cast-result : tie.Need-cast-result
 cast-result c = search needs
 
 returns : tie.Need-returns
-unfolding headFlags
+unfolding fragmentFlags
 returns c = refl
 
 pub flags-of-spec : {M : Type 1} → statement M

@@ -11,11 +11,11 @@ mul-head c = search needs
 element-copy-out-head : tie.Need-element-copy-out-head
 element-copy-out-head c = search needs
 
-held-bytes-requires : tie.Need-held-bytes-requires
-held-bytes-requires c κs = search needs
+fragment-bytes-requires : tie.Need-fragment-bytes-requires
+fragment-bytes-requires c κs = search needs
 
-held-bytes-requires-2 : tie.Need-held-bytes-requires-2
-held-bytes-requires-2 c κs = search needs
+fragment-bytes-requires-2 : tie.Need-fragment-bytes-requires-2
+fragment-bytes-requires-2 c κs = search needs
 
 length-of-requires : tie.Need-length-of-requires
 length-of-requires c κs = search needs
@@ -30,7 +30,7 @@ lengthen-requires c κs =
     let a = s .args in (
       omega arith,
       s .pre .1,
-      fits-room (a .place) (a .most) (a .body .now) (a .n) (a .heads .now) (a .room .now) _ _ (f .before .length-of .ensures .0) (f .before .before .held-bytes2 .ensures .0)
+      fits-room (a .index) (a .most) (a .body .now) (a .n) (a .fragment-heads .now) (a .bodies .now) _ _ (f .before .length-of .ensures .0) (f .before .before .fragment-bytes2 .ensures .0)
           (sym (f .fits2 .ensures) ∙ c .before .before .if1 .taken),
     )
 
@@ -46,8 +46,8 @@ returns c =
     let f = l .before .before .before .before in
     let s = f .before .before .before .before .before .before .before .before .before in
     let a = s .args in
-    grew (a .place) (a .most) (a .body .now) (a .n) (a .heads .now) (a .room .now) _ _ (f .before .length-of .ensures .0) (f .before .before .held-bytes2 .ensures .0)
-    _ _ _ _ _ (omega arith) (s .pre .1) (f .before .before .before .before .held-bytes .ensures .0) (l .lengthen .ensures .1) (c .flags-of .ensures) (sym (f .fits2 .ensures) ∙ l .before .before .before .if1 .taken)
+    grew (a .index) (a .most) (a .body .now) (a .n) (a .fragment-heads .now) (a .bodies .now) _ _ (f .before .length-of .ensures .0) (f .before .before .fragment-bytes2 .ensures .0)
+    _ _ _ _ _ (omega arith) (s .pre .1) (f .before .before .before .before .fragment-bytes .ensures .0) (l .lengthen .ensures .1) (c .flags-of .ensures) (sym (f .fits2 .ensures) ∙ l .before .before .before .if1 .taken)
     (l .lengthen .kept .1 .1 .1 .1 .0) (l .lengthen .ensures .0)
 
 give-up-requires : tie.Need-give-up-requires
@@ -62,7 +62,7 @@ returns-2 c =
     let f = g .before .before .before .before in
     let s = f .before .before .before .before .before .before .before .before .before in
     let a = s .args in
-    discarded (a .place) (a .most) (a .body .now) (a .n) (a .heads .now) (a .room .now) _ _ (f .before .length-of .ensures .0) (f .before .before .held-bytes2 .ensures .0)
+    discarded (a .index) (a .most) (a .body .now) (a .n) (a .fragment-heads .now) (a .bodies .now) _ _ (f .before .length-of .ensures .0) (f .before .before .fragment-bytes2 .ensures .0)
     _ _ _ (omega arith) (sym (f .fits2 .ensures) ∙ g .before .before .before .if1 .left) (g .give-up .ensures)
 
 pub grow-at-spec : {M : Type 1} → statement M
@@ -71,8 +71,8 @@ grow-at-spec =
     (tie.spec
     mul-head
     element-copy-out-head
-    held-bytes-requires
-    held-bytes-requires-2
+    fragment-bytes-requires
+    fragment-bytes-requires-2
     length-of-requires
     fits-requires
     lengthen-requires

@@ -10,7 +10,7 @@ put-behind-requires : tie.Need-put-behind-requires
 put-behind-requires c κs =
     let d = c .before .before .before .before in
     let b = d .before .before .before .before .before in
-    dropped-numbers (b .args .id) (b .args .n) (b .args .heads .now) (b .args .room .now) _ _ _ (b .pre) (d .drop-fragment .ensures)
+    dropped-numbers (b .args .id) (b .args .n) (b .args .fragment-heads .now) (b .args .bodies .now) _ _ _ (b .pre) (d .drop-fragment .ensures)
 
 same-length : tie.Need-same-length
 same-length c = search needs
@@ -19,7 +19,7 @@ returns : tie.Need-returns
 returns c =
     let d = c .before .before .before .before .before .before .before in
     let a = d .before .before .before .before .before .args in
-    first-held (a .id) (a .n) (a .heads .now) (a .room .now) (a .flags) (a .body .now) _ _ _ _ _ _ (d .drop-fragment .ensures) (c .before .before .put-behind .ensures)
+    first-held (a .id) (a .n) (a .fragment-heads .now) (a .bodies .now) (a .flags) (a .body .now) _ _ _ _ _ _ (d .drop-fragment .ensures) (c .before .before .put-behind .ensures)
 
 pub hold-first-spec : {M : Type 1} → statement M
 hold-first-spec =

@@ -1,11 +1,11 @@
-use Rattle.meaning.specs.Record.{headLength}
+use Rattle.meaning.specs.Record.{fragmentLength}
 use native.Mathlib.Omega.{arith}
 use borrow.Author.Needs.{needs}
 use Rattle.fragments.proofs.longer.Statement.{statement}
 use Rattle.fragments.proofs.longer.Tie as tie
 
 add-result : tie.Need-add-result
-unfolding headLength
+unfolding fragmentLength
 add-result c = omega arith
 
 returns : tie.Need-returns

@@ -23,7 +23,7 @@ returns c =
     let d = c .before .before .before .before in
     let a = d .before .before .before .before .before .args in
     let g = rw (c .enum-told .given .1) at (d .grow .ensures) in
-    middle-joined (a .id) (a .most) (a .body .now) (a .n) (a .heads .now) (a .room .now) _ _ _ (d .grow .last .1 .1 .1 .1 .0) (d .grow .last .1 .1 .1 .1 .1 .0) g
+    middle-joined (a .id) (a .most) (a .body .now) (a .n) (a .fragment-heads .now) (a .bodies .now) _ _ _ (d .grow .last .1 .1 .1 .1 .0) (d .grow .last .1 .1 .1 .1 .1 .0) g
 
 same-length-2 : tie.Need-same-length-2
 same-length-2 c = search needs
@@ -33,7 +33,7 @@ returns-2 c =
     let d = c .before .before .before .before .before in
     let a = d .before .before .before .before .before .args in
     let g = rw (c .before .m .given .1) at (d .grow .ensures) in
-    middle-discarded (a .id) (a .most) (a .body .now) (a .n) (a .heads .now) (a .room .now) _ (d .grow .last .1 .1 .1 .1 .0) (d .grow .last .1 .1 .1 .1 .1 .0) g
+    middle-discarded (a .id) (a .most) (a .body .now) (a .n) (a .fragment-heads .now) (a .bodies .now) _ (d .grow .last .1 .1 .1 .1 .0) (d .grow .last .1 .1 .1 .1 .1 .0) g
 
 same-length-3 : tie.Need-same-length-3
 same-length-3 c = search needs
@@ -43,7 +43,7 @@ returns-3 c =
     let d = c .before .before .before .before in
     let a = d .before .before .before .before .before .args in
     let g = rw (c .enum-told2 .given .1) at (d .grow .ensures) in
-    middle-absent (a .id) (a .most) (a .body .now) (a .n) (a .heads .now) (a .room .now) (d .grow .last .1 .1 .1 .1 .0) (d .grow .last .1 .1 .1 .1 .1 .0) g
+    middle-absent (a .id) (a .most) (a .body .now) (a .n) (a .fragment-heads .now) (a .bodies .now) (d .grow .last .1 .1 .1 .1 .0) (d .grow .last .1 .1 .1 .1 .1 .0) g
 
 pub middle-spec : {M : Type 1} → statement M
 middle-spec =

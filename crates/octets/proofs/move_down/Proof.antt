@@ -11,25 +11,25 @@ use Rattle.octets.proofs.move_down.Reads as reads
 use Rattle.octets.proofs.move_down.Lts as lts
 
 abbrev Inv-loop : tie.InvT-loop
-Inv-loop room₀ from n to i₀ room i = (i ≤ n) × (length room ≡ length room₀) × Wrote (take i (drop from room₀)) room₀ to room (to + i)
+Inv-loop lent₀ from n to i₀ lent i = (i ≤ n) × (length lent ≡ length lent₀) × Wrote (take i (drop from lent₀)) lent₀ to lent (to + i)
 
 abbrev μ-loop : tie.MeasureT-loop
-μ-loop room₀ from n to i₀ room i = n - i
+μ-loop lent₀ from n to i₀ lent i = n - i
 
 loop-holds : tie.Need-loop-holds Inv-loop μ-loop
 loop-holds c = (omega arith, refl, rw add-zero (wrote-none _ _))
 
-add-room : tie.Need-add-room Inv-loop μ-loop
-add-room c = omega arith
+add-lent : tie.Need-add-lent Inv-loop μ-loop
+add-lent c = omega arith
 
-slice-read-room : tie.Need-slice-read-room Inv-loop μ-loop
-slice-read-room c = omega arith
+slice-read-lent : tie.Need-slice-read-lent Inv-loop μ-loop
+slice-read-lent c = omega arith
 
-add-room-2 : tie.Need-add-room-2 Inv-loop μ-loop
-add-room-2 c = omega arith
+add-lent-2 : tie.Need-add-lent-2 Inv-loop μ-loop
+add-lent-2 c = omega arith
 
-slice-write-room : tie.Need-slice-write-room Inv-loop μ-loop
-slice-write-room c = omega arith
+slice-write-lent : tie.Need-slice-write-lent Inv-loop μ-loop
+slice-write-lent c = omega arith
 
 add-i : tie.Need-add-i Inv-loop μ-loop
 add-i c = omega arith
@@ -41,7 +41,7 @@ loop-again : tie.Need-loop-again Inv-loop μ-loop
 loop-again c =
     let l = c .before .before .loop in
     let a = c .before .before .before .args in
-    (omega arith, simp length-set (l .inv .1), move-turn (a .room .now) (l .room) (a .from) (a .to) (l .i) (omega arith) (omega arith) (l .inv .1) (l .inv .2))
+    (omega arith, simp length-set (l .inv .1), move-turn (a .lent .now) (l .lent) (a .from) (a .to) (l .i) (omega arith) (omega arith) (l .inv .1) (l .inv .2))
 
 add-result : tie.Need-add-result Inv-loop μ-loop
 add-result c = omega arith
@@ -60,10 +60,10 @@ move-down-spec =
     Inv-loop
     μ-loop
     loop-holds
-    add-room
-    slice-read-room
-    add-room-2
-    slice-write-room
+    add-lent
+    slice-read-lent
+    add-lent-2
+    slice-write-lent
     add-i
     loop-less
     loop-again

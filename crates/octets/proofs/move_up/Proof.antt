@@ -9,10 +9,10 @@ use Rattle.octets.proofs.move_up.Statement.{statement}
 use Rattle.octets.proofs.move_up.Tie as tie
 
 abbrev Inv-loop : tie.InvT-loop
-Inv-loop room₀ from n to left₀ room left = (left ≤ n) × (length room ≡ length room₀) × Wrote (take (n - left) (drop (from + left) room₀)) room₀ (to + left) room (to + n)
+Inv-loop lent₀ from n to left₀ lent left = (left ≤ n) × (length lent ≡ length lent₀) × Wrote (take (n - left) (drop (from + left) lent₀)) lent₀ (to + left) lent (to + n)
 
 abbrev μ-loop : tie.MeasureT-loop
-μ-loop room₀ from n to left₀ room left = left
+μ-loop lent₀ from n to left₀ lent left = left
 
 loop-holds : tie.Need-loop-holds Inv-loop μ-loop
 loop-holds c = (omega arith, refl, rw sub-self (wrote-none _ _))
@@ -20,17 +20,17 @@ loop-holds c = (omega arith, refl, rw sub-self (wrote-none _ _))
 sub-left : tie.Need-sub-left Inv-loop μ-loop
 sub-left c = omega arith
 
-add-room : tie.Need-add-room Inv-loop μ-loop
-add-room c = omega arith
+add-lent : tie.Need-add-lent Inv-loop μ-loop
+add-lent c = omega arith
 
-slice-read-room : tie.Need-slice-read-room Inv-loop μ-loop
-slice-read-room c = omega arith
+slice-read-lent : tie.Need-slice-read-lent Inv-loop μ-loop
+slice-read-lent c = omega arith
 
-add-room-2 : tie.Need-add-room-2 Inv-loop μ-loop
-add-room-2 c = omega arith
+add-lent-2 : tie.Need-add-lent-2 Inv-loop μ-loop
+add-lent-2 c = omega arith
 
-slice-write-room : tie.Need-slice-write-room Inv-loop μ-loop
-slice-write-room c = omega arith
+slice-write-lent : tie.Need-slice-write-lent Inv-loop μ-loop
+slice-write-lent c = omega arith
 
 loop-less : tie.Need-loop-less Inv-loop μ-loop
 loop-less c = omega arith
@@ -40,7 +40,7 @@ loop-again c =
     let l = c .before .before .loop in
     let a = c .before .before .before .args in
     let e : l .left ≡ l .left - 1 + 1 = omega arith in
-    (omega arith, simp length-set (l .inv .1), move-up-turn (a .room .now) (l .room) (a .from) (a .to) (a .n) (l .left - 1) (omega arith) (omega arith) (omega arith) (rw e at (l .inv .2)))
+    (omega arith, simp length-set (l .inv .1), move-up-turn (a .lent .now) (l .lent) (a .from) (a .to) (a .n) (l .left - 1) (omega arith) (omega arith) (omega arith) (rw e at (l .inv .2)))
 
 add-result : tie.Need-add-result Inv-loop μ-loop
 add-result c = omega arith
@@ -61,10 +61,10 @@ move-up-spec =
     μ-loop
     loop-holds
     sub-left
-    add-room
-    slice-read-room
-    add-room-2
-    slice-write-room
+    add-lent
+    slice-read-lent
+    add-lent-2
+    slice-write-lent
     loop-less
     loop-again
     add-result

@@ -9,11 +9,11 @@ use Rattle.passing.proofs.packets.Statement.{statement}
 use Rattle.passing.proofs.packets.Tie as tie
 
 abbrev Inv-loop : tie.InvT-loop
-Inv-loop run from t carousels₀ packages₀ maps₀ room₀ heads₀ bodies₀ set₀ out₀ s₀ at₀ carousels packages maps room heads bodies set out s at =
-    Going run from t (machine s₀ carousels₀ packages₀ maps₀ room₀ heads₀ bodies₀ set₀ out₀) (machine s carousels packages maps room heads bodies set out) at
+Inv-loop run from t data-set₀ packages₀ map-heads₀ map-room₀ fragment-heads₀ bodies₀ set₀ out₀ s₀ at₀ data-set packages map-heads map-room fragment-heads bodies set out s at =
+    Going run from t (machine s₀ data-set₀ packages₀ map-heads₀ map-room₀ fragment-heads₀ bodies₀ set₀ out₀) (machine s data-set packages map-heads map-room fragment-heads bodies set out) at
 
 abbrev μ-loop : tie.MeasureT-loop
-μ-loop run from t carousels₀ packages₀ maps₀ room₀ heads₀ bodies₀ set₀ out₀ s₀ at₀ carousels packages maps room heads bodies set out s at = length run - at
+μ-loop run from t data-set₀ packages₀ map-heads₀ map-room₀ fragment-heads₀ bodies₀ set₀ out₀ s₀ at₀ data-set packages map-heads map-room fragment-heads bodies set out s at = length run - at
 
 loop-holds : tie.Need-loop-holds Inv-loop μ-loop
 loop-holds c = let p = c .before .before .before .before .pre in going-begin _ _ _ _ (p .0) (p .1) (p .2)
@@ -31,7 +31,7 @@ scanned-to-requires : tie.Need-scanned-to-requires Inv-loop μ-loop
 scanned-to-requires c κs = search needs
 
 same-length : tie.Need-same-length Inv-loop μ-loop
-same-length c = c .before .before .before .before .before .before .before .before .loop .inv .same .room-same
+same-length c = c .before .before .before .before .before .before .before .before .loop .inv .same .map-room-same
 
 same-length-2 : tie.Need-same-length-2 Inv-loop μ-loop
 same-length-2 c = c .before .before .before .before .before .before .before .before .loop .inv .same .bodies-same
@@ -69,7 +69,7 @@ loop-again c =
     let st = rw (c .before .before .before .before .before .before .before .before .before .before .before .before .before .before .before .before .before .ahead .given .1) at (c .before .before .before .before .before .before .before .before .before .before .before .before .before .before .before .before .before .before .before .before .before .plain-packets .ensures .1) in
     let g = rw (← st .0) at (going-along _ _ _ _ _ _ (c .before .before .before .before .before .before .before .before .before .before .before .before .before .before .before .before .before .before .before .before .before .before .before .before .loop .inv) _ _ _ (c .before .before .before .before .before .before .before .before .before .before .before .before .before .before .before .before .before .before .before .before .before .plain-packets .ensures .0) (c .before .before .before .before .before .before .before .before .before .before .before .before .before .before .before .before .before .before .before .before .before .plain-packets .kept .1 .1 .1 .1 .1 .0)) in
     let e = c .before .before .before .before .before .before .signalling in
-    going-signal _ _ _ _ _ _ g _ _ (st .1) (e .ensures .0) (e .ensures .1) (record { room-same = e .kept .1 .1 .1 .1 .1 .1 .1 .0; bodies-same = e .kept .1 .1 .1 .1 .1 .1 .1 .1 .1 .0; out-same = e .kept .1 .1 .1 .1 .1 .1 .1 .1 .1 .1 .1 .0 })
+    going-signal _ _ _ _ _ _ g _ _ (st .1) (e .ensures .0) (e .ensures .1) (record { map-room-same = e .kept .1 .1 .1 .1 .1 .1 .1 .0; bodies-same = e .kept .1 .1 .1 .1 .1 .1 .1 .1 .1 .0; out-same = e .kept .1 .1 .1 .1 .1 .1 .1 .1 .1 .1 .1 .0 })
 
 pub packets-spec : {M : Type 1} → statement M
 packets-spec = tie.close (tie.spec Inv-loop μ-loop loop-holds plain-packets-requires enum-known-ahead enum-told scanned-to-requires same-length same-length-2 same-length-3 returns sub-signalling part-signalling-start part-signalling-end signalling-requires loop-less loop-again)

@@ -17,8 +17,8 @@ ready-requires c κs = search needs
 returns-2 : tie.Need-returns-2
 returns-2 c =
     let a = c .before .before .before .before .before .before .args in
-    refreshed-anew (a .e .changed) (a .o) (a .e) (a .was) (a .carousels .now) (a .packages .now) (a .maps .now) (a .room .now) _ _ _ (not-false (a .e .changed) (c .before .before .before .if1 .left))
-    (λ k h. (c .before .decide .ensures k h, c .ready .ensures k (a .carousels .now) (a .room .now) h))
+    refreshed-anew (a .e .changed) (a .o) (a .e) (a .was) (a .data-set .now) (a .packages .now) (a .map-heads .now) (a .map-room .now) _ _ _ (not-false (a .e .changed) (c .before .before .before .if1 .left))
+    (λ k h. (c .before .decide .ensures k h, c .ready .ensures k (a .data-set .now) (a .map-room .now) h))
 
 pub refreshed-spec : {M : Type 1} → statement M
 refreshed-spec = tie.close (tie.spec returns decide-requires ready-requires returns-2)

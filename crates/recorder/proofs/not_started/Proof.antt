@@ -1,6 +1,6 @@
 use mathlib.Core.Path.{refl}
 use Rattle.meaning.specs.Refusals.{answerNumber}
-use Rattle.meaning.specs.Push.{noWords, blank}
+use Rattle.meaning.specs.Start.{noWords, blank}
 use borrow.Author.Needs.{needs}
 use Rattle.recorder.proofs.not_started.Statement.{statement}
 use Rattle.recorder.proofs.not_started.Tie as tie

@@ -1,14 +1,14 @@
 use mathlib.Core.Path.{sym, _∙_}
 use borrow.Author.Tests.{not-true, not-false}
-use Rattle.meaning.specs.Refusals.{numberOf, answerNumber, startRefusal}
+use Rattle.meaning.specs.Refusals.{numberOf, answerNumber}
 use Rattle.meaning.specs.Record.{slots, recordOf}
-use Rattle.meaning.specs.Push.{noWords, fresh, started}
+use Rattle.meaning.specs.Start.{startRefusal, noWords, fresh, started}
 use borrow.Author.Needs.{needs}
 use Rattle.recorder.proofs.start.Statement.{statement}
 use Rattle.recorder.proofs.start.Tie as tie
 
-good-work-requires : tie.Need-good-work-requires
-good-work-requires c κs = search needs
+good-work-room-requires : tie.Need-good-work-room-requires
+good-work-room-requires c κs = search needs
 
 not-started-requires : tie.Need-not-started-requires
 not-started-requires c κs = search needs
@@ -16,11 +16,11 @@ not-started-requires c κs = search needs
 returns : tie.Need-returns
 unfolding started startRefusal numberOf
 returns c =
-    let e = sym (c .before .before .good-work .ensures) ∙ not-true _ (c .before .if1 .taken) in
+    let e = sym (c .before .before .good-work-room .ensures) ∙ not-true _ (c .before .if1 .taken) in
     record { answer-is = rw e (c .not-started .ensures .0); handed-is = rw e (c .not-started .ensures .1) }
 
-good-fragments-requires : tie.Need-good-fragments-requires
-good-fragments-requires c κs = search needs
+good-fragment-room-requires : tie.Need-good-fragment-room-requires
+good-fragment-room-requires c κs = search needs
 
 not-started-requires-2 : tie.Need-not-started-requires-2
 not-started-requires-2 c κs = search needs
@@ -28,12 +28,12 @@ not-started-requires-2 c κs = search needs
 returns-2 : tie.Need-returns-2
 unfolding started startRefusal numberOf
 returns-2 c =
-    let e = sym (c .before .before .before .before .good-work .ensures) ∙ not-false _ (c .before .before .before .if1 .left) in
-    let d = sym (c .before .before .good-fragments .ensures) ∙ not-true _ (c .before .if2 .taken) in
+    let e = sym (c .before .before .before .before .good-work-room .ensures) ∙ not-false _ (c .before .before .before .if1 .left) in
+    let d = sym (c .before .before .good-fragment-room .ensures) ∙ not-true _ (c .before .if2 .taken) in
     record { answer-is = rw (e, d) (c .not-started2 .ensures .0); handed-is = rw (e, d) (c .not-started2 .ensures .1) }
 
-good-maps-requires : tie.Need-good-maps-requires
-good-maps-requires c κs = search needs
+good-map-room-requires : tie.Need-good-map-room-requires
+good-map-room-requires c κs = search needs
 
 not-started-requires-3 : tie.Need-not-started-requires-3
 not-started-requires-3 c κs = search needs
@@ -41,9 +41,9 @@ not-started-requires-3 c κs = search needs
 returns-3 : tie.Need-returns-3
 unfolding started startRefusal numberOf
 returns-3 c =
-    let e = sym (c .before .before .before .before .before .before .good-work .ensures) ∙ not-false _ (c .before .before .before .before .before .if1 .left) in
-    let d = sym (c .before .before .before .before .good-fragments .ensures) ∙ not-false _ (c .before .before .before .if2 .left) in
-    let m = sym (c .before .before .good-maps .ensures) ∙ not-true _ (c .before .if3 .taken) in
+    let e = sym (c .before .before .before .before .before .before .good-work-room .ensures) ∙ not-false _ (c .before .before .before .before .before .if1 .left) in
+    let d = sym (c .before .before .before .before .good-fragment-room .ensures) ∙ not-false _ (c .before .before .before .if2 .left) in
+    let m = sym (c .before .before .good-map-room .ensures) ∙ not-true _ (c .before .if3 .taken) in
     record { answer-is = rw (e, d, m) (c .not-started3 .ensures .0); handed-is = rw (e, d, m) (c .not-started3 .ensures .1) }
 
 fresh-requires : tie.Need-fresh-requires
@@ -52,22 +52,22 @@ fresh-requires c κs = search needs
 returns-4 : tie.Need-returns-4
 unfolding started startRefusal answerNumber recordOf slots fresh noWords
 returns-4 c =
-    let e = sym (c .before .before .before .before .before .before .good-work .ensures) ∙ not-false _ (c .before .before .before .before .before .if1 .left) in
-    let d = sym (c .before .before .before .before .good-fragments .ensures) ∙ not-false _ (c .before .before .before .if2 .left) in
-    let m = sym (c .before .before .good-maps .ensures) ∙ not-false _ (c .before .if3 .left) in
+    let e = sym (c .before .before .before .before .before .before .good-work-room .ensures) ∙ not-false _ (c .before .before .before .before .before .if1 .left) in
+    let d = sym (c .before .before .before .before .good-fragment-room .ensures) ∙ not-false _ (c .before .before .before .if2 .left) in
+    let m = sym (c .before .before .good-map-room .ensures) ∙ not-false _ (c .before .if3 .left) in
     record { answer-is = rw (e, d, m); handed-is = rw (e, d, m) (c .fresh .ensures) }
 
 pub start-spec : {M : Type 1} → statement M
 start-spec =
     tie.close
     (tie.spec
-    good-work-requires
+    good-work-room-requires
     not-started-requires
     returns
-    good-fragments-requires
+    good-fragment-room-requires
     not-started-requires-2
     returns-2
-    good-maps-requires
+    good-map-room-requires
     not-started-requires-3
     returns-3
     fresh-requires

@@ -3,7 +3,7 @@ use Rattle.meaning.specs.Rules.{inDropSet}
 use Rattle.learning.specs.Kept.{Keeps}
 use Rattle.rules.specs.Changes.{SetIs, Removes}
 use Rattle.rules.proofs.MemberLaws.{inserts-one, removes-one}
-use Rattle.rules.proofs.KnownRules.{packages-there, rooms-there, decided, eit-kept, eit-dropped}
+use Rattle.rules.proofs.KnownRules.{packages-there, map-lists-there, decided, eit-kept, eit-dropped}
 use borrow.Author.Tests.{not-true, not-false}
 use native.Mathlib.Omega.{arith}
 use lib.Dec.{eqb}
@@ -24,12 +24,12 @@ first-drops-requires c κs = search needs
 drop-packages-requires : tie.Need-drop-packages-requires
 drop-packages-requires c κs =
     let h = c .before .before .before .before .pre .1 in
-    (packages-there h, rooms-there h, c .before .first-drops .ensures .all-words)
+    (packages-there h, map-lists-there h, c .before .first-drops .ensures .all-words)
 
 keep-packages-requires : tie.Need-keep-packages-requires
 keep-packages-requires c κs =
     let h = c .before .before .before .before .before .before .pre .1 in
-    (packages-there h, rooms-there h, c .before .drop-packages .ensures .all-words)
+    (packages-there h, map-lists-there h, c .before .drop-packages .ensures .all-words)
 
 remove-requires : tie.Need-remove-requires
 remove-requires c κs = search needs
@@ -50,7 +50,7 @@ known-dropped : (m : lts.After-remove (
   insert-reads.Asked,
   insert-reads.Learnt,
 ) reads.Pre reads.Post) (k : Known) → let a = m .before .before .before .before .before .before .before .before .before .args in
-    Keeps k (a .e) (a .carousels .now) (a .packages .now) (a .maps .now) (a .room .now) → SetIs (inDropSet (a .o) k) (m .remove .last .0)
+    Keeps k (a .e) (a .data-set .now) (a .packages .now) (a .map-heads .now) (a .map-room .now) → SetIs (inDropSet (a .o) k) (m .remove .last .0)
 known-dropped m k h =
     let a = m .before .before .before .before .before .before .before .before .before .args in
     let kept = m .before .before .keep-packages in

@@ -1,6 +1,6 @@
 use mathlib.Core.Bool.{not, _&&_}
 use borrow.Author.Needs.{needs}
-use Rattle.meaning.specs.Narrow.{wanted}
+use Rattle.meaning.specs.Wishes.{wanted}
 use Rattle.rules.specs.Changes.{comes}
 use Rattle.rules.proofs.AssetRules.{ByAssets, assets-begin, assets-next, assets-pass, assets-end}
 use Rattle.rules.proofs.MemberLaws.{inserting, inserts-one}
@@ -10,10 +10,10 @@ use Rattle.rules.proofs.drop_assets.Statement.{statement}
 use Rattle.rules.proofs.drop_assets.Tie as tie
 
 abbrev Inv-loop : tie.InvT-loop
-Inv-loop o ours room base n set₀ i₀ set i = ByAssets comes (λ part. not (ours && wanted o part)) room base n set₀ set i
+Inv-loop o ours map-room base n set₀ i₀ set i = ByAssets comes (λ part. not (ours && wanted o part)) map-room base n set₀ set i
 
 abbrev μ-loop : tie.MeasureT-loop
-μ-loop o ours room base n set₀ i₀ set i = n - i
+μ-loop o ours map-room base n set₀ i₀ set i = n - i
 
 loop-holds : tie.Need-loop-holds Inv-loop μ-loop
 loop-holds c = assets-begin inserting _ _ _ _ _ (c .before .pre .1)

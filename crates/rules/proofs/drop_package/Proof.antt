@@ -55,15 +55,15 @@ drop-assets-requires : tie.Need-drop-assets-requires
 drop-assets-requires c κs =
     let j = c .before .before .before .before in
     let a = j .before .before .before .args in
-    let i : c .before .before .before .place-for .result < a .held = omega arith in
-    (list-within (a .held) (c .before .before .before .place-for .result) (a .maps .now) (a .room .now) (j .before .before .before .pre .0) i, own j .all-words)
+    let i : c .before .before .before .place-for .result < a .map-count = omega arith in
+    (list-within (a .map-count) (c .before .before .before .place-for .result) (a .map-heads .now) (a .map-room .now) (j .before .before .before .pre .0) i, own j .all-words)
 
 returns : tie.Need-returns
 returns c =
     let j = c .before .before .before .before .before in
     let a = j .before .before .before .args in
     let f = c .before .before .before .before .place-for in
-    drop-found (a .o) (a .held) (a .p) (a .maps .now) (a .room .now) (j .before .before .before .pre .0) (f .result) (f .ensures .0)
+    drop-found (a .o) (a .map-count) (a .p) (a .map-heads .now) (a .map-room .now) (j .before .before .before .pre .0) (f .result) (f .ensures .0)
     (j .before .is-ours .result) (sym (j .before .is-ours .ensures)) (c .before .before .before .if2 .taken) (own j) (c .drop-assets .ensures)
 
 returns-2 : tie.Need-returns-2
@@ -71,7 +71,7 @@ returns-2 c =
     let j = c .before .before in
     let a = j .before .before .before .args in
     let f = c .before .place-for in
-    drop-missing (a .o) (a .held) (a .p) (a .maps .now) (a .room .now) (j .before .before .before .pre .0) (f .result) (f .ensures .0)
+    drop-missing (a .o) (a .map-count) (a .p) (a .map-heads .now) (a .map-room .now) (j .before .before .before .pre .0) (f .result) (f .ensures .0)
     (j .before .is-ours .result) (sym (j .before .is-ours .ensures)) (omega arith) (own j)
 
 pub drop-package-spec : {M : Type 1} → statement M

@@ -1,5 +1,5 @@
 use borrow.Author.Needs.{needs}
-use Rattle.meaning.specs.Narrow.{wanted}
+use Rattle.meaning.specs.Wishes.{wanted}
 use Rattle.rules.specs.Changes.{goes}
 use Rattle.rules.proofs.AssetRules.{ByAssets, assets-begin, assets-next, assets-pass, assets-end}
 use Rattle.rules.proofs.MemberLaws.{removing, removes-one}
@@ -9,10 +9,10 @@ use Rattle.rules.proofs.keep_assets.Statement.{statement}
 use Rattle.rules.proofs.keep_assets.Tie as tie
 
 abbrev Inv-loop : tie.InvT-loop
-Inv-loop o room base n set₀ i₀ set i = ByAssets goes (wanted o) room base n set₀ set i
+Inv-loop o map-room base n set₀ i₀ set i = ByAssets goes (wanted o) map-room base n set₀ set i
 
 abbrev μ-loop : tie.MeasureT-loop
-μ-loop o room base n set₀ i₀ set i = n - i
+μ-loop o map-room base n set₀ i₀ set i = n - i
 
 loop-holds : tie.Need-loop-holds Inv-loop μ-loop
 loop-holds c = assets-begin removing _ _ _ _ _ (c .before .pre .1)

@@ -17,7 +17,7 @@ returns : tie.Need-returns
 returns c =
     let b = c .before .before .before in
     let a = b .args in
-    keep-other (a .o) (a .held) (a .p) (a .maps .now) (a .room .now) (b .pre .0) (a .set .now) (b .pre .1) (sym (c .before .is-ours .ensures) ∙ not-true _ (c .if1 .taken))
+    keep-other (a .o) (a .map-count) (a .p) (a .map-heads .now) (a .map-room .now) (b .pre .0) (a .set .now) (b .pre .1) (sym (c .before .is-ours .ensures) ∙ not-true _ (c .if1 .taken))
 
 cast-id : tie.Need-cast-id
 cast-id c = search needs
@@ -45,8 +45,8 @@ keep-assets-requires c κs =
     let b = c .before .before .before .before .before .before .before .before .before in
     let a = b .args in
     let f = c .before .before .before .place-for in
-    let i : f .result < a .held = omega arith in
-    (list-within (a .held) (f .result) (a .maps .now) (a .room .now) (b .pre .0) i, rw (c .before .before .before .before .remove .ensures) (removes-one (a .set .now) (a .p % 65536) (b .pre .1) (omega arith) .all-words))
+    let i : f .result < a .map-count = omega arith in
+    (list-within (a .map-count) (f .result) (a .map-heads .now) (a .map-room .now) (b .pre .0) i, rw (c .before .before .before .before .remove .ensures) (removes-one (a .set .now) (a .p % 65536) (b .pre .1) (omega arith) .all-words))
 
 returns-2 : tie.Need-returns-2
 returns-2 c =
@@ -55,7 +55,7 @@ returns-2 c =
     let f = c .before .before .before .before .place-for in
     let r = c .before .before .before .before .before .remove in
     let x : Removes (eqb (a .p % 65536)) (a .set .now) (r .last .0) = rw (r .ensures) (removes-one (a .set .now) (a .p % 65536) (b .pre .1) (omega arith)) in
-    keep-found (a .o) (a .held) (a .p) (a .maps .now) (a .room .now) (b .pre .0) (f .result) (f .ensures .0)
+    keep-found (a .o) (a .map-count) (a .p) (a .map-heads .now) (a .map-room .now) (b .pre .0) (f .result) (f .ensures .0)
     (sym (c .before .before .before .before .before .before .before .before .is-ours .ensures) ∙ not-false _ (c .before .before .before .before .before .before .before .if1 .left))
     (c .before .before .before .if2 .taken) x (c .keep-assets .ensures)
 
@@ -64,7 +64,7 @@ returns-3 c =
     let b = c .before .before .before .before .before .before .before in
     let a = b .args in
     let f = c .before .place-for in
-    keep-missing (a .o) (a .held) (a .p) (a .maps .now) (a .room .now) (b .pre .0) (f .result) (f .ensures .0)
+    keep-missing (a .o) (a .map-count) (a .p) (a .map-heads .now) (a .map-room .now) (b .pre .0) (f .result) (f .ensures .0)
     (sym (c .before .before .before .before .before .is-ours .ensures) ∙ not-false _ (c .before .before .before .before .if1 .left)) (omega arith)
     (rw (c .before .before .remove .ensures) (removes-one (a .set .now) (a .p % 65536) (b .pre .1) (omega arith)))
 

@@ -9,10 +9,10 @@ use Rattle.rules.proofs.keep_packages.Statement.{statement}
 use Rattle.rules.proofs.keep_packages.Tie as tie
 
 abbrev Inv-loop : tie.InvT-loop
-Inv-loop o e packages maps room set₀ i₀ i-end set i = ByPackages goes (keptBy o (listsAt (e .maps) maps room)) (e .packages) packages set₀ set i
+Inv-loop o e packages map-heads map-room set₀ i₀ i-end set i = ByPackages goes (keptBy o (listsAt (e .«map_count») map-heads map-room)) (e .«package_count») packages set₀ set i
 
 abbrev μ-loop : tie.MeasureT-loop
-μ-loop o e packages maps room set₀ i₀ i-end set i = e .packages - i
+μ-loop o e packages map-heads map-room set₀ i₀ i-end set i = e .«package_count» - i
 
 loop-holds : tie.Need-loop-holds Inv-loop μ-loop
 loop-holds c = packages-begin removing _ _ _ _ (c .before .pre .2)

@@ -1,8 +1,8 @@
+use Rattle.meaning.specs.Lists.{any}
 use Rattle.meaning.specs.Record.{pairOf}
 use borrow.Author.Needs.{needs}
-use Rattle.meaning.specs.Lists.{any}
 use Rattle.learning.specs.Kept.{pairsIn}
-use Rattle.rules.specs.Changes.{listHeld}
+use Rattle.rules.specs.Changes.{hasList}
 use Rattle.rules.proofs.ReadyRules.{serves, service-begin, service-next, service-here}
 use native.Mathlib.Omega.{arith}
 use mathlib.Core.Path.{_≡_, sym}
@@ -12,13 +12,13 @@ use Rattle.rules.proofs.service_listed.Statement.{statement}
 use Rattle.rules.proofs.service_listed.Tie as tie
 
 abbrev Inv-loop : tie.InvT-loop
-Inv-loop service e packages maps i₀ i = (i ≤ e .packages) × (any (serves service (listHeld (e .maps) maps)) (pairsIn i packages) ≡ false)
+Inv-loop service e packages map-heads i₀ i = (i ≤ e .«package_count») × (any (serves service (hasList (e .«map_count») map-heads)) (pairsIn i packages) ≡ false)
 
 abbrev μ-loop : tie.MeasureT-loop
-μ-loop service e packages maps i₀ i = e .packages - i
+μ-loop service e packages map-heads i₀ i = e .«package_count» - i
 
 loop-holds : tie.Need-loop-holds Inv-loop μ-loop
-loop-holds c = (omega arith, service-begin (c .args .service) (listHeld (c .args .e .maps) (c .args .maps .now)) (c .args .packages .now))
+loop-holds c = (omega arith, service-begin (c .args .service) (hasList (c .args .e .«map_count») (c .args .map-heads .now)) (c .args .packages .now))
 
 mul-p : tie.Need-mul-p Inv-loop μ-loop
 mul-p c = search needs
@@ -38,7 +38,7 @@ returns c =
     let b = c .before .before .before .before .before .before .before in
     let a = b .args in
     let l = c .before .before .before .before .before .before .loop in
-    rw (c .before .place-for .ensures .0) (sym (service-here (a .service) (listHeld (a .e .maps) (a .maps .now)) (a .e .packages) (l .i) (a .packages .now) (omega arith)
+    rw (c .before .place-for .ensures .0) (sym (service-here (a .service) (hasList (a .e .«map_count») (a .map-heads .now)) (a .e .«package_count») (l .i) (a .packages .now) (omega arith)
     (omega (arith, b .pre .0 .few, b .pre .0 .slots-all)) (l .inv .1) (c .before .before .if2 .taken) (b .pre .2)))
 
 add-i : tie.Need-add-i Inv-loop μ-loop
@@ -52,11 +52,11 @@ loop-again c =
     let b = c .before .before .before .before .before in
     let a = b .args in
     let l = c .before .before .before .before .loop in
-    (omega arith, service-next (a .service) (listHeld (a .e .maps) (a .maps .now)) (l .i) (a .packages .now) (omega (arith, b .pre .0 .few, b .pre .0 .slots-all)) (l .inv .1) (c .if2 .left))
+    (omega arith, service-next (a .service) (hasList (a .e .«map_count») (a .map-heads .now)) (l .i) (a .packages .now) (omega (arith, b .pre .0 .few, b .pre .0 .slots-all)) (l .inv .1) (c .if2 .left))
 
 returns-2 : tie.Need-returns-2 Inv-loop μ-loop
 returns-2 c =
-    let e : c .before .before .loop .i ≡ c .before .before .before .args .e .packages = omega arith in
+    let e : c .before .before .loop .i ≡ c .before .before .before .args .e .«package_count» = omega arith in
     rw (← e) (sym (c .before .before .loop .inv .1))
 
 pub service-listed-spec : {M : Type 1} → statement M

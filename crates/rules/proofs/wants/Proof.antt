@@ -1,4 +1,4 @@
-use Rattle.meaning.specs.Learn.{kindOf}
+use Rattle.meaning.specs.Tables.{kindOf}
 use Rattle.rules.proofs.AssetRules.{kind-other}
 use Rattle.rules.proofs.wants.Statement.{statement}
 use Rattle.rules.proofs.wants.Tie as tie

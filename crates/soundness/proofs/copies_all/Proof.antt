@@ -1,4 +1,4 @@
-use Rattle.meaning.specs.Rules.{copiesAll}
+use Rattle.meaning.specs.Wishes.{copiesAll}
 use borrow.Author.Tests.{not-true, not-false}
 use borrow.Author.Needs.{needs}
 use Rattle.soundness.proofs.copies_all.Statement.{statement}

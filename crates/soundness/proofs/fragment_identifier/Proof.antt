@@ -1,4 +1,4 @@
-use Rattle.meaning.specs.Record.{headIdentifier}
+use Rattle.meaning.specs.Record.{fragmentIdentifier}
 use mathlib.Core.Path.{refl}
 use native.Mathlib.Omega.{arith}
 use borrow.Author.Needs.{needs}
@@ -9,7 +9,7 @@ cast-result : tie.Need-cast-result
 cast-result c = search needs
 
 returns : tie.Need-returns
-unfolding headIdentifier
+unfolding fragmentIdentifier
 returns c = (refl, omega arith)
 
 pub fragment-identifier-spec : {M : Type 1} → statement M

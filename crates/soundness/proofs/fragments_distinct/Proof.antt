@@ -1,5 +1,5 @@
 use Rattle.soundness.proofs.SoundnessLaws.{Once, once-begin, once-next, once-twice, once-done}
-use Rattle.meaning.specs.Record.{headIdentifier}
+use Rattle.meaning.specs.Record.{fragmentIdentifier}
 use borrow.Author.Needs.{needs}
 use native.Mathlib.Omega.{arith}
 use mathlib.Core.Path.{sym, _∙_}
@@ -8,13 +8,13 @@ use Rattle.soundness.proofs.fragments_distinct.Statement.{statement}
 use Rattle.soundness.proofs.fragments_distinct.Tie as tie
 
 abbrev Inv-loop : tie.InvT-loop
-Inv-loop heads n set₀ i₀ set i = Once headIdentifier n heads set i
+Inv-loop fragment-heads n set₀ i₀ set i = Once fragmentIdentifier n fragment-heads set i
 
 abbrev μ-loop : tie.MeasureT-loop
-μ-loop heads n set₀ i₀ set i = n - i
+μ-loop fragment-heads n set₀ i₀ set i = n - i
 
 loop-holds : tie.Need-loop-holds Inv-loop μ-loop
-loop-holds c = once-begin headIdentifier (c .args .n) (c .args .heads .now)
+loop-holds c = once-begin fragmentIdentifier (c .args .n) (c .args .fragment-heads .now)
 
 mul-fragment-identifier : tie.Need-mul-fragment-identifier Inv-loop μ-loop
 mul-fragment-identifier c = search needs

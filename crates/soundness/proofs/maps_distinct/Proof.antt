@@ -7,13 +7,13 @@ use Rattle.soundness.proofs.maps_distinct.Statement.{statement}
 use Rattle.soundness.proofs.maps_distinct.Tie as tie
 
 abbrev Inv-loop : tie.InvT-loop
-Inv-loop maps n set₀ i₀ set i = Once upper n maps set i
+Inv-loop map-heads n set₀ i₀ set i = Once upper n map-heads set i
 
 abbrev μ-loop : tie.MeasureT-loop
-μ-loop maps n set₀ i₀ set i = n - i
+μ-loop map-heads n set₀ i₀ set i = n - i
 
 loop-holds : tie.Need-loop-holds Inv-loop μ-loop
-loop-holds c = once-begin upper (c .args .n) (c .args .maps .now)
+loop-holds c = once-begin upper (c .args .n) (c .args .map-heads .now)
 
 mul-map-identifier : tie.Need-mul-map-identifier Inv-loop μ-loop
 mul-map-identifier c = search needs

@@ -1,4 +1,4 @@
-use Rattle.meaning.specs.Refusals.{packetLimit}
+use Rattle.meaning.specs.Rooms.{packetLimit}
 use native.Mathlib.Omega.{arith}
 use Rattle.soundness.proofs.packet_limit.Statement.{statement}
 use Rattle.soundness.proofs.packet_limit.Tie as tie

@@ -1,7 +1,7 @@
 use mathlib.Core.Bool.{true, false}
 use mathlib.Core.Path.{_≡_, sym, _∙_}
 use borrow.Author.Tests.{not-true, not-false}
-use Rattle.meaning.specs.Record.{soundRooms, soundHeld, soundPackages, soundMaps}
+use Rattle.meaning.specs.Soundness.{soundRooms, soundHeld, soundPackages, soundMaps}
 use Rattle.soundness.specs.Parts.{limitsOf}
 use borrow.Author.Needs.{needs}
 use Rattle.soundness.proofs.parts_sound.Statement.{statement}
@@ -25,7 +25,7 @@ returns-2 c =
     let a = c .before .before .before .before .args in
     let L = limitsOf (a .l .work) (a .l .total) (a .l .most) in
     let e1 : soundRooms L (a .w) (a .t) (a .m) ≡ true = sym (c .before .before .before .sound-rooms .ensures) ∙ not-false _ (c .before .before .if1 .left) in
-    let e2 : soundHeld L (a .o) (a .held) ≡ false = sym (c .before .sound-held .ensures (a .l .total) (a .l .most)) ∙ not-true _ (c .if2 .taken) in
+    let e2 : soundHeld L (a .o) (a .held-count) ≡ false = sym (c .before .sound-held .ensures (a .l .total) (a .l .most)) ∙ not-true _ (c .if2 .taken) in
     rw (e1, e2)
 
 sound-packages-requires : tie.Need-sound-packages-requires
@@ -36,8 +36,8 @@ returns-3 c =
     let a = c .before .before .before .before .before .before .args in
     let L = limitsOf (a .l .work) (a .l .total) (a .l .most) in
     let e1 : soundRooms L (a .w) (a .t) (a .m) ≡ true = sym (c .before .before .before .before .before .sound-rooms .ensures) ∙ not-false _ (c .before .before .before .before .if1 .left) in
-    let e2 : soundHeld L (a .o) (a .held) ≡ true = sym (c .before .before .before .sound-held .ensures (a .l .total) (a .l .most)) ∙ not-false _ (c .before .before .if2 .left) in
-    let e3 : soundPackages (a .e .packages) (a .packages .now) ≡ false = sym (c .before .sound-packages .ensures) ∙ not-true _ (c .if3 .taken) in
+    let e2 : soundHeld L (a .o) (a .held-count) ≡ true = sym (c .before .before .before .sound-held .ensures (a .l .total) (a .l .most)) ∙ not-false _ (c .before .before .if2 .left) in
+    let e3 : soundPackages (a .e .«package_count») (a .packages .now) ≡ false = sym (c .before .sound-packages .ensures) ∙ not-true _ (c .if3 .taken) in
     rw (e1, e2, e3)
 
 sound-maps-requires : tie.Need-sound-maps-requires
@@ -48,9 +48,9 @@ returns-4 c =
     let a = c .before .before .before .before .before .before .before .before .args in
     let L = limitsOf (a .l .work) (a .l .total) (a .l .most) in
     let e1 : soundRooms L (a .w) (a .t) (a .m) ≡ true = sym (c .before .before .before .before .before .before .before .sound-rooms .ensures) ∙ not-false _ (c .before .before .before .before .before .before .if1 .left) in
-    let e2 : soundHeld L (a .o) (a .held) ≡ true = sym (c .before .before .before .before .before .sound-held .ensures (a .l .total) (a .l .most)) ∙ not-false _ (c .before .before .before .before .if2 .left) in
-    let e3 : soundPackages (a .e .packages) (a .packages .now) ≡ true = sym (c .before .before .before .sound-packages .ensures) ∙ not-false _ (c .before .before .if3 .left) in
-    let e4 : soundMaps (a .e .maps) (a .maps .now) ≡ false = sym (c .before .sound-maps .ensures) ∙ not-true _ (c .if4 .taken) in
+    let e2 : soundHeld L (a .o) (a .held-count) ≡ true = sym (c .before .before .before .before .before .sound-held .ensures (a .l .total) (a .l .most)) ∙ not-false _ (c .before .before .before .before .if2 .left) in
+    let e3 : soundPackages (a .e .«package_count») (a .packages .now) ≡ true = sym (c .before .before .before .sound-packages .ensures) ∙ not-false _ (c .before .before .if3 .left) in
+    let e4 : soundMaps (a .e .«map_count») (a .map-heads .now) ≡ false = sym (c .before .sound-maps .ensures) ∙ not-true _ (c .if4 .taken) in
     rw (e1, e2, e3, e4)
 
 sound-fragments-requires : tie.Need-sound-fragments-requires
@@ -61,9 +61,9 @@ returns-5 c =
     let a = c .before .before .before .before .before .before .before .before .before .args in
     let L = limitsOf (a .l .work) (a .l .total) (a .l .most) in
     let e1 : soundRooms L (a .w) (a .t) (a .m) ≡ true = sym (c .before .before .before .before .before .before .before .before .sound-rooms .ensures) ∙ not-false _ (c .before .before .before .before .before .before .before .if1 .left) in
-    let e2 : soundHeld L (a .o) (a .held) ≡ true = sym (c .before .before .before .before .before .before .sound-held .ensures (a .l .total) (a .l .most)) ∙ not-false _ (c .before .before .before .before .before .if2 .left) in
-    let e3 : soundPackages (a .e .packages) (a .packages .now) ≡ true = sym (c .before .before .before .before .sound-packages .ensures) ∙ not-false _ (c .before .before .before .if3 .left) in
-    let e4 : soundMaps (a .e .maps) (a .maps .now) ≡ true = sym (c .before .before .sound-maps .ensures) ∙ not-false _ (c .before .if4 .left) in
+    let e2 : soundHeld L (a .o) (a .held-count) ≡ true = sym (c .before .before .before .before .before .before .sound-held .ensures (a .l .total) (a .l .most)) ∙ not-false _ (c .before .before .before .before .before .if2 .left) in
+    let e3 : soundPackages (a .e .«package_count») (a .packages .now) ≡ true = sym (c .before .before .before .before .sound-packages .ensures) ∙ not-false _ (c .before .before .before .if3 .left) in
+    let e4 : soundMaps (a .e .«map_count») (a .map-heads .now) ≡ true = sym (c .before .before .sound-maps .ensures) ∙ not-false _ (c .before .if4 .left) in
     rw (e1, e2, e3, e4) (c .sound-fragments .ensures)
 
 pub parts-sound-spec : {M : Type 1} → statement M

@@ -1,4 +1,5 @@
-use Rattle.meaning.specs.Record.{headIdentifier, distinct, soundFragments}
+use Rattle.meaning.specs.Record.{fragmentIdentifier}
+use Rattle.meaning.specs.Soundness.{distinct, soundFragments}
 use borrow.Author.Tests.{le-leb, lt-leb, not-true, not-false}
 use lib.ListN.{take}
 use mathlib.Core.List.{map}
@@ -19,7 +20,7 @@ returns-2 : tie.Need-returns-2
 unfolding soundFragments
 returns-2 c =
     let a = c .before .before .before .args in
-    let e : distinct (map headIdentifier (take (a .n) (a .heads .now))) ≡ false = sym (c .before .fragments-distinct .ensures) ∙ not-true _ (c .if2 .taken) in
+    let e : distinct (map fragmentIdentifier (take (a .n) (a .fragment-heads .now))) ≡ false = sym (c .before .fragments-distinct .ensures) ∙ not-true _ (c .if2 .taken) in
     rw (le-leb _ _ (c .before .before .if1 .left), e)
 
 lengths-requires : tie.Need-lengths-requires
@@ -29,7 +30,7 @@ returns-3 : tie.Need-returns-3
 unfolding soundFragments
 returns-3 c =
     let a = c .before .before .before .before .args in
-    let e : distinct (map headIdentifier (take (a .n) (a .heads .now))) ≡ true = sym (c .before .before .fragments-distinct .ensures) ∙ not-false _ (c .before .if2 .left) in
+    let e : distinct (map fragmentIdentifier (take (a .n) (a .fragment-heads .now))) ≡ true = sym (c .before .before .fragments-distinct .ensures) ∙ not-false _ (c .before .if2 .left) in
     rw (le-leb _ _ (c .before .before .before .if1 .left), e, c .lengths .ensures)
 
 pub sound-fragments-spec : {M : Type 1} → statement M

@@ -1,5 +1,6 @@
-use Rattle.meaning.specs.Record.{pairOf, soundMaps}
 use Rattle.meaning.specs.Lists.{all}
+use Rattle.meaning.specs.Record.{pairOf}
+use Rattle.meaning.specs.Soundness.{soundMaps}
 use borrow.Author.Tests.{le-leb, lt-leb, not-true, not-false}
 use lib.Dec.{leb}
 use lib.ListN.{take}
@@ -20,7 +21,7 @@ returns-2 : tie.Need-returns-2
 unfolding soundMaps
 returns-2 c =
     let a = c .before .before .before .args in
-    let e : all (λ x. leb (pairOf x .1) 255) (take (a .n) (a .maps .now)) ≡ false = sym (c .before .counts-few .ensures) ∙ not-true _ (c .if2 .taken) in
+    let e : all (λ x. leb (pairOf x .1) 255) (take (a .n) (a .map-heads .now)) ≡ false = sym (c .before .counts-few .ensures) ∙ not-true _ (c .if2 .taken) in
     rw (le-leb _ _ (c .before .before .if1 .left), e)
 
 maps-distinct-requires : tie.Need-maps-distinct-requires
@@ -30,7 +31,7 @@ returns-3 : tie.Need-returns-3
 unfolding soundMaps
 returns-3 c =
     let a = c .before .before .before .before .args in
-    let e : all (λ x. leb (pairOf x .1) 255) (take (a .n) (a .maps .now)) ≡ true = sym (c .before .before .counts-few .ensures) ∙ not-false _ (c .before .if2 .left) in
+    let e : all (λ x. leb (pairOf x .1) 255) (take (a .n) (a .map-heads .now)) ≡ true = sym (c .before .before .counts-few .ensures) ∙ not-false _ (c .before .if2 .left) in
     rw (le-leb _ _ (c .before .before .before .if1 .left), e) (c .maps-distinct .ensures)
 
 pub sound-maps-spec : {M : Type 1} → statement M

@@ -1,4 +1,4 @@
-use Rattle.meaning.specs.Record.{soundPackages}
+use Rattle.meaning.specs.Soundness.{soundPackages}
 use borrow.Author.Tests.{le-leb, lt-leb}
 use borrow.Author.Needs.{needs}
 use Rattle.soundness.proofs.sound_packages.Statement.{statement}

@@ -3,7 +3,7 @@ use mathlib.Core.Bool.{Bool, true, false, not}
 use mathlib.Core.Path.{_≡_, sym, _∙_}
 use borrow.Author.Tests.{not-true, not-false}
 use borrow.Author.Needs.{needs}
-use Rattle.meaning.specs.Push.{fits64}
+use Rattle.meaning.specs.Tally.{fits64}
 use Rattle.tally.proofs.fits.Statement.{statement}
 use Rattle.tally.proofs.fits.Tie as tie
 

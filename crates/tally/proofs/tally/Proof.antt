@@ -47,8 +47,8 @@ use denote.Triple.Table.{entered, cited}
 use denote.Triple.Walked.{says, Stays, stay-ref, stay-none, walkOf, AllGo, goes-none, goes-ref, Walks, ends-at, walked, walk-meets}
 use denote.Triple.Clauses.{lasts}
 use denote.Exit.{yes}
-use Rattle.meaning.specs.Push.{tallyRefusal, tallied}
 use Rattle.meaning.specs.Refusals.{answerNumber}
+use Rattle.meaning.specs.Tally.{tallyRefusal, tallied}
 use Rattle.meaning.specs.declared.Counts.{Counts}
 use Rattle.meaning.specs.declared.Answer.{Answer}
 use Rattle.meaning.proofs.Counts as T

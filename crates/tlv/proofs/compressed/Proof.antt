@@ -1,7 +1,7 @@
 use mathlib.Core.Logic.{inl, inr}
 use borrow.Author.Tests.{le-leb, lt-leb}
-use Rattle.tlv.proofs.Laws.{no-kind}
-use Rattle.meaning.specs.Mmtp.{compressed, byKind}
+use Rattle.tlv.proofs.Laws.{no-header-type}
+use Rattle.meaning.specs.Mmtp.{compressed, byHeaderType}
 use borrow.Author.Needs.{needs}
 use Rattle.tlv.proofs.compressed.Statement.{statement}
 use Rattle.tlv.proofs.compressed.Tie as tie
@@ -12,11 +12,11 @@ returns : tie.Need-returns
 unfolding compressed
 returns c = rw (lt-leb 3 _ (c .if1 .taken))
 
-shared-slice-read-kind : tie.Need-shared-slice-read-kind
-shared-slice-read-kind c = search needs
+shared-slice-read-header-type : tie.Need-shared-slice-read-header-type
+shared-slice-read-header-type c = search needs
 
 returns-2 : tie.Need-returns-2
-unfolding compressed byKind
+unfolding compressed byHeaderType
 returns-2 c =
     elim (c .match .keys1) [
       | inl w ↦ rw (le-leb 3 _ (c .before .before .if1 .left), w)
@@ -24,17 +24,17 @@ returns-2 c =
     ]
 
 returns-3 : tie.Need-returns-3
-unfolding compressed byKind
+unfolding compressed byHeaderType
 returns-3 c = rw (le-leb 3 _ (c .before .before .if1 .left), c .match .keys2)
 
 returns-4 : tie.Need-returns-4
-unfolding compressed byKind
+unfolding compressed byHeaderType
 returns-4 c = rw (le-leb 3 _ (c .before .before .if1 .left), c .match .keys3)
 
 returns-5 : tie.Need-returns-5
 unfolding compressed
-returns-5 c = rw (le-leb 3 _ (c .before .before .if1 .left), no-kind _ (c .match .rest .0 .0 .1) (c .match .rest .0 .1) (c .match .rest .1))
+returns-5 c = rw (le-leb 3 _ (c .before .before .if1 .left), no-header-type _ (c .match .rest .0 .0 .1) (c .match .rest .0 .1) (c .match .rest .1))
 
 pub compressed-spec : {M : Type 1} → statement M
 compressed-spec =
-    tie.close (tie.spec returns shared-slice-read-kind returns-2 returns-3 returns-4 returns-5)
+    tie.close (tie.spec returns shared-slice-read-header-type returns-2 returns-3 returns-4 returns-5)

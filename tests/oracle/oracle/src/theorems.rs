@@ -118,12 +118,13 @@ use mathlib.Core.List.{List, [], _∷_, _++_, flatten}
 use mathlib.Core.Option.{Option, none, some}
 use lib.ListN.{length, replicate}
 use Rattle.meaning.specs.Bytes.{Bytes}
-use Rattle.meaning.specs.Narrow.{Change, changeTable, changePayload, changePacket}
-use Rattle.meaning.specs.Learn.{Limits}
-use Rattle.meaning.specs.Refusals.{startRefusal, narrowRefusal}
+use Rattle.meaning.specs.Narrow.{Change, changeTable, changePayload, changePacket, narrowRefusal}
 use Rattle.meaning.specs.Record.{State}
-use Rattle.meaning.specs.Push.{Pushed, push, fresh, callRefusal}
+use Rattle.meaning.specs.Start.{startRefusal, fresh}
+use Rattle.meaning.specs.Push.{Outcome, push}
+use Rattle.meaning.specs.Series.{callRefusal}
 use Rattle.meaning.specs.Programs.{optionsOf}
+use Rattle.meaning.specs.declared.Limits.{Limits}
 use Rattle.meaning.specs.declared.Options.{Options}
 
 -- ---- narrowing: refusal, changed, length, three that stayed, three that went, the bytes
@@ -144,20 +145,20 @@ narrowed (suc n) c = without (suc n)
 -- Of flags, service, the output's length and the input.
 unfoldable table : ℕ → ℕ → ℕ → Bytes → List ℕ
 unfolding narrowRefusal changeTable optionsOf
-table flags service room s = narrowed (narrowRefusal (length s) room) (changeTable (optionsOf flags service) s)
+table flags service out-length s = narrowed (narrowRefusal (length s) out-length) (changeTable (optionsOf flags service) s)
 
 -- With the identifier as the third.
 unfoldable payload : ℕ → ℕ → ℕ → ℕ → Bytes → List ℕ
 unfolding narrowRefusal changePayload optionsOf
-payload flags service p room s = narrowed (narrowRefusal (length s) room) (changePayload (optionsOf flags service) p s)
+payload flags service p out-length s = narrowed (narrowRefusal (length s) out-length) (changePayload (optionsOf flags service) p s)
 
 unfoldable packet : ℕ → ℕ → ℕ → Bytes → List ℕ
 unfolding narrowRefusal changePacket optionsOf
-packet flags service room s = narrowed (narrowRefusal (length s) room) (changePacket (optionsOf flags service) s)
+packet flags service out-length s = narrowed (narrowRefusal (length s) out-length) (changePacket (optionsOf flags service) s)
 
 -- ---- a stream: the start's refusal, then each call's refusal, bytes, accepted, written, rewritten, skipped, held, lost and its bytes
 
-abbrev callNumbers : Pushed → List ℕ
+abbrev callNumbers : Outcome → List ℕ
 callNumbers p =
     0 ∷ p .counts .bytes ∷ p .counts .accepted ∷ p .counts .written ∷ p .counts .rewritten ∷ p .counts .skipped
     ∷ length (p .state .held) ∷ p .counts .lost ∷ flatten (p .out)
@@ -167,16 +168,16 @@ abbrev refusedCall : ℕ → State → List ℕ
 refusedCall refusal st = refusal ∷ 0 ∷ 0 ∷ 0 ∷ 0 ∷ 0 ∷ length (st .held) ∷ 0 ∷ []
 
 -- A call with its refusal, 0 for none, and the calls after it: a refused one leaves the state as it was.
-abbrev callOn : ℕ → State → Pushed → (State → List ℕ) → List ℕ
+abbrev callOn : ℕ → State → Outcome → (State → List ℕ) → List ℕ
 callOn zero st p more = callNumbers p ++ more (p .state)
 callOn (suc n) st p more = refusedCall (suc n) st ++ more st
 
 -- One length of the output for all calls.
 unfoldable calls : Limits → Options → ℕ → State → List Bytes → List ℕ
 unfolding callRefusal push flatten
-calls L o room st [] = []
-calls L o room st (chunk ∷ chunks) =
-    callOn (callRefusal L st (chunk, room)) st (push L o st chunk) (λ after. calls L o room after chunks)
+calls L o out-length st [] = []
+calls L o out-length st (chunk ∷ chunks) =
+    callOn (callRefusal L st (chunk, out-length)) st (push L o st chunk) (λ after. calls L o out-length after chunks)
 
 -- After a refused start nothing follows.
 abbrev startOn : ℕ → List ℕ → List ℕ
@@ -186,9 +187,9 @@ startOn (suc n) more = suc n ∷ []
 -- Of flags, service, W, T, M, the lengths of map room and output, and the chunks.
 unfoldable stream : ℕ → ℕ → ℕ → ℕ → ℕ → ℕ → ℕ → List Bytes → List ℕ
 unfolding startRefusal calls optionsOf fresh
-stream flags service W T M maps room chunks =
-    startOn (startRefusal W T M maps)
-    (calls (record { work = W; total = T; most = M }) (optionsOf flags service) room (fresh (replicate maps 0)) chunks)
+stream flags service W T M map-length out-length chunks =
+    startOn (startRefusal W T M map-length)
+    (calls (record { work = W; total = T; most = M }) (optionsOf flags service) out-length (fresh (replicate map-length 0)) chunks)
 
 -- ---- the cases
 ";

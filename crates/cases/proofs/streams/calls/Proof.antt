@@ -8,10 +8,10 @@ use Rattle.cases.proofs.streams.calls.Statement.{statement}
 use Rattle.cases.proofs.streams.calls.Tie as tie
 
 abbrev Inv-loop : tie.InvT-loop
-Inv-loop lengths n chunk₀ work₀ bodies₀ room₀ out₀ x₀ i₀ chunk work bodies room out x i = (length chunk ≡ length chunk₀) × (length work ≡ length work₀) × (length bodies ≡ length bodies₀) × (length room ≡ length room₀) × (length out ≡ length out₀)
+Inv-loop lengths n chunk₀ work₀ bodies₀ map-room₀ out₀ x₀ i₀ chunk work bodies map-room out x i = (length chunk ≡ length chunk₀) × (length work ≡ length work₀) × (length bodies ≡ length bodies₀) × (length map-room ≡ length map-room₀) × (length out ≡ length out₀)
 
 abbrev μ-loop : tie.MeasureT-loop
-μ-loop lengths n chunk₀ work₀ bodies₀ room₀ out₀ x₀ i₀ chunk work bodies room out x i = n - i
+μ-loop lengths n chunk₀ work₀ bodies₀ map-room₀ out₀ x₀ i₀ chunk work bodies map-room out x i = n - i
 
 loop-holds : tie.Need-loop-holds Inv-loop μ-loop
 loop-holds c = search needs

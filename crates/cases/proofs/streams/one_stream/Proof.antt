@@ -55,7 +55,7 @@ part-in-lent-start-3 : tie.Need-part-in-lent-start-3
 part-in-lent-start-3 c = search needs
 
 part-in-lent-end-3 : tie.Need-part-in-lent-end-3
-part-in-lent-end-3 c = let k = fits-rooms (sym (c .before .before .before .before .head-fits .ensures) ∙ not-false _ (c .before .before .before .if3 .left)) in omega (arith, k .maps-fit)
+part-in-lent-end-3 c = let k = fits-rooms (sym (c .before .before .before .before .head-fits .ensures) ∙ not-false _ (c .before .before .before .if3 .left)) in omega (arith, k .map-room-fits)
 
 sub-in-lent-4 : tie.Need-sub-in-lent-4
 sub-in-lent-4 c = search needs
@@ -79,7 +79,7 @@ same-length-3 : tie.Need-same-length-3
 same-length-3 c = c .before .before .before .before .before .bodies .given .1
 
 same-length-4 : tie.Need-same-length-4
-same-length-4 c = c .before .before .before .room .given .1
+same-length-4 c = c .before .before .before .map-room .given .1
 
 same-length-5 : tie.Need-same-length-5
 same-length-5 c = c .before .out .given .1

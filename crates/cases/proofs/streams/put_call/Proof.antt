@@ -16,7 +16,7 @@ put-three-requires-2 : tie.Need-put-three-requires-2
 put-three-requires-2 c κs = let n = c .before .before .before .before .before .before .before .before .before .before .args .c in omega (arith, c .before .before .before .before .before .before .before .put8 .ensures .end, c .before .before .before .put-three .ensures .end, three-long (n .bytes) (n .accepted) (n .written))
 
 put32-requires : tie.Need-put32-requires
-put32-requires c κs = let a = c .before .before .before .before .before .before .before .before .before .before .before .before .before .before .args in let n = a .c in omega (arith, c .before .before .before .before .before .before .before .before .before .before .before .put8 .ensures .end, c .before .before .before .before .before .before .before .put-three .ensures .end, three-long (n .bytes) (n .accepted) (n .written), c .before .before .before .put-three2 .ensures .end, three-long (n .rewritten) (n .skipped) (a .held))
+put32-requires c κs = let a = c .before .before .before .before .before .before .before .before .before .before .before .before .before .before .args in let n = a .c in omega (arith, c .before .before .before .before .before .before .before .before .before .before .before .put8 .ensures .end, c .before .before .before .before .before .before .before .put-three .ensures .end, three-long (n .bytes) (n .accepted) (n .written), c .before .before .before .put-three2 .ensures .end, three-long (n .rewritten) (n .skipped) (a .held-count))
 
 same-length : tie.Need-same-length
 same-length c = search needs

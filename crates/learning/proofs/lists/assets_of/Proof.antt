@@ -56,14 +56,14 @@ returns-3 c =
       entries-none _ (front .0 .0) (rw (front .1) at (c .before .before .before .before .before .before .before .before .before .before .before .mpt-front .ensures))
           (omega arith) (w .result) (w .ensures .0) (w .ensures .1) (l .fresh) (l .from) (l .left) (l .n) (l .inv) (omega arith)
           (rw (c .enum-told2 .given .1) at (c .before .before .asset-at .ensures)),
-      l .inv .room,
+      l .inv .map-room,
     )
 
 sub-left : tie.Need-sub-left Inv-loop μ-loop
 sub-left c = omega arith
 
 list-asset-requires : tie.Need-list-asset-requires Inv-loop μ-loop
-list-asset-requires c κs = (omega arith, c .before .before .before .before .before .before .loop .inv .room)
+list-asset-requires c κs = (omega arith, c .before .before .before .before .before .before .loop .inv .map-room)
 
 loop-less : tie.Need-loop-less Inv-loop μ-loop
 loop-less c = omega arith
@@ -82,7 +82,7 @@ returns-4 c =
     let l = c .before .loop in (
       assets-are _ (front .0 .0) (rw (front .1) at (c .before .before .before .before .before .before .before .before .mpt-front .ensures))
           (omega arith) (w .result) (w .ensures .0) (w .ensures .1) (l .fresh) (l .from) (l .left) (l .n) (l .inv) (omega arith),
-      l .inv .room,
+      l .inv .map-room,
     )
 
 pub assets-of-spec : {M : Type 1} → statement M

@@ -1,4 +1,4 @@
-use Rattle.learning.proofs.MapLaws.{held-already, held-now}
+use Rattle.learning.proofs.MapLaws.{listed-already, listed-now}
 use mathlib.Core.Path.{sym, _∙_}
 use native.Mathlib.Omega.{arith}
 use borrow.Author.Needs.{needs}
@@ -8,8 +8,8 @@ use Rattle.learning.proofs.lists.keep_list.Tie as tie
 head-of-requires : tie.Need-head-of-requires
 head-of-requires c κs = search needs
 
-is-held-requires : tie.Need-is-held-requires
-is-held-requires c κs = search needs
+is-listed-requires : tie.Need-is-listed-requires
+is-listed-requires c κs = search needs
 
 same-length : tie.Need-same-length
 same-length c = search needs
@@ -17,14 +17,14 @@ same-length c = search needs
 returns : tie.Need-returns
 returns c =
     let a = c .before .before .before .before .before .before .args in
-    let w = rw (c .before .before .before .before .head-of .ensures) at (c .before .is-held .ensures) in
-    held-already (a .i) (a .id) (a .n) (a .fresh .now) (a .e) (a .maps .now) (a .room .now) (sym w ∙ c .if1 .taken) (omega arith)
+    let w = rw (c .before .before .before .before .head-of .ensures) at (c .before .is-listed .ensures) in
+    listed-already (a .i) (a .id) (a .n) (a .fresh .now) (a .e) (a .map-heads .now) (a .map-room .now) (sym w ∙ c .if1 .taken) (omega arith)
 
-mul-maps : tie.Need-mul-maps
-mul-maps c = search needs
+mul-map-heads : tie.Need-mul-map-heads
+mul-map-heads c = search needs
 
-element-write-maps : tie.Need-element-write-maps
-element-write-maps c = search needs
+element-write-map-heads : tie.Need-element-write-map-heads
+element-write-map-heads c = search needs
 
 mul-list-to : tie.Need-mul-list-to
 mul-list-to c = search needs
@@ -45,9 +45,9 @@ returns-2 : tie.Need-returns-2
 returns-2 c =
     let a = c .before .before .before .before .before .before .before .before .before .before .before .args in
     let q = c .before .before .before .before .before .before .before .before .before .head-of .ensures in
-    let w = rw q at (c .before .before .before .before .before .before .is-held .ensures) in
+    let w = rw q at (c .before .before .before .before .before .before .is-listed .ensures) in
     rw q
-    (held-now (a .i) (a .id) (a .n) (a .fresh .now) (a .e) (a .maps .now) (a .room .now) (sym w ∙ c .before .before .before .before .before .if1 .left)
+    (listed-now (a .i) (a .id) (a .n) (a .fresh .now) (a .e) (a .map-heads .now) (a .map-room .now) (sym w ∙ c .before .before .before .before .before .if1 .left)
     (c .count-with .result) (c .count-with .ensures) _ (c .before .before .before .list-to .ensures))
 
 pub keep-list-spec : {M : Type 1} → statement M
@@ -55,11 +55,11 @@ keep-list-spec =
     tie.close
     (tie.spec
     head-of-requires
-    is-held-requires
+    is-listed-requires
     same-length
     returns
-    mul-maps
-    element-write-maps
+    mul-map-heads
+    element-write-map-heads
     mul-list-to
     mul-list-to-2
     list-to-requires

@@ -1,4 +1,4 @@
-use Rattle.meaning.specs.Learn.{kindNumber}
+use Rattle.meaning.specs.Tables.{kindNumber}
 use borrow.Author.Needs.{needs}
 use Rattle.learning.proofs.lists.kind_number.Statement.{statement}
 use Rattle.learning.proofs.lists.kind_number.Tie as tie

@@ -8,28 +8,28 @@ use Rattle.learning.proofs.lists.list_to.Statement.{statement}
 use Rattle.learning.proofs.lists.list_to.Tie as tie
 
 abbrev Inv-loop : tie.InvT-loop
-Inv-loop fresh n room₀ base i₀ room i = (i ≤ n) × (length room ≡ length room₀) × (room ≡ over room₀ base (take i fresh))
+Inv-loop fresh n map-room₀ base i₀ map-room i = (i ≤ n) × (length map-room ≡ length map-room₀) × (map-room ≡ over map-room₀ base (take i fresh))
 
 abbrev μ-loop : tie.MeasureT-loop
-μ-loop fresh n room₀ base i₀ room i = n - i
+μ-loop fresh n map-room₀ base i₀ map-room i = n - i
 
 loop-holds : tie.Need-loop-holds Inv-loop μ-loop
-loop-holds c = (omega arith, refl, over-none (c .args .room .now) (c .args .base) (c .args .fresh .now))
+loop-holds c = (omega arith, refl, over-none (c .args .map-room .now) (c .args .base) (c .args .fresh .now))
 
-mul-room : tie.Need-mul-room Inv-loop μ-loop
-mul-room c = omega arith
+mul-map-room : tie.Need-mul-map-room Inv-loop μ-loop
+mul-map-room c = omega arith
 
-element-copy-out-room : tie.Need-element-copy-out-room Inv-loop μ-loop
-element-copy-out-room c = omega arith
+element-copy-out-map-room : tie.Need-element-copy-out-map-room Inv-loop μ-loop
+element-copy-out-map-room c = omega arith
 
-add-room : tie.Need-add-room Inv-loop μ-loop
-add-room c = omega arith
+add-map-room : tie.Need-add-map-room Inv-loop μ-loop
+add-map-room c = omega arith
 
-mul-room-2 : tie.Need-mul-room-2 Inv-loop μ-loop
-mul-room-2 c = omega arith
+mul-map-room-2 : tie.Need-mul-map-room-2 Inv-loop μ-loop
+mul-map-room-2 c = omega arith
 
-slice-write-room : tie.Need-slice-write-room Inv-loop μ-loop
-slice-write-room c = omega arith
+slice-write-map-room : tie.Need-slice-write-map-room Inv-loop μ-loop
+slice-write-map-room c = omega arith
 
 add-i : tie.Need-add-i Inv-loop μ-loop
 add-i c = omega arith
@@ -41,7 +41,7 @@ loop-again : tie.Need-loop-again Inv-loop μ-loop
 loop-again c =
     let l = c .before .before .loop in
     let a = c .before .before .before .args in
-    (omega arith, simp length-set (l .inv .1), rw (l .inv .2) (over-next (a .room .now) (a .base) (a .fresh .now) (l .i) (omega arith) (omega arith)))
+    (omega arith, simp length-set (l .inv .1), rw (l .inv .2) (over-next (a .map-room .now) (a .base) (a .fresh .now) (l .i) (omega arith) (omega arith)))
 
 same-length : tie.Need-same-length Inv-loop μ-loop
 same-length c = c .before .loop .inv .1
@@ -59,11 +59,11 @@ list-to-spec =
     Inv-loop
     μ-loop
     loop-holds
-    mul-room
-    element-copy-out-room
-    add-room
-    mul-room-2
-    slice-write-room
+    mul-map-room
+    element-copy-out-map-room
+    add-map-room
+    mul-map-room-2
+    slice-write-map-room
     add-i
     loop-less
     loop-again

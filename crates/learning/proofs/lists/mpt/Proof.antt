@@ -31,7 +31,7 @@ returns-2 c = λ ms k.
     let a = c .before .before .before .before .before .before .before .before .before .before .before .args in
     let n = c .before .before .before .before .before .n .given in
     let w = c .before .before .place-for in
-    list-lost (a .b .now) (a .id) (n .0 .0) (w .result) _ (a .e) (a .maps .now) (a .room .now)
+    list-lost (a .b .now) (a .id) (n .0 .0) (w .result) _ (a .e) (a .map-heads .now) (a .map-room .now)
     (rw (n .1) at (c .before .before .before .before .before .before .before .assets-of .ensures .0)) (w .ensures .0) ms k (omega arith)
 
 keep-list-requires : tie.Need-keep-list-requires
@@ -50,7 +50,7 @@ returns-3 c = λ ms k.
     let a = c .before .before .before .before .before .before .before .before .before .before .before .before .before .before .before .before .args in
     let n = c .before .before .before .before .before .before .before .before .before .before .n .given in
     let w = c .before .before .before .before .before .before .before .place-for in
-    list-kept (a .b .now) (a .id) (n .0 .0) (w .result) _ (a .e) (a .maps .now) (a .room .now)
+    list-kept (a .b .now) (a .id) (n .0 .0) (w .result) _ (a .e) (a .map-heads .now) (a .map-room .now)
     (rw (n .1) at (c .before .before .before .before .before .before .before .before .before .before .before .before .assets-of .ensures .0)) (w .ensures .0) ms k (omega arith)
     _ _ _ (c .before .before .keep-list .ensures)
 

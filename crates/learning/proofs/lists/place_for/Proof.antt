@@ -1,6 +1,6 @@
 use Rattle.meaning.specs.Learn.{placeFor}
 use Rattle.learning.specs.Kept.{pairsIn}
-use Rattle.learning.proofs.PlaceForLaws.{place-next, place-here}
+use Rattle.learning.proofs.PlaceForLaws.{slot-next, slot-here}
 use borrow.Author.Needs.{needs}
 use native.Mathlib.Omega.{arith}
 use mathlib.Core.Path.{_≡_, sym}
@@ -9,10 +9,10 @@ use Rattle.learning.proofs.lists.place_for.Statement.{statement}
 use Rattle.learning.proofs.lists.place_for.Tie as tie
 
 abbrev Inv-loop : tie.InvT-loop
-Inv-loop maps n id p i₀ i = (i ≤ n) × (placeFor id (pairsIn i maps) ≡ i)
+Inv-loop map-heads n id p i₀ i = (i ≤ n) × (placeFor id (pairsIn i map-heads) ≡ i)
 
 abbrev μ-loop : tie.MeasureT-loop
-μ-loop maps n id p i₀ i = n - i
+μ-loop map-heads n id p i₀ i = n - i
 
 loop-holds : tie.Need-loop-holds Inv-loop μ-loop
 unfolding placeFor
@@ -27,8 +27,8 @@ element-copy-out-if1 c = search needs
 returns : tie.Need-returns Inv-loop μ-loop
 returns c =
     let st = c .before .before .before in
-    let xs = st .before .args .maps .now in
-    let e = place-here (st .before .args .id) (st .loop .i) (st .before .args .n) xs (omega arith) (omega arith) (st .loop .inv .1) (c .if1 .taken) in
+    let xs = st .before .args .map-heads .now in
+    let e = slot-here (st .before .args .id) (st .loop .i) (st .before .args .n) xs (omega arith) (omega arith) (st .loop .inv .1) (c .if1 .taken) in
     (sym e, omega arith)
 
 add-i : tie.Need-add-i Inv-loop μ-loop
@@ -40,8 +40,8 @@ loop-less c = search needs
 loop-again : tie.Need-loop-again Inv-loop μ-loop
 loop-again c =
     let st = c .before .before .before in
-    let xs = st .before .args .maps .now in
-    (omega arith, place-next (st .before .args .id) (st .loop .i) xs (omega arith) (st .loop .inv .1) (c .if1 .left))
+    let xs = st .before .args .map-heads .now in
+    (omega arith, slot-next (st .before .args .id) (st .loop .i) xs (omega arith) (st .loop .inv .1) (c .if1 .left))
 
 returns-2 : tie.Need-returns-2 Inv-loop μ-loop
 returns-2 c =

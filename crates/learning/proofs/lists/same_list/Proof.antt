@@ -9,11 +9,11 @@ use Rattle.learning.proofs.lists.same_list.Statement.{statement}
 use Rattle.learning.proofs.lists.same_list.Tie as tie
 
 abbrev Inv-loop : tie.InvT-loop
-Inv-loop fresh n room base i₀ i =
-    (i ≤ n) × (sameNumbers (take n (drop base room)) (take n fresh) ≡ sameNumbers (take (n - i) (drop (base + i) room)) (take (n - i) (drop i fresh)))
+Inv-loop fresh n map-room base i₀ i =
+    (i ≤ n) × (sameNumbers (take n (drop base map-room)) (take n fresh) ≡ sameNumbers (take (n - i) (drop (base + i) map-room)) (take (n - i) (drop i fresh)))
 
 abbrev μ-loop : tie.MeasureT-loop
-μ-loop fresh n room base i₀ i = n - i
+μ-loop fresh n map-room base i₀ i = n - i
 
 loop-holds : tie.Need-loop-holds Inv-loop μ-loop
 loop-holds c = (omega arith, rw (sub-zero, add-zero))
@@ -37,7 +37,7 @@ returns : tie.Need-returns Inv-loop μ-loop
 returns c =
     let l = c .before .before .before .before .loop in
     let a = c .before .before .before .before .before .args in
-    sym (l .inv .1 ∙ same-not (a .room .now) (a .fresh .now) (a .base) (a .n) (l .i) (omega arith) (omega arith) (omega arith) (omega arith))
+    sym (l .inv .1 ∙ same-not (a .map-room .now) (a .fresh .now) (a .base) (a .n) (l .i) (omega arith) (omega arith) (omega arith) (omega arith))
 
 add-i : tie.Need-add-i Inv-loop μ-loop
 add-i c = omega arith
@@ -49,7 +49,7 @@ loop-again : tie.Need-loop-again Inv-loop μ-loop
 loop-again c =
     let l = c .before .before .before .before .loop in
     let a = c .before .before .before .before .before .args in
-    (omega arith, l .inv .1 ∙ same-next (a .room .now) (a .fresh .now) (a .base) (a .n) (l .i) (omega arith) (omega arith) (omega arith) (omega arith))
+    (omega arith, l .inv .1 ∙ same-next (a .map-room .now) (a .fresh .now) (a .base) (a .n) (l .i) (omega arith) (omega arith) (omega arith) (omega arith))
 
 returns-2 : tie.Need-returns-2 Inv-loop μ-loop
 unfolding sameNumbers

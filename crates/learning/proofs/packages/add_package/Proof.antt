@@ -9,8 +9,8 @@ use Rattle.learning.proofs.PackageLaws.{added-over, added-new}
 use Rattle.learning.proofs.packages.add_package.Statement.{statement}
 use Rattle.learning.proofs.packages.add_package.Tie as tie
 
-place-in-requires : tie.Need-place-in-requires
-place-in-requires c κs = (omega arith, pairs-length (c .before .pre .1 .1))
+slot-for-requires : tie.Need-slot-for-requires
+slot-for-requires c κs = (omega arith, pairs-length (c .before .pre .1 .1))
 
 mul-if2 : tie.Need-mul-if2
 mul-if2 c = search needs
@@ -27,11 +27,11 @@ element-write-fresh c = search needs
 returns : tie.Need-returns
 returns c =
     let a = c .before .before .before .before .before .args in
-    let p = c .before .before .before .place-in in
+    let p = c .before .before .before .slot-for in
     (added-over 255 (a .p) (a .n) (p .result) (a .fresh .now) (p .ensures .0) (omega arith) (c .if2 .taken), omega arith)
 
-open-place-requires : tie.Need-open-place-requires
-open-place-requires c κs = (omega arith, omega arith, pairs-length (c .before .before .before .before .pre .1 .1))
+open-slot-requires : tie.Need-open-slot-requires
+open-slot-requires c κs = (omega arith, omega arith, pairs-length (c .before .before .before .before .pre .1 .1))
 
 mul-fresh-2 : tie.Need-mul-fresh-2
 mul-fresh-2 c = search needs
@@ -45,25 +45,25 @@ add-result c = search needs
 returns-2 : tie.Need-returns-2
 returns-2 c =
     let a = c .before .before .before .before .before .args in
-    let p = c .before .before .before .place-in in
+    let p = c .before .before .before .slot-for in
     let other : p .result < a .n → getD (a .fresh .now) (p .result) 0 / 65536 ≡ a .p / 65536 → ⊥ =
     elim (c .before .before .if1 .came) [
       | inl x ↦ λ h. x .2 .left
       | inr x ↦ λ h e. omega arith
     ] in
-    (added-new 255 (a .p) (a .n) (p .result) (a .fresh .now) (p .ensures .0) (omega arith) (omega arith) other (c .open-place .last .0) (c .open-place .ensures), omega arith)
+    (added-new 255 (a .p) (a .n) (p .result) (a .fresh .now) (p .ensures .0) (omega arith) (omega arith) other (c .open-slot .last .0) (c .open-slot .ensures), omega arith)
 
 pub add-package-spec : {M : Type 1} → statement M
 add-package-spec =
     tie.close
     (tie.spec
-    place-in-requires
+    slot-for-requires
     mul-if2
     element-copy-out-if2
     mul-fresh
     element-write-fresh
     returns
-    open-place-requires
+    open-slot-requires
     mul-fresh-2
     element-write-fresh-2
     add-result

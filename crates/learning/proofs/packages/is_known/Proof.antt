@@ -15,7 +15,7 @@ returns-2 : tie.Need-returns-2
 returns-2 c =
     let a = c .before .before .before .before .args in
     let h : not (a .e .seen) ≡ false = c .before .before .if1 .left in
-    rw (not-false (a .e .seen) h, ne-eqb (a .e .packages) (a .n) (c .if2 .taken))
+    rw (not-false (a .e .seen) h, ne-eqb (a .e .«package_count») (a .n) (c .if2 .taken))
 
 same-packages-requires : tie.Need-same-packages-requires
 same-packages-requires c κs = search needs
@@ -24,7 +24,7 @@ returns-3 : tie.Need-returns-3
 returns-3 c =
     let a = c .before .before .before .before .before .args in
     let h : not (a .e .seen) ≡ false = c .before .before .before .if1 .left in
-    rw (not-false (a .e .seen) h, eq-eqb (a .e .packages) (a .n) (c .before .if2 .left)) (c .same-packages .ensures)
+    rw (not-false (a .e .seen) h, eq-eqb (a .e .«package_count») (a .n) (c .before .if2 .left)) (c .same-packages .ensures)
 
 pub is-known-spec : {M : Type 1} → statement M
 is-known-spec = tie.close (tie.spec returns returns-2 same-packages-requires returns-3)

@@ -2,7 +2,7 @@ use native.Mathlib.Omega.{arith}
 use Prim.Native.Nat.{_-_}
 use lib.ListN.{drop, length-drop}
 use lib.Seq.{length-take-le}
-use Rattle.narrowing.proofs.PlaceLaws.{none-counted, place-counted}
+use Rattle.narrowing.proofs.FoundLaws.{none-counted, found-counted}
 use borrow.Author.Needs.{needs}
 use Rattle.narrowing.proofs.narrow.count_payload.Statement.{statement}
 use Rattle.narrowing.proofs.narrow.count_payload.Tie as tie
@@ -41,7 +41,7 @@ count-tables-requires c κs =
 returns-2 : tie.Need-returns-2
 returns-2 c =
     let a = c .before .before .before .before .before .before .before .args in
-    rw (c .count-tables .ensures) (place-counted (a .o) (a .payload .now) _ _ (rw (c .before .before .before .end .given .1) at (c .before .before .before .before .before .pa-of .ensures)))
+    rw (c .count-tables .ensures) (found-counted (a .o) (a .payload .now) _ _ (rw (c .before .before .before .end .given .1) at (c .before .before .before .before .before .pa-of .ensures)))
 
 pub count-payload-spec : {M : Type 1} → statement M
 count-payload-spec =

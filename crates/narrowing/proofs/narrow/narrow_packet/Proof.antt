@@ -4,10 +4,9 @@ use lib.ListN.{length, drop, length-take, length-drop}
 use native.Mathlib.Omega.{arith}
 use borrow.Author.Tests.{not-true, not-false}
 use Rattle.meaning.specs.Bytes.{Bytes}
-use Rattle.meaning.specs.Narrow.{paMessage, partsOfMessage, changePacket}
-use Rattle.meaning.specs.Refusals.{narrowRefusal}
+use Rattle.meaning.specs.Narrow.{paMessage, partsOfMessage, changePacket, narrowRefusal}
 use Rattle.narrowing.specs.Answers.{noRows, countedIn}
-use Rattle.narrowing.proofs.AnswerLaws.{not-refused, refused-answer, unchanged-answer, changed-answer, unread-stays, rest-whole, other-kind, not-rewritable, packet-stays, packet-changes}
+use Rattle.narrowing.proofs.AnswerLaws.{not-refused, refused-answer, unchanged-answer, changed-answer, unread-stays, rest-whole, other-payload-type, not-rewritable, packet-stays, packet-changes}
 use borrow.Author.Needs.{needs}
 use Rattle.narrowing.proofs.narrow.narrow_packet.Statement.{statement}
 use Rattle.narrowing.proofs.narrow.narrow_packet.Tie as tie
@@ -58,7 +57,7 @@ returns-3 c =
     let f = not-refused (length (a .p .now)) (length (a .out .now)) (r .result) (r .ensures) (rw (c .before .before .before .before .before .before .before .is-refused .ensures) at (c .before .before .before .before .before .before .if1 .left)) in
     let h = rw (c .before .before .before .body .given .1) at (c .before .before .before .before .before .mmtp-of .ensures) in
     unchanged-answer (narrowRefusal (length (a .p .now)) (length (a .out .now))) (changePacket (a .o) (a .p .now)) (a .out .now) _ _ _ _ refl (f .0)
-    (other-kind (a .o) (a .p .now) _ _ _ _ h (c .before .if2 .taken)) (c .without-counts3 .ensures)
+    (other-payload-type (a .o) (a .p .now) _ _ _ _ h (c .before .if2 .taken)) (c .without-counts3 .ensures)
 
 without-counts-requires-4 : tie.Need-without-counts-requires-4
 without-counts-requires-4 c κs = search needs

@@ -2,8 +2,7 @@ use mathlib.Core.Path.{refl}
 use Prim.Native.Nat.{_-_}
 use lib.ListN.{length, drop, length-take, length-drop}
 use native.Mathlib.Omega.{arith}
-use Rattle.meaning.specs.Narrow.{changePayload}
-use Rattle.meaning.specs.Refusals.{narrowRefusal}
+use Rattle.meaning.specs.Narrow.{changePayload, narrowRefusal}
 use Rattle.narrowing.proofs.AnswerLaws.{not-refused, refused-answer, unchanged-answer, changed-answer, payload-stays, payload-changes}
 use borrow.Author.Needs.{needs}
 use Rattle.narrowing.proofs.narrow.narrow_payload.Statement.{statement}

@@ -3,8 +3,7 @@ use mathlib.Core.Path.{refl}
 use lib.ListN.{length}
 use native.Mathlib.Omega.{arith}
 use borrow.Author.Tests.{not-true, not-false}
-use Rattle.meaning.specs.Narrow.{changeTable}
-use Rattle.meaning.specs.Refusals.{narrowRefusal}
+use Rattle.meaning.specs.Narrow.{changeTable, narrowRefusal}
 use Rattle.tables.proofs.WalkLaws.{no-table}
 use Rattle.narrowing.proofs.ExactLaws.{part-exact}
 use Rattle.narrowing.proofs.AnswerLaws.{not-refused, refused-answer, unchanged-answer, changed-answer, rows-low, part-short, no-table-stays, table-stays, table-changes}

@@ -1,6 +1,6 @@
 use mathlib.Core.Path.{refl}
 use native.Mathlib.Omega.{arith}
-use Rattle.narrowing.proofs.PlaceLaws.{front-long, payload-room, packet-stays, packet-rewritten}
+use Rattle.narrowing.proofs.FoundLaws.{front-long, payload-room, packet-stays, packet-rewritten}
 use borrow.Author.Needs.{needs}
 use Rattle.narrowing.proofs.narrow.narrowed_to.Statement.{statement}
 use Rattle.narrowing.proofs.narrow.narrowed_to.Tie as tie

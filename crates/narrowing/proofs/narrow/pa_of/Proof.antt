@@ -8,7 +8,7 @@ use borrow.Author.Tests.{not-true, not-false}
 use Rattle.meaning.specs.Bytes.{Bytes}
 use Rattle.narrowing.specs.Answers.{startsPa}
 use Rattle.narrowing.proofs.PayloadLaws.{started, no-start}
-use Rattle.narrowing.proofs.PlaceLaws.{PaEnds, no-message, pa-ends, headless-pa, pa-place}
+use Rattle.narrowing.proofs.FoundLaws.{PaEnds, no-message, pa-ends, headless-pa, pa-found}
 use Rattle.narrowing.proofs.narrow.pa_of.Statement.{statement}
 use Rattle.narrowing.proofs.narrow.pa_of.Tie as tie
 use Rattle.narrowing.proofs.narrow.pa_of.Reads as reads
@@ -86,7 +86,7 @@ returns-3 : tie.Need-returns-3
 returns-3 c = headless-pa _ _ (ends (c .before .before .before .before)) (rw (c .enum-told2 .given .1) at (c .before .before .pa-tables .ensures))
 
 returns-4 : tie.Need-returns-4
-returns-4 c = pa-place _ _ (ends (c .before .before .before .before .before)) _ (rw (c .before .tables .given .1) at (c .before .before .before .pa-tables .ensures))
+returns-4 c = pa-found _ _ (ends (c .before .before .before .before .before)) _ (rw (c .before .tables .given .1) at (c .before .before .before .pa-tables .ensures))
 
 pub pa-of-spec : {M : Type 1} → statement M
 pa-of-spec =

@@ -1,5 +1,5 @@
 use native.Mathlib.Omega.{arith}
-use Rattle.narrowing.proofs.PlaceLaws.{payload-written}
+use Rattle.narrowing.proofs.FoundLaws.{payload-written}
 use borrow.Author.Needs.{needs}
 use Rattle.narrowing.proofs.narrow.payload_to.Statement.{statement}
 use Rattle.narrowing.proofs.narrow.payload_to.Tie as tie

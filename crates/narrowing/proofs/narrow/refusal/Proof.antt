@@ -5,14 +5,14 @@ use Rattle.narrowing.proofs.narrow.refusal.Tie as tie
 
 returns : tie.Need-returns
 unfolding numberOf
-returns c = too-long (c .before .args .n) (c .before .args .room) (c .if1 .taken)
+returns c = too-long (c .before .args .n) (c .before .args .out-length) (c .if1 .taken)
 
 returns-2 : tie.Need-returns-2
 unfolding numberOf
-returns-2 c = too-short (c .before .before .args .n) (c .before .before .args .room) (c .before .if1 .left) (c .if2 .taken)
+returns-2 c = too-short (c .before .before .args .n) (c .before .before .args .out-length) (c .before .if1 .left) (c .if2 .taken)
 
 returns-3 : tie.Need-returns-3
-returns-3 c = accepted (c .before .before .args .n) (c .before .before .args .room) (c .before .if1 .left) (c .if2 .left)
+returns-3 c = accepted (c .before .before .args .n) (c .before .before .args .out-length) (c .before .if1 .left) (c .if2 .left)
 
 pub refusal-spec : {M : Type 1} → statement M
 refusal-spec = tie.close (tie.spec returns returns-2 returns-3)

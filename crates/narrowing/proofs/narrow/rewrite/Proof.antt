@@ -4,7 +4,7 @@ use lib.ListN.{length, take, drop}
 use borrow.Author.Needs.{needs}
 use borrow.Author.Tests.{not-true}
 use Rattle.narrowing.proofs.PayloadLaws.{no-start, no-pa-stays}
-use Rattle.narrowing.proofs.PlaceLaws.{packet-stays}
+use Rattle.narrowing.proofs.FoundLaws.{packet-stays}
 use Rattle.narrowing.proofs.narrow.rewrite.Statement.{statement}
 use Rattle.narrowing.proofs.narrow.rewrite.Tie as tie
 

@@ -1,4 +1,4 @@
-use Rattle.narrowing.specs.Bodies.{MptLess, PltPlace}
+use Rattle.narrowing.specs.Bodies.{MptLess, PltBounds}
 use native.Mathlib.Omega.{arith}
 use Rattle.narrowing.proofs.TableLaws.{as-mpt, mpt-length, as-plt, plt-length, as-same}
 use borrow.Author.Needs.{needs}
@@ -11,7 +11,7 @@ use Rattle.narrowing.proofs.table.length_after.Lts as lts
 less : (c : lts.After-known-told reads.Pre reads.Post) → let p = c .before .before .before in let k = c .before .change .given .0 in MptLess (p .pre .1) (p .args .b .now) (k .0) (k .1 .0) (k .1 .1 .0) (k .1 .1 .1 .0)
 less c = let p = c .before .before .before in as-mpt (p .pre .0) (p .pre .1) (p .args .b .now) (p .args .change) (p .pre .2) _ _ _ _ (c .before .change .given .1) .1
 
-one : (c : lts.After-known-told2 reads.Pre reads.Post) → let p = c .before .before .before in let k = c .before .change2 .given .0 in PltPlace (p .args .b .now) (k .0) (k .1 .0) (k .1 .1 .0)
+one : (c : lts.After-known-told2 reads.Pre reads.Post) → let p = c .before .before .before in let k = c .before .change2 .given .0 in PltBounds (p .args .b .now) (k .0) (k .1 .0) (k .1 .1 .0)
 one c = let p = c .before .before .before in as-plt (p .pre .0) (p .pre .1) (p .args .b .now) (p .args .change) (p .pre .2) _ _ _ (c .before .change2 .given .1) .0
 
 enum-known-change : tie.Need-enum-known-change

@@ -11,15 +11,15 @@ use Rattle.observing.proofs.messages.learn_message.Reads as learn-messa
 use Rattle.tables.proofs.messages.frame_at.Reads as frame-at-reads
 
 abbrev Inv-loop : tie.InvT-loop
-Inv-loop s long id carousels₀ packages₀ maps₀ room₀ e₀ at₀ carousels packages maps room e at = PartsSofar s long id e₀ carousels₀ packages₀ maps₀ room₀ e at carousels packages maps room
+Inv-loop s long id data-set₀ packages₀ map-heads₀ map-room₀ e₀ at₀ data-set packages map-heads map-room e at = PartsSofar s long id e₀ data-set₀ packages₀ map-heads₀ map-room₀ e at data-set packages map-heads map-room
 
 abbrev μ-loop : tie.MeasureT-loop
-μ-loop s long id carousels₀ packages₀ maps₀ room₀ e₀ at₀ carousels packages maps room e at = length s - at
+μ-loop s long id data-set₀ packages₀ map-heads₀ map-room₀ e₀ at₀ data-set packages map-heads map-room e at = length s - at
 
 loop-holds : tie.Need-loop-holds Inv-loop μ-loop
 loop-holds c =
     let a = c .before .before .args in
-    parts-begin (a .s .now) (a .long) (a .id) (a .known) (a .carousels .now) (a .packages .now) (a .maps .now) (a .room .now) (c .before .before .pre .1)
+    parts-begin (a .s .now) (a .long) (a .id) (a .known) (a .data-set .now) (a .packages .now) (a .map-heads .now) (a .map-room .now) (c .before .before .pre .1)
 
 frame-at-requires : tie.Need-frame-at-requires Inv-loop μ-loop
 frame-at-requires c κs = search needs
@@ -38,7 +38,7 @@ returns c =
     let a = c .before .before .before .before .before .before .args in
     let l = c .before .before .before .loop in
     let done = rw (c .enum-told .given .1) at (c .before .before .frame-at .ensures) in
-    (parts-done (a .s .now) (a .long) (a .id) (a .known) (a .carousels .now) (a .packages .now) (a .maps .now) (a .room .now) (l .e) (l .at) (l .carousels) (l .packages) (l .maps) (l .room) (l .inv) done, omega (arith, l .inv .countable))
+    (parts-done (a .s .now) (a .long) (a .id) (a .known) (a .data-set .now) (a .packages .now) (a .map-heads .now) (a .map-room .now) (l .e) (l .at) (l .data-set) (l .packages) (l .map-heads) (l .map-room) (l .inv) done, omega (arith, l .inv .countable))
 
 sub-learn-message : tie.Need-sub-learn-message Inv-loop μ-loop
 sub-learn-message c = let x = rw (c .before .start .given .1) at (c .before .before .before .frame-at .ensures) in omega (arith, x .0, x .1, x .2)
@@ -54,7 +54,7 @@ learn-message-requires c κs =
     let a = c .before .before .before .before .before .before .before .before .before .before .before .before .args in
     let l = c .before .before .before .before .before .before .before .before .before .loop in
     let x = rw (c .before .before .before .before .before .before .start .given .1) at (c .before .before .before .before .before .before .before .before .frame-at .ensures) in
-    parts-room (a .s .now) (a .long) (a .id) (a .known) (a .carousels .now) (a .packages .now) (a .maps .now) (a .room .now) (l .e) (l .at) (l .carousels) (l .packages) (l .maps) (l .room) (l .inv) (c .before .before .before .before .before .before .before .before .before .before .before .before .pre .0) _ _ x
+    parts-room (a .s .now) (a .long) (a .id) (a .known) (a .data-set .now) (a .packages .now) (a .map-heads .now) (a .map-room .now) (l .e) (l .at) (l .data-set) (l .packages) (l .map-heads) (l .map-room) (l .inv) (c .before .before .before .before .before .before .before .before .before .before .before .before .pre .0) _ _ x
 
 loop-less : tie.Need-loop-less Inv-loop μ-loop
 loop-less c = let x = rw (c .before .before .before .before .before .before .before .before .before .start .given .1) at (c .before .before .before .before .before .before .before .before .before .before .before .frame-at .ensures) in omega (arith, x .0, x .1, x .2)
@@ -65,7 +65,7 @@ loop-again c =
     let l = c .before .before .before .before .before .before .before .before .before .before .before .before .loop in
     let x = rw (c .before .before .before .before .before .before .before .before .before .start .given .1) at (c .before .before .before .before .before .before .before .before .before .before .before .frame-at .ensures) in
     let y = c .before .before .learn-message in
-    parts-next (a .s .now) (a .long) (a .id) (a .known) (a .carousels .now) (a .packages .now) (a .maps .now) (a .room .now) (l .e) (l .at) (l .carousels) (l .packages) (l .maps) (l .room) (l .inv) _ _ x _ _ _ _ _ (y .kept .1 .1 .1 .1 .1 .1 .0) (y .ensures .0) (y .ensures .1)
+    parts-next (a .s .now) (a .long) (a .id) (a .known) (a .data-set .now) (a .packages .now) (a .map-heads .now) (a .map-room .now) (l .e) (l .at) (l .data-set) (l .packages) (l .map-heads) (l .map-room) (l .inv) _ _ x _ _ _ _ _ (y .kept .1 .1 .1 .1 .1 .1 .0) (y .ensures .0) (y .ensures .1)
 
 pub learn-aggregate-spec : {M : Type 1} → statement M
 learn-aggregate-spec = tie.close (tie.spec Inv-loop μ-loop loop-holds frame-at-requires enum-known-start enum-told same-length returns sub-learn-message part-learn-message-start part-learn-message-end learn-message-requires loop-less loop-again)

@@ -17,12 +17,12 @@ insert-requires c κs = search needs
 returns : tie.Need-returns
 returns c =
     let a = c .before .before .before .before .before .args in
-    (c .before .insert .ensures, data-old (a .id) (a .e) (a .carousels .now) (sym (c .before .before .before .has .ensures) ∙ c .if1 .taken))
+    (c .before .insert .ensures, data-old (a .id) (a .e) (a .data-set .now) (sym (c .before .before .before .has .ensures) ∙ c .if1 .taken))
 
 returns-2 : tie.Need-returns-2
 returns-2 c =
     let a = c .before .before .before .before .before .args in
-    (c .before .insert .ensures, data-new (a .id) (a .e) (a .carousels .now) (sym (c .before .before .before .has .ensures) ∙ c .if1 .left))
+    (c .before .insert .ensures, data-new (a .id) (a .e) (a .data-set .now) (sym (c .before .before .before .has .ensures) ∙ c .if1 .left))
 
 pub learn-data-spec : {M : Type 1} → statement M
 learn-data-spec = tie.close (tie.spec has-requires insert-requires returns returns-2)

@@ -13,10 +13,10 @@ use Rattle.tables.proofs.pa.pa_tables.Reads as pa-tables-reads
 use Rattle.tables.proofs.pa.table_at.Reads as table-at-reads
 
 abbrev Inv-loop : tie.InvT-loop
-Inv-loop s id packages₀ maps₀ room₀ e₀ tables at₀ packages maps room e at = TablesSofar s id tables e₀ packages₀ maps₀ room₀ e at packages maps room
+Inv-loop s id packages₀ map-heads₀ map-room₀ e₀ tables at₀ packages map-heads map-room e at = TablesSofar s id tables e₀ packages₀ map-heads₀ map-room₀ e at packages map-heads map-room
 
 abbrev μ-loop : tie.MeasureT-loop
-μ-loop s id packages₀ maps₀ room₀ e₀ tables at₀ packages maps room e at = length s - at
+μ-loop s id packages₀ map-heads₀ map-room₀ e₀ tables at₀ packages map-heads map-room e at = length s - at
 
 pa-tables-requires : tie.Need-pa-tables-requires Inv-loop μ-loop
 pa-tables-requires c κs = search needs
@@ -31,14 +31,14 @@ returns : tie.Need-returns Inv-loop μ-loop
 returns c =
     let a = c .before .before .before .before .before .args in
     let none-there = rw (c .enum-told .given .1) at (c .before .before .pa-tables .ensures) in
-    ((λ carousels k h. rw (pa-none (a .s .now) none-there) (no-tables (a .id) k (a .known) carousels _ _ _ h)), omega arith)
+    ((λ data-set k h. rw (pa-none (a .s .now) none-there) (no-tables (a .id) k (a .known) data-set _ _ _ h)), omega arith)
 
 loop-holds : tie.Need-loop-holds Inv-loop μ-loop
 loop-holds c =
     let a = c .before .before .before .before .before .before .args in
     let pre = c .before .before .before .before .before .before .pre in
     let x = rw (c .before .tables .given .1) at (c .before .before .before .pa-tables .ensures) in
-    tables-begin (a .s .now) (a .id) _ (a .known) (a .packages .now) (a .maps .now) (a .room .now) (x .1) (pre .1)
+    tables-begin (a .s .now) (a .id) _ (a .known) (a .packages .now) (a .map-heads .now) (a .map-room .now) (x .1) (pre .1)
 
 table-at-requires : tie.Need-table-at-requires Inv-loop μ-loop
 table-at-requires c κs = search needs
@@ -55,8 +55,8 @@ returns-2 c =
     let l = c .before .before .loop in
     let x = rw (c .before .before .before .before .tables .given .1) at (c .before .before .before .before .before .before .pa-tables .ensures) in
     let stop = no-table (a .s .now) (l .at) (c .before .table-at .result) (c .match2 .keys2) (c .before .table-at .ensures) in (
-      (λ carousels k h. rw (pa-found (a .s .now) _ x)
-          (tables-done (a .s .now) (a .id) _ (a .known) (a .packages .now) (a .maps .now) (a .room .now) (l .e) (l .at) (l .packages) (l .maps) (l .room) (l .inv) stop carousels k h)),
+      (λ data-set k h. rw (pa-found (a .s .now) _ x)
+          (tables-done (a .s .now) (a .id) _ (a .known) (a .packages .now) (a .map-heads .now) (a .map-room .now) (l .e) (l .at) (l .packages) (l .map-heads) (l .map-room) (l .inv) stop data-set k h)),
       omega (arith, l .inv .countable),
     )
 
@@ -74,7 +74,7 @@ learn-table-requires c κs =
     let a = c .before .before .before .before .before .before .before .before .before .before .before .before .before .before .before .args in
     let l = c .before .before .before .before .before .before .before .before .loop in
     let k = rw (c .before .before .before .before .before .end .given .1) at (c .before .before .before .before .before .before .before .table-at .ensures) in
-    tables-room (a .s .now) (a .id) _ (a .known) (a .packages .now) (a .maps .now) (a .room .now) (l .e) (l .at) (l .packages) (l .maps) (l .room) (l .inv) (c .before .before .before .before .before .before .before .before .before .before .before .before .before .before .before .pre .0) _ k
+    tables-room (a .s .now) (a .id) _ (a .known) (a .packages .now) (a .map-heads .now) (a .map-room .now) (l .e) (l .at) (l .packages) (l .map-heads) (l .map-room) (l .inv) (c .before .before .before .before .before .before .before .before .before .before .before .before .before .before .before .pre .0) _ k
 
 loop-less : tie.Need-loop-less Inv-loop μ-loop
 loop-less c = let k = rw (c .before .before .before .before .before .before .before .before .end .given .1) at (c .before .before .before .before .before .before .before .before .before .before .table-at .ensures) in omega (arith, k .0, k .1)
@@ -84,7 +84,7 @@ loop-again c =
     let a = c .before .before .before .before .before .before .before .before .before .before .before .before .before .before .before .before .before .before .args in
     let l = c .before .before .before .before .before .before .before .before .before .before .before .loop in
     let k = rw (c .before .before .before .before .before .before .before .before .end .given .1) at (c .before .before .before .before .before .before .before .before .before .before .table-at .ensures) in
-    tables-next (a .s .now) (a .id) _ (a .known) (a .packages .now) (a .maps .now) (a .room .now) (l .e) (l .at) (l .packages) (l .maps) (l .room) (l .inv) _ k
+    tables-next (a .s .now) (a .id) _ (a .known) (a .packages .now) (a .map-heads .now) (a .map-room .now) (l .e) (l .at) (l .packages) (l .map-heads) (l .map-room) (l .inv) _ k
     _ _ _ _ (c .before .before .learn-table .kept .1 .1 .1 .1 .1 .0) (c .before .before .learn-table .ensures)
 
 pub learn-pa-spec : {M : Type 1} → statement M

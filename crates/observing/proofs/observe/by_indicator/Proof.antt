@@ -33,7 +33,7 @@ returns : tie.Need-returns
 returns c =
     let a = c .before .before .before .before .before .before .before .before .before .before .before .before .before .before .before .args in
     let y = c .before .before .before .before .whole .ensures in
-    ((λ L k most h. by-whole L (a .p .id) (a .p .head) _ k (a .e) _ _ _ _ _ _ _ (c .before .before .before .before .before .before .before .before .before .before .before .match .keys1) (y .0 L k most h)), omega (arith, y .1))
+    ((λ L k most h. by-whole L (a .p .id) (a .p .flags) _ k (a .e) _ _ _ _ _ _ _ (c .before .before .before .before .before .before .before .before .before .before .before .match .keys1) (y .0 L k most h)), omega (arith, y .1))
 
 same-length-3 : tie.Need-same-length-3
 same-length-3 c = search needs
@@ -43,7 +43,7 @@ returns-2 c =
     let a = c .before .before .before .before .before .before .before .before .before .before .args in
     let w = c .with-count .ensures in (
       (λ L k most h.
-          by-first L (a .p .id) (a .p .head) _ k (a .e) _ _ _ _ _ _ _ (c .before .before .before .before .before .before .match .keys2)
+          by-first L (a .p .id) (a .p .flags) _ k (a .e) _ _ _ _ _ _ _ (c .before .before .before .before .before .before .match .keys2)
           (rw w (fragments-observed (L .total) k _ (a .e) _ _ _ _ _ _ _ (h .tables-kept) (c .before .before .before .hold-first .ensures L (k .fragments) (h .fragments-kept))))),
       omega (arith, ap (λ z. z .lost) w),
     )
@@ -56,7 +56,7 @@ returns-3 c =
     let a = c .before .before .before .before .before .before .before .before .before .before .args in
     let w = c .with-count2 .ensures in (
       (λ L k most h.
-          by-middle L (a .p .id) (a .p .head) _ k (a .e) _ _ _ _ _ _ _ (c .before .before .before .before .before .before .match .keys3)
+          by-middle L (a .p .id) (a .p .flags) _ k (a .e) _ _ _ _ _ _ _ (c .before .before .before .before .before .before .match .keys3)
           (rw w (fragments-observed (L .total) k _ (a .e) _ _ _ _ _ _ _ (h .tables-kept) (c .before .before .before .middle .ensures L (k .fragments) most (h .fragments-kept))))),
       omega (arith, ap (λ z. z .lost) w),
     )
@@ -72,7 +72,7 @@ returns-4 c =
     let a = c .before .before .before .before .before .before .before .before .before .before .before .before .before .before .before .args in
     let y = c .before .before .before .before .last .ensures in
     let n = c .before .before .before .before .before .before .before .before .before .before .before .match .rest in
-    ((λ L k most h. by-last L (a .p .id) (a .p .head) _ k (a .e) _ _ _ _ _ _ _ (top-three (a .p .head) (omega (arith, c .before .before .before .before .before .before .before .before .before .before .before .before .before .before .before .good .1 .1 .0 .1 .1 .0)) (n .0 .0 .1) (n .0 .1) (n .1)) (y .0 L k most h)), omega (arith, y .1))
+    ((λ L k most h. by-last L (a .p .id) (a .p .flags) _ k (a .e) _ _ _ _ _ _ _ (top-three (a .p .flags) (omega (arith, c .before .before .before .before .before .before .before .before .before .before .before .before .before .before .before .good .1 .1 .0 .1 .1 .0)) (n .0 .0 .1) (n .0 .1) (n .1)) (y .0 L k most h)), omega (arith, y .1))
 
 pub by-indicator-spec : {M : Type 1} → statement M
 by-indicator-spec = tie.close (tie.spec whole-requires hold-first-requires with-count-requires middle-requires with-count-requires-2 last-requires same-length same-length-2 returns same-length-3 returns-2 same-length-4 returns-3 same-length-5 same-length-6 returns-4)

@@ -18,10 +18,10 @@ has-requires c κs = search needs
 returns-2 : tie.Need-returns-2
 returns-2 c =
     let a = c .before .before .before .before .before .before .before .args in
-    ((λ L k most h. see-carousel L (a .id) k (a .e) _ _ _ _ _ _ h (a .payload .now) (ap (λ ws. inSet ws (a .id)) (sym (h .tables-kept .carousels-are)) ∙ sym (c .before .has .ensures) ∙ c .if2 .taken)), omega arith)
+    ((λ L k most h. see-carousel L (a .id) k (a .e) _ _ _ _ _ _ h (a .payload .now) (ap (λ ws. inSet ws (a .id)) (sym (h .tables-kept .data-set-is)) ∙ sym (c .before .has .ensures) ∙ c .if2 .taken)), omega arith)
 
-shared-slice-read-head : tie.Need-shared-slice-read-head
-shared-slice-read-head c = search needs
+shared-slice-read-flags : tie.Need-shared-slice-read-flags
+shared-slice-read-flags c = search needs
 
 body-of-requires : tie.Need-body-of-requires
 body-of-requires c κs = search needs
@@ -43,10 +43,10 @@ returns-3 c =
     let y = c .before .before .before .before .by-indicator .ensures in
     let d = c .before .before .before .before .before .before .before .before .before .before .before .body-of .ensures in (
       (λ L k most h.
-          payload-by L (a .id) k (a .e) _ _ _ _ _ _ _ (ap (λ ws. inSet ws (a .id)) (sym (h .tables-kept .carousels-are)) ∙ sym (c .before .before .before .before .before .before .before .before .before .before .before .before .before .before .has .ensures) ∙ c .before .before .before .before .before .before .before .before .before .before .before .before .before .if2 .left) (a .payload .now) (c .before .before .before .before .before .before .before .before .before .before .before .before .before .before .before .before .if1 .left) _ d
+          payload-by L (a .id) k (a .e) _ _ _ _ _ _ _ (ap (λ ws. inSet ws (a .id)) (sym (h .tables-kept .data-set-is)) ∙ sym (c .before .before .before .before .before .before .before .before .before .before .before .before .before .before .has .ensures) ∙ c .before .before .before .before .before .before .before .before .before .before .before .before .before .if2 .left) (a .payload .now) (c .before .before .before .before .before .before .before .before .before .before .before .before .before .before .before .before .if1 .left) _ d
           (y .0 L k most h)),
       omega (arith, y .1, length-drop 2 (a .payload .now), ap length d),
     )
 
 pub observe-spec : {M : Type 1} → statement M
-observe-spec = tie.close (tie.spec returns has-requires returns-2 shared-slice-read-head body-of-requires by-indicator-requires same-length same-length-2 returns-3)
+observe-spec = tie.close (tie.spec returns has-requires returns-2 shared-slice-read-flags body-of-requires by-indicator-requires same-length same-length-2 returns-3)

@@ -37,8 +37,8 @@ dropped-requires c κs =
     let s = sym (c .before .before .before .before .before .before .before .before .before .before .before .before .before .before .before .is-sound .ensures) ∙ not-false _ (c .before .before .before .before .before .before .before .before .before .before .before .before .before .before .if1 .left) in
     let g = z .good .0 .1 .1 .1 .1 .1 .1 .1 .1 .1 .1 .1 in
     let all = whole-record (a .self) (g .0 .1 .0 .1) (g .1 .0 .1 .0 .1) (g .1 .1 .0 .1 .0 .1) (g .1 .1 .1 .0 .1 .0 .1) in
-    let h = state-held (recordIn (a .self)) (a .work .now) (a .bodies .now) (a .room .now) (extentOf (a .self)) s all (record { seen-is = refl; packages-are = refl; maps-are = refl; fragments-are = refl }) .tables-kept in
-    (stateOf (recordIn (a .self)) (a .work .now) (a .bodies .now) (a .room .now) .known, rw (c .before .before .before .before .before .before .before .before .clear32 .ensures, c .before .before .before .before .before .clear322 .ensures, c .before .before .before .extent-of .ensures) h)
+    let h = state-held (recordIn (a .self)) (a .work .now) (a .bodies .now) (a .map-room .now) (extentOf (a .self)) s all (record { seen-is = refl; packages-are = refl; map-heads-are = refl; fragments-are = refl }) .tables-kept in
+    (stateOf (recordIn (a .self)) (a .work .now) (a .bodies .now) (a .map-room .now) .known, rw (c .before .before .before .before .before .before .before .before .clear32 .ensures, c .before .before .before .before .before .clear322 .ensures, c .before .before .before .extent-of .ensures) h)
 
 returns-2 : tie.Need-returns-2
 unfolding recordIn
@@ -48,9 +48,9 @@ returns-2 c =
     let s = sym (c .before .before .before .before .before .before .before .before .before .before .before .before .before .before .before .before .is-sound .ensures) ∙ not-false _ (c .before .before .before .before .before .before .before .before .before .before .before .before .before .before .before .if1 .left) in
     let g = z .good .0 .1 .1 .1 .1 .1 .1 .1 .1 .1 .1 .1 in
     let all = whole-record (a .self) (g .0 .1 .0 .1) (g .1 .0 .1 .0 .1) (g .1 .1 .0 .1 .0 .1) (g .1 .1 .1 .0 .1 .0 .1) in
-    let h = state-held (recordIn (a .self)) (a .work .now) (a .bodies .now) (a .room .now) (extentOf (a .self)) s all (record { seen-is = refl; packages-are = refl; maps-are = refl; fragments-are = refl }) .tables-kept in
-    counted-as (recordIn (a .self)) (a .work .now) (a .bodies .now) (a .room .now) _ s
-    (c .dropped .ensures (stateOf (recordIn (a .self)) (a .work .now) (a .bodies .now) (a .room .now) .known) (rw (c .before .before .before .before .before .before .before .before .before .clear32 .ensures, c .before .before .before .before .before .before .clear322 .ensures, c .before .before .before .before .extent-of .ensures) h))
+    let h = state-held (recordIn (a .self)) (a .work .now) (a .bodies .now) (a .map-room .now) (extentOf (a .self)) s all (record { seen-is = refl; packages-are = refl; map-heads-are = refl; fragments-are = refl }) .tables-kept in
+    counted-as (recordIn (a .self)) (a .work .now) (a .bodies .now) (a .map-room .now) _ s
+    (c .dropped .ensures (stateOf (recordIn (a .self)) (a .work .now) (a .bodies .now) (a .map-room .now) .known) (rw (c .before .before .before .before .before .before .before .before .before .clear32 .ensures, c .before .before .before .before .before .before .clear322 .ensures, c .before .before .before .before .extent-of .ensures) h))
 
 pub dropped-spec : {M : Type 1} → statement M
 dropped-spec = tie.close (tie.spec is-sound-requires returns slice-aggregate-clear32 clear32-requires slice-aggregate-clear32-2 clear32-requires-2 extent-of-requires dropped-requires returns-2)

@@ -33,9 +33,9 @@ packets-requires c κs =
     let z = c .before .before .before .before .before .before .before .before .before .before .before .before .before .before .before .before .before .before .before .before .before .before .before .before .before .before .before .before .before .before in
     let a = z .args in
     let copied = c .before .before .before .before .before .before .before .before .before .before .before .before .before .copy in
-    let len = run-length (a .held) (a .chunk .now) (a .work .now) _ (copied .result) (copied .ensures) (z .pre .0 .work-room) (copied .kept .1 .0) in (
+    let len = run-length (a .held-count) (a .chunk .now) (a .work .now) _ (copied .result) (copied .ensures) (z .pre .0 .work-room) (copied .kept .1 .0) in (
       omega arith,
-      call-fits (a .t) _ _ _ _ _ _ _ (a .heads .now) (a .bodies .now) _ (a .out .now) (c .before .before .before .before .before .before .before .before .before .before .begins .ensures) (c .before .before .before .before .before .before .before .before .before .before .before .before .before .before .before .before .before .before .before .before .before .before .before .before .before .before .before .before .before .before .pre .0 .none-lost) (c .before .before .before .before .before .before .before .before .before .before .before .before .before .before .before .before .before .before .decide .ensures) (c .before .before .before .before .before .before .before .before .before .before .before .before .before .before .before .ready .ensures) _ (a .held + length (a .chunk .now)) (omega (arith, len)) (omega (arith, z .pre .0 .work-room, z .pre .0 .work-few)) (z .pre .0 .out-room),
+      call-fits (a .t) _ _ _ _ _ _ _ (a .fragment-heads .now) (a .bodies .now) _ (a .out .now) (c .before .before .before .before .before .before .before .before .before .before .begins .ensures) (c .before .before .before .before .before .before .before .before .before .before .before .before .before .before .before .before .before .before .before .before .before .before .before .before .before .before .before .before .before .before .pre .0 .none-lost) (c .before .before .before .before .before .before .before .before .before .before .before .before .before .before .before .before .before .before .decide .ensures) (c .before .before .before .before .before .before .before .before .before .before .before .before .before .before .before .ready .ensures) _ (a .held-count + length (a .chunk .now)) (omega (arith, len)) (omega (arith, z .pre .0 .work-room, z .pre .0 .work-few)) (z .pre .0 .out-room),
       some-begins (a .t) _ _ _ _ _ _ _ _ _ _ _ (c .before .before .before .before .before .before .before .before .before .before .begins .ensures) (c .before .before .before .before .before .before .before .before .before .before .before .before .before .before .before .before .before .before .before .before .before .before .before .before .before .before .before .before .before .before .pre .0 .none-lost) (c .before .before .before .before .before .before .before .before .before .before .before .before .before .before .before .before .before .before .decide .ensures) (c .before .before .before .before .before .before .before .before .before .before .before .before .before .before .before .ready .ensures) (z .pre .2),
     )
 
@@ -47,7 +47,7 @@ move-down-requires c κs =
     let z = c .before .before .before .before .before .before .before .before .before .before .before .before .before .before .before .before .before .before .before .before .before .before .before .before .before .before .before .before .before .before .before .before .before .before .before .before .before .before in
     let a = z .args in
     let copied = c .before .before .before .before .before .before .before .before .before .before .before .before .before .before .before .before .before .before .before .before .before .copy in
-    let len = run-length (a .held) (a .chunk .now) (a .work .now) _ (copied .result) (copied .ensures) (z .pre .0 .work-room) (copied .kept .1 .0) in
+    let len = run-length (a .held-count) (a .chunk .now) (a .work .now) _ (copied .result) (copied .ensures) (z .pre .0 .work-room) (copied .kept .1 .0) in
     (omega arith, omega (arith, len, c .before .before .before .before .before .before .before .packets .ensures .2, copied .ensures .end, copied .kept .1 .0, z .pre .0 .work-room))
 
 sub-ended : tie.Need-sub-ended
@@ -75,7 +75,7 @@ returns c L k em ew h =
     let copied = c .before .before .before .before .before .before .before .before .before .before .before .before .before .before .before .before .before .before .before .before .before .before .before .before .before .copy in
     let passed = c .before .before .before .before .before .before .before .before .before .before .before .packets in
     let start = call-begins (a .t) _ _ _ _ _ _ _ _ _ _ _ (c .before .before .before .before .before .before .before .before .before .before .before .before .before .before .before .before .before .before .before .before .before .before .begins .ensures) (c .before .before .before .before .before .before .before .before .before .before .before .before .before .before .before .before .before .before .before .before .before .before .before .before .before .before .before .before .before .before .before .before .before .before .before .before .before .before .before .before .before .before .pre .0 .none-lost) (c .before .before .before .before .before .before .before .before .before .before .before .before .before .before .before .before .before .before .before .before .before .before .before .before .before .before .before .before .before .before .decide .ensures) (c .before .before .before .before .before .before .before .before .before .before .before .before .before .before .before .before .before .before .before .before .before .before .before .before .before .before .before .ready .ensures) L k h in
-    call-ends L (a .t) k (a .held) (copied .result) (passed .result .at) _ (a .chunk .now) (a .work .now) _ _ (a .out .now) _ (copied .ensures) (z .pre .0 .work-room) (copied .kept .1 .0)
+    call-ends L (a .t) k (a .held-count) (copied .result) (passed .result .at) _ (a .chunk .now) (a .work .now) _ _ (a .out .now) _ (copied .ensures) (z .pre .0 .work-room) (copied .kept .1 .0)
     (c .before .before .before .move-down .ensures) (passed .ensures .2) (passed .result .progress) _ _ _ _ _ _ _ _ (z .pre .1) ew (passed .ensures .0 L k (a .out .now) _ 0 em start) (passed .ensures .1) (c .ended .ensures)
 
 pub filtered-spec : {M : Type 1} → statement M

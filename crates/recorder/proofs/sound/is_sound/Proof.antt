@@ -1,4 +1,4 @@
-use Rattle.meaning.specs.Record.{sound}
+use Rattle.meaning.specs.Soundness.{sound}
 use Rattle.recorder.specs.Filter.{recordIn}
 use Rattle.recorder.proofs.PushLaws.{whole-record}
 use borrow.Author.Needs.{needs}
@@ -17,7 +17,7 @@ parts-sound-requires c κs =
     let z = c .before .before .before .before .before .before .before .before .before in
     let g = z .good .0 .1 .1 .1 .1 .1 .1 .1 .1 .1 .1 .1 in
     let all = whole-record (z .args .f) (g .0 .1 .0 .1) (g .1 .0 .1 .0 .1) (g .1 .1 .0 .1 .0 .1) (g .1 .1 .1 .0 .1 .0 .1) in
-    (all .packages-all, all .maps-all, all .fragments-all)
+    (all .packages-all, all .map-heads-all, all .fragments-all)
 
 returns : tie.Need-returns
 unfolding sound recordIn

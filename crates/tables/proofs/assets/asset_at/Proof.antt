@@ -15,8 +15,8 @@ returns-2 c =
     let a = c .before .before .before .args in
     entry-short (a .s .now) (a .at) (λ i. omega (arith, c .before .before .shared-slice-known .given i)) (omega arith)
 
-add-kind : tie.Need-add-kind
-add-kind c = search needs
+add-type-at : tie.Need-add-type-at
+add-type-at c = search needs
 
 add-wide : tie.Need-add-wide
 add-wide c = search needs
@@ -27,8 +27,8 @@ shared-slice-read-wide c = search needs
 wide-requires : tie.Need-wide-requires
 wide-requires c κs = search needs
 
-add-kind-2 : tie.Need-add-kind-2
-add-kind-2 c = search needs
+add-type-at-2 : tie.Need-add-type-at-2
+add-type-at-2 c = search needs
 
 add-if3 : tie.Need-add-if3
 add-if3 c = search needs
@@ -81,11 +81,11 @@ asset-at-spec =
     (tie.spec
     returns
     returns-2
-    add-kind
+    add-type-at
     add-wide
     shared-slice-read-wide
     wide-requires
-    add-kind-2
+    add-type-at-2
     add-if3
     returns-3
     add-tail-at

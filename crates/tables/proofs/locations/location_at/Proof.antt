@@ -8,8 +8,8 @@ use Rattle.tables.proofs.locations.location_at.Tie as tie
 returns : tie.Need-returns
 returns c = let a = c .before .before .args in location-none (a .s .now) (a .at) (c .if1 .taken)
 
-shared-slice-read-kind : tie.Need-shared-slice-read-kind
-shared-slice-read-kind c = search needs
+shared-slice-read-location-type : tie.Need-shared-slice-read-location-type
+shared-slice-read-location-type c = search needs
 
 add-here : tie.Need-add-here
 add-here c = search needs
@@ -103,7 +103,7 @@ location-at-spec =
     tie.close
     (tie.spec
     returns
-    shared-slice-read-kind
+    shared-slice-read-location-type
     add-here
     here-requires
     add-bytes-end

@@ -6,8 +6,8 @@ use Rattle.tables.proofs.packages.package_at.Tie as tie
 counted-end-requires : tie.Need-counted-end-requires
 counted-end-requires c κs = search needs
 
-enum-known-place : tie.Need-enum-known-place
-enum-known-place c = search needs
+enum-known-name-end : tie.Need-enum-known-name-end
+enum-known-name-end c = search needs
 
 enum-told : tie.Need-enum-told
 enum-told c = search needs
@@ -29,18 +29,18 @@ enum-told-2 c = search needs
 returns-2 : tie.Need-returns-2
 returns-2 c =
     let a = c .before .before .before .before .before .before .before .before .args in
-    package-placeless (a .s .now) (a .at) _ (rw (c .before .before .before .before .place .given .1) at (c .before .before .before .before .before .before .counted-end .ensures))
+    package-placeless (a .s .now) (a .at) _ (rw (c .before .before .before .before .name-end .given .1) at (c .before .before .before .before .before .before .counted-end .ensures))
     (rw (c .enum-told2 .given .1) at (c .before .before .location-at .ensures))
 
 name-at-requires : tie.Need-name-at-requires
 name-at-requires c κs =
     let a = c .before .before .before .before .before .before .before .before .before .args in
-    name-in (a .s .now) (a .at) _ (rw (c .before .before .before .before .before .place .given .1) at (c .before .before .before .before .before .before .before .counted-end .ensures))
+    name-in (a .s .now) (a .at) _ (rw (c .before .before .before .before .before .name-end .given .1) at (c .before .before .before .before .before .before .before .counted-end .ensures))
 
 returns-3 : tie.Need-returns-3
 returns-3 c =
     let a = c .before .before .before .before .before .before .before .before .before .before .args in
-    package-at (a .s .now) (a .at) _ (rw (c .before .before .before .before .before .before .place .given .1) at (c .before .before .before .before .before .before .before .before .counted-end .ensures))
+    package-at (a .s .now) (a .at) _ (rw (c .before .before .before .before .before .before .name-end .given .1) at (c .before .before .before .before .before .before .before .before .counted-end .ensures))
     _ _ _ (rw (c .before .before .end .given .1) at (c .before .before .before .before .location-at .ensures)) (c .name-at .ensures)
 
 pub package-at-spec : {M : Type 1} → statement M
@@ -48,7 +48,7 @@ package-at-spec =
     tie.close
     (tie.spec
     counted-end-requires
-    enum-known-place
+    enum-known-name-end
     enum-told
     returns
     location-at-requires

@@ -1,0 +1,31 @@
+-- What a recording wants: a service or each, and three wishes. 01, "Keep, drop, ready"; for copy-all "Finding packets".
+use Prim.Native.Nat.{ℕ}
+use mathlib.Core.Bool.{Bool, true, false, _&&_}
+use lib.Dec.{eqb}
+use Rattle.meaning.specs.Tables.{Entry}
+use Rattle.meaning.specs.declared.Part.{Part}
+use Rattle.meaning.specs.declared.Part.the-variants.{Caption, Carousel, Other}
+use Rattle.meaning.specs.declared.Service.{Service}
+use Rattle.meaning.specs.declared.Service.the-variants.{Every, Only}
+use Rattle.meaning.specs.declared.Options.{Options}
+
+abbrev pub wanted : Options → Part → Bool
+wanted o Caption = o .caption
+wanted o Carousel = o .carousel
+wanted o Other = true
+
+abbrev pub wantedEntry : Options → Entry → Bool
+wantedEntry o e = wanted o (e .part)
+
+-- Each service is ours where none is named.
+abbrev pub ours : Service → ℕ → Bool
+ours Every s = true
+ours (Only n) s = eqb n s
+
+abbrev pub everyService : Service → Bool
+everyService Every = true
+everyService (Only n) = false
+
+-- Copy-all: no service, all three wishes on.
+unfoldable pub copiesAll : Options → Bool
+copiesAll o = everyService (o .service) && o .caption && o .carousel && o .eit
