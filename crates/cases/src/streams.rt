@@ -42,8 +42,8 @@ pub struct Asked {
     pub calls: usize,
 }
 
-// The record that a call handed back, and whether the run goes on with it.
-pub struct Called {
+// The record that a call handed back, and whether the program goes on with it.
+pub struct Handed {
     pub goes_on: bool,
     pub filter: Filter,
 }
@@ -132,7 +132,7 @@ fn tell(p: Pushed, out: &[u8]) -> bool
     write_all(&out[0..n])
 }
 
-// One call and its answer; hands back the record for the next. The run goes on where the answer was taken.
+// One call and its answer; hands back the record for the next. The program goes on where the answer was taken.
 fn one_call(
     f: Filter,
     chunk: &[u8],
@@ -140,16 +140,16 @@ fn one_call(
     bodies: &mut [u8],
     map_room: &mut [u16],
     out: &mut [u8],
-) -> Called
+) -> Handed
     ensures { λ r. ⌜ CallAs (recordIn f) (now (work .entry)) (now (bodies .entry)) (now («map_room» .entry)) (now (chunk .entry)) (now (out .entry)) (r .filter) (now (work .exit)) (now (bodies .exit)) (now («map_room» .exit)) (now (out .exit)) ⌝ }
 {
     let p = f.push(chunk, work, bodies, map_room, out);
     let goes_on = tell(p, out);
     let filter = p.filter;
-    Called { goes_on, filter }
+    Handed { goes_on, filter }
 }
 
-// The next chunk, its call and the answer. The run ends where the chunk is cut short.
+// The next chunk, its call and the answer. The program ends where the chunk is cut short.
 fn next_call(
     f: Filter,
     len: usize,
@@ -158,11 +158,11 @@ fn next_call(
     bodies: &mut [u8],
     map_room: &mut [u16],
     out: &mut [u8],
-) -> Called
+) -> Handed
     requires { ⌜ len ≤ length (now chunk) ⌝ }
 {
     if !read_front(chunk, len) {
-        return Called {
+        return Handed {
             goes_on: false,
             filter: f,
         };
@@ -191,7 +191,7 @@ fn calls(
 ) -> bool
     requires { ⌜ (4 * n ≤ length (now lengths)) × LengthsFit (now lengths) n (length (now chunk)) ⌝ }
 {
-    let mut x = Called {
+    let mut x = Handed {
         goes_on: true,
         filter: first,
     };

@@ -26,7 +26,7 @@ use Rattle.tlv.specs.Answers.{MmtpIs}
 use Rattle.tlv.specs.declared.Mmtp as read
 use Rattle.narrowing.specs.Tables.{ChangeIs, isChange, tablesIn, tablesChange, afterTable}
 use Rattle.narrowing.specs.Answers.{zeros, NarrowedAs, RefusedAs, isRefused, PaFound, bodyAfter, packetWith, Rows, noRows, countedIn, CountsBelow}
-use Rattle.narrowing.specs.declared.table.Change.{Change}
+use Rattle.narrowing.specs.declared.table.BodyChange.{BodyChange}
 use Rattle.tables.proofs.WalkLaws.{tableAt, part-table}
 use Rattle.narrowing.proofs.CountLaws.{counted-rows, below-more, tally-start}
 use Rattle.narrowing.proofs.TableLaws.{stays, changed}
@@ -98,7 +98,7 @@ module _ (o : Options) (t : Bytes) (end : ℕ) (h : TableIs (table t) t 0 (code.
   body-as : newBody o 0 (getD t 0 0) (take (end - 0 - 4) (drop (0 + 4) t)) ≡ newBody o 0 (getD t 0 0) (inner t end)
   body-as = let k : end - 0 - 4 ≡ end - 4 = omega arith in ap (λ (m : ℕ). newBody o 0 (getD t 0 0) (take m (drop 4 t))) k
 
-  module _ (change : Change) (g : ChangeIs (newBody o 0 (getD t 0 0) (inner t end)) o (inner t end) change) where
+  module _ (change : BodyChange) (g : ChangeIs (newBody o 0 (getD t 0 0) (inner t end)) o (inner t end) change) where
     pub table-stays : isChange change ≡ false → changeTable o t ≡ none
     unfolding changeTable narrowTable newTable
     table-stays q = rw (h .2, body-as, stays _ o (inner t end) change g q)

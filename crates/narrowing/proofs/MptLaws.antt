@@ -29,7 +29,7 @@ use Rattle.tables.specs.declared.assets.Asset.{Asset}
 use Rattle.tables.specs.declared.fields.End.{End}
 use Rattle.tables.specs.declared.locations.Carrier.{Carrier}
 use Rattle.narrowing.specs.Bodies.{bytesOf, keptBytes, WalkIs, MptLess}
-use Rattle.narrowing.specs.declared.mpt.Walk.{Walk}
+use Rattle.narrowing.specs.declared.mpt.EntryWalk.{EntryWalk}
 
 -- ---- those kept of two lists, and of a list and one more
 
@@ -165,7 +165,7 @@ module _ (o : Options) (b : Bytes) (at count : ℕ) where
         few = omega (arith, i .few);
       }
 
-    pub walk-end : left ≡ 0 → WalkIs o b at count (Walk.Done from kept size)
+    pub walk-end : left ≡ 0 → WalkIs o b at count (EntryWalk.Done from kept size)
     walk-end z =
         (i .sofar .within, i .fits, omega (arith, i .few), (i .pre, all-read b at count from left (i .pre) (i .sofar) z, i .kept-is, i .size-is))
 
@@ -238,7 +238,7 @@ module _ (o : Options) (b : Bytes) where
       unfolding mptWithout
       entries-none q = rw (mpt-many, q)
 
-      module _ (end kept size : ℕ) (w : WalkIs o b (h + 1) n (Walk.Done end kept size)) where
+      module _ (end kept size : ℕ) (w : WalkIs o b (h + 1) n (EntryWalk.Done end kept size)) where
         as-many : length (w .3 .0) ≡ n
         as-many = many-framed entry (λ e. e .bytes-of) entry-framed n (drop (h + 1) b) (w .3 .0) (drop end b) (w .3 .1) .length-of
 

@@ -18,7 +18,7 @@ use Rattle.meaning.proofs.ListLaws.{clash}
 use Rattle.meaning.proofs.Writes.{wrote-then}
 use Rattle.narrowing.specs.Bodies.{MptLess, oneEntry, PltBounds}
 use Rattle.narrowing.specs.Tables.{ChangeIs, isChange, Exact, afterTable}
-use Rattle.narrowing.specs.declared.table.Change.{Change}
+use Rattle.narrowing.specs.declared.table.BodyChange.{BodyChange}
 use Rattle.narrowing.proofs.ExactLaws.{bodyOf, exact-table}
 
 -- ---- the body of a table with this number, on this identifier
@@ -44,8 +44,8 @@ module _ (o : Options) (p number : ℕ) (b : Bytes) where
 
 -- ---- a change, by its cases
 
-module _ (n : Option Bytes) (o : Options) (b : Bytes) (change : Change) (h : ChangeIs n o b change) where
-  module _ (front end kept size : ℕ) (q : change ≡ Change.Mpt front end kept size) where
+module _ (n : Option Bytes) (o : Options) (b : Bytes) (change : BodyChange) (h : ChangeIs n o b change) where
+  module _ (front end kept size : ℕ) (q : change ≡ BodyChange.Mpt front end kept size) where
     pub as-mpt : (n ≡ mptWithout o b) × MptLess o b front end kept size
     as-mpt = rw q at h
 
@@ -56,7 +56,7 @@ module _ (n : Option Bytes) (o : Options) (b : Bytes) (change : Change) (h : Cha
         let l = length-take-le front b (omega (arith, m .fits, m .within)) in
         rw (as-mpt .0, m .narrowed) (simp length-append (omega (arith, l, m .size-is, length-drop end b)))
 
-  module _ (start end past : ℕ) (q : change ≡ Change.Plt start end past) where
+  module _ (start end past : ℕ) (q : change ≡ BodyChange.Plt start end past) where
     pub as-plt : PltBounds b start end past × (n ≡ some (oneEntry b start end past))
     as-plt = rw q at h
 
@@ -66,19 +66,19 @@ module _ (n : Option Bytes) (o : Options) (b : Bytes) (change : Change) (h : Cha
         let l = length-take-le (end - start) (drop start b) (omega (arith, length-drop start b, p .ends, p .before, p .within)) in
         rw (as-plt .1) (simp length-append (omega (arith, l, length-drop past b)))
 
-  pub as-same : change ≡ Change.Same → n ≡ none
+  pub as-same : change ≡ BodyChange.Same → n ≡ none
   as-same q = rw q at h
 
 -- no change, and a change
-pub stays : (n : Option Bytes) (o : Options) (b : Bytes) (change : Change) → ChangeIs n o b change → isChange change ≡ false → n ≡ none
-stays n o b (Change.Mpt front end kept size) h q = clash (cc)
-stays n o b (Change.Plt start end past) h q = clash (cc)
-stays n o b Change.Same h q = h
+pub stays : (n : Option Bytes) (o : Options) (b : Bytes) (change : BodyChange) → ChangeIs n o b change → isChange change ≡ false → n ≡ none
+stays n o b (BodyChange.Mpt front end kept size) h q = clash (cc)
+stays n o b (BodyChange.Plt start end past) h q = clash (cc)
+stays n o b BodyChange.Same h q = h
 
-pub changed : (n : Option Bytes) (o : Options) (b : Bytes) (change : Change) → ChangeIs n o b change → isChange change ≡ true → n ≡ some (Option·getD n b)
-changed n o b (Change.Mpt front end kept size) h q = let e = h .0 ∙ h .1 .narrowed in rw e
-changed n o b (Change.Plt start end past) h q = rw (h .1)
-changed n o b Change.Same h q = clash (cc)
+pub changed : (n : Option Bytes) (o : Options) (b : Bytes) (change : BodyChange) → ChangeIs n o b change → isChange change ≡ true → n ≡ some (Option·getD n b)
+changed n o b (BodyChange.Mpt front end kept size) h q = let e = h .0 ∙ h .1 .narrowed in rw e
+changed n o b (BodyChange.Plt start end past) h q = rw (h .1)
+changed n o b BodyChange.Same h q = clash (cc)
 
 -- ---- the whole table
 
@@ -101,7 +101,7 @@ module _ (o : Options) (p : ℕ) (t : Bytes) (x : Exact t) where
   unfolding afterTable newTable tableBytes
   after-some y e = rw (exact-table t x, e, two t (x .four))
 
-  module _ (change : Change) (h : ChangeIs (anew o p t) o (bodyOf t) change) where
+  module _ (change : BodyChange) (h : ChangeIs (anew o p t) o (bodyOf t) change) where
     pub after-same : isChange change ≡ false → afterTable o p t ≡ t
     after-same q = after-none (stays (anew o p t) o (bodyOf t) change h q)
 

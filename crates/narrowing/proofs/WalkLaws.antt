@@ -27,7 +27,7 @@ use Rattle.octets.proofs.ByteLaws.{rest-of}
 use Rattle.tables.specs.Answers.{TableIs}
 use Rattle.tables.specs.declared.pa.Table.the-variants.{To}
 use Rattle.tables.proofs.WalkLaws.{tableAt, raw-at, part-table, walk-next}
-use Rattle.narrowing.specs.declared.table.Change.{Change}
+use Rattle.narrowing.specs.declared.table.BodyChange.{BodyChange}
 use Rattle.narrowing.specs.Tables.{ChangeIs, isChange, afterTable, tablesIn, tablesChange, tablesAfter, tablesBytes, HeadEntries}
 
 -- ---- the table at an offset, and the walk from there
@@ -79,10 +79,10 @@ unfolding any
 changeFrom o p changed r = ltb (length (tablesIn r .left)) 4 && (changed || any (tableChanges o p) (tablesIn r .found))
 
 -- what a change shows
-is-some : (n : Option Bytes) (o : Options) (b : Bytes) (change : Change) → ChangeIs n o b change → isChange change ≡ isSome n
-is-some n o b (Change.Mpt front end kept size) h = let e = h .0 ∙ h .1 .narrowed in rw e
-is-some n o b (Change.Plt start end past) h = rw (h .1)
-is-some n o b Change.Same h = rw h
+is-some : (n : Option Bytes) (o : Options) (b : Bytes) (change : BodyChange) → ChangeIs n o b change → isChange change ≡ isSome n
+is-some n o b (BodyChange.Mpt front end kept size) h = let e = h .0 ∙ h .1 .narrowed in rw e
+is-some n o b (BodyChange.Plt start end past) h = rw (h .1)
+is-some n o b BodyChange.Same h = rw h
 
 pub change-start : (o : Options) (p : ℕ) (r : Bytes) → tablesChange o p r ≡ changeFrom o p false r
 unfolding tablesChange changeFrom
@@ -101,7 +101,7 @@ change-turn o p changed s at e t n q =
     (or-assoc changed _ _ ∙ ap (λ (b : Bool). b || any (tableChanges o p) (tablesIn (drop e s) .found)) (ap (λ (b : Bool). changed || b) (changes-own s at e t o p) ∙ sym q)))
 
 -- found now, or found before
-pub change-new : (o : Options) (p : ℕ) (s : Bytes) (at e : ℕ) (t : TableIs (table (drop at s)) s at (To e)) (was found : Bool) (change : Change) → was ≡ false
+pub change-new : (o : Options) (p : ℕ) (s : Bytes) (at e : ℕ) (t : TableIs (table (drop at s)) s at (To e)) (was found : Bool) (change : BodyChange) → was ≡ false
     → ChangeIs (newBody o p (getD s at 0) (part s at e)) o (part s at e) change → found ≡ isChange change
     → changeFrom o p was (drop at s) ≡ changeFrom o p found (drop e s)
 change-new o p s at e t was found change f h q =

@@ -14,7 +14,7 @@ use Rattle.meaning.specs.Wishes.{wantedEntry}
 use Rattle.meaning.specs.Narrow.{mptBody, mptWithout, pltOnly}
 use Rattle.meaning.specs.declared.Options.{Options}
 use Rattle.tables.specs.declared.packages.Named.{Named}
-use Rattle.narrowing.specs.declared.mpt.Walk.{Walk}
+use Rattle.narrowing.specs.declared.mpt.EntryWalk.{EntryWalk}
 use Rattle.narrowing.specs.declared.mpt.MptChange.{MptChange}
 use Rattle.narrowing.specs.declared.plt.PltChange.{PltChange}
 
@@ -28,11 +28,11 @@ keptBytes o none = []
 keptBytes o (some x) = bytesOf (keep (wantedEntry o) (x .0))
 
 -- The entries from `at` on end at e; `kept` of them are wanted, which are `size` bytes.
-abbrev pub WalkIs : Options → Bytes → ℕ → ℕ → Walk → Type 0
-WalkIs o b at count (Walk.Done e kept size) =
+abbrev pub WalkIs : Options → Bytes → ℕ → ℕ → EntryWalk → Type 0
+WalkIs o b at count (EntryWalk.Done e kept size) =
     (e ≤ length b) × (at + size ≤ e) × (kept ≤ count)
     × ((es : List Entry) × (many count entry (drop at b) ≡ some (es, drop e b)) × (kept ≡ length (keep (wantedEntry o) es)) × (size ≡ length (bytesOf (keep (wantedEntry o) es))))
-WalkIs o b at count Walk.Broken = many count entry (drop at b) ≡ none
+WalkIs o b at count EntryWalk.Broken = many count entry (drop at b) ≡ none
 
 -- An MPT's body loses entries: its count is at `front`, its entries end at `end`, and of these `kept` stay, which are `size` bytes.
 pub record MptLess (o : Options) (b : Bytes) (front end kept size : ℕ) : Type 0 where

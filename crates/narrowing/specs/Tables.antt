@@ -13,18 +13,18 @@ use Rattle.meaning.specs.Tables.{Table, table, paHead}
 use Rattle.meaning.specs.Narrow.{mptWithout, newTable, tableFrom, tableAfter, tableChanges}
 use Rattle.meaning.specs.declared.Options.{Options}
 use Rattle.narrowing.specs.Bodies.{MptLess, PltBounds, oneEntry}
-use Rattle.narrowing.specs.declared.table.Change.{Change}
+use Rattle.narrowing.specs.declared.table.BodyChange.{BodyChange}
 
 -- n is what narrowing makes of the body b.
-abbrev pub ChangeIs : Option Bytes → Options → Bytes → Change → Type 0
-ChangeIs n o b (Change.Mpt front end kept size) = (n ≡ mptWithout o b) × MptLess o b front end kept size
-ChangeIs n o b (Change.Plt start end past) = PltBounds b start end past × (n ≡ some (oneEntry b start end past))
-ChangeIs n o b Change.Same = n ≡ none
+abbrev pub ChangeIs : Option Bytes → Options → Bytes → BodyChange → Type 0
+ChangeIs n o b (BodyChange.Mpt front end kept size) = (n ≡ mptWithout o b) × MptLess o b front end kept size
+ChangeIs n o b (BodyChange.Plt start end past) = PltBounds b start end past × (n ≡ some (oneEntry b start end past))
+ChangeIs n o b BodyChange.Same = n ≡ none
 
-abbrev pub isChange : Change → Bool
-isChange (Change.Mpt front end kept size) = true
-isChange (Change.Plt start end past) = true
-isChange Change.Same = false
+abbrev pub isChange : BodyChange → Bool
+isChange (BodyChange.Mpt front end kept size) = true
+isChange (BodyChange.Plt start end past) = true
+isChange BodyChange.Same = false
 
 -- t is one table and nothing more.
 pub record Exact (t : Bytes) : Type 0 where

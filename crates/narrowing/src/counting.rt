@@ -11,7 +11,7 @@ ghost use Rattle.meaning.specs.Wishes.{wanted};
 ghost use Rattle.meaning.specs.Narrow.{tablesParts, partsOfTable};
 ghost use Rattle.narrowing.specs.Tables.{Exact, tablesIn};
 ghost use Rattle.narrowing.specs.Answers.{CountsBelow, noRows, countedIn, kindNumber, rowNumber, bumped, partsRead};
-use crate::mpt::Walk;
+use crate::mpt::EntryWalk;
 use crate::mpt::entries;
 use crate::mpt::wanted;
 use meaning::Options;
@@ -97,7 +97,7 @@ pub fn count_table(t: &[u8], o: Options, counts: [[u64; 3]; 2]) -> [[u64; 3]; 2]
         return counts;
     }
     let n = wide(b[front]);
-    let Walk::Done {
+    let EntryWalk::Done {
         end: _,
         kept: _,
         size: _,

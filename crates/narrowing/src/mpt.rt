@@ -20,7 +20,7 @@ use tables::assets::mpt_front;
 use tables::fields::End;
 
 // The entries of a body: where they end, how many are wanted, and how many bytes those are.
-pub enum Walk {
+pub enum EntryWalk {
     Done {
         end: usize,
         kept: usize,
@@ -51,7 +51,7 @@ pub fn wanted(o: Options, part: Part) -> bool
 }
 
 // `count` entries at `at`.
-pub fn entries(b: &[u8], at: usize, count: usize, o: Options) -> Walk
+pub fn entries(b: &[u8], at: usize, count: usize, o: Options) -> EntryWalk
     requires { ⌜ (at ≤ length (now b)) × (count < 256) ⌝ }
     ensures { λ r. ⌜ WalkIs o (now (b .entry)) at count r ⌝ }
 {
@@ -62,7 +62,7 @@ pub fn entries(b: &[u8], at: usize, count: usize, o: Options) -> Walk
     while 0 < left {
         let start = from;
         let Asset::Entry { end, part, .. } = asset_at(b, start) else {
-            return Walk::Broken;
+            return EntryWalk::Broken;
         };
         from = end;
         left -= 1;
@@ -71,7 +71,7 @@ pub fn entries(b: &[u8], at: usize, count: usize, o: Options) -> Walk
             size += end - start;
         }
     }
-    Walk::Done {
+    EntryWalk::Done {
         end: from,
         kept,
         size,
@@ -111,7 +111,7 @@ pub fn mpt_without(b: &[u8], o: Options) -> MptChange
         return MptChange::Same;
     }
     let count = wide(b[front]);
-    let Walk::Done { end, kept, size } = entries(b, front + 1, count, o) else {
+    let EntryWalk::Done { end, kept, size } = entries(b, front + 1, count, o) else {
         return MptChange::Same;
     };
     if kept == count {

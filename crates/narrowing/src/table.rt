@@ -21,7 +21,7 @@ use octets::put16;
 use tables::pa::is_mpt;
 
 // What narrowing makes of a table's body.
-pub enum Change {
+pub enum BodyChange {
     Mpt {
         front: usize,
         end: usize,
@@ -36,7 +36,7 @@ pub enum Change {
     Same,
 }
 
-fn of_mpt(b: &[u8], o: Options) -> Change
+fn of_mpt(b: &[u8], o: Options) -> BodyChange
     ensures { λ r. ⌜ ChangeIs (mptWithout o (now (b .entry))) o (now (b .entry)) r ⌝ }
 {
     match mpt_without(b, o) {
@@ -45,95 +45,95 @@ fn of_mpt(b: &[u8], o: Options) -> Change
             end,
             kept,
             size,
-        } => Change::Mpt {
+        } => BodyChange::Mpt {
             front,
             end,
             kept,
             size,
         },
-        MptChange::Same => Change::Same,
+        MptChange::Same => BodyChange::Same,
     }
 }
 
-fn of_plt(b: &[u8], service: Service) -> Change
+fn of_plt(b: &[u8], service: Service) -> BodyChange
     ensures { λ r. ⌜ ((o : Options) → ChangeIs (pltFor service (now (b .entry))) o (now (b .entry)) r) ⌝ }
 {
     let Service::Only(n) = service else {
-        return Change::Same;
+        return BodyChange::Same;
     };
     match plt_only(b, n) {
-        PltChange::One { start, end, past } => Change::Plt { start, end, past },
-        PltChange::Same => Change::Same,
+        PltChange::One { start, end, past } => BodyChange::Plt { start, end, past },
+        PltChange::Same => BodyChange::Same,
     }
 }
 
 // What narrowing makes of the body `b` of table `number` on identifier `pid`.
-pub fn change_of(b: &[u8], number: u8, pid: u16, o: Options) -> Change
+pub fn change_of(b: &[u8], number: u8, pid: u16, o: Options) -> BodyChange
     ensures { λ r. ⌜ ChangeIs (newBody o pid number (now (b .entry))) o (now (b .entry)) r ⌝ }
 {
     if is_mpt(number) {
         return of_mpt(b, o);
     }
     if number != 0x80 {
-        return Change::Same;
+        return BodyChange::Same;
     }
     if pid != 0 {
-        return Change::Same;
+        return BodyChange::Same;
     }
     let service = o.service;
     of_plt(b, service)
 }
 
 // How many bytes the new body has.
-pub fn length_after(b: &[u8], change: Change) -> usize
+pub fn length_after(b: &[u8], change: BodyChange) -> usize
     requires { ⌜ ((n : Option Bytes) × (o : Options) × ChangeIs n o (now b) change) ⌝ }
     ensures { λ r. ⌜ ((n : Option Bytes) (o : Options) → ChangeIs n o (now (b .entry)) change → r ≡ length (Option·getD n (now (b .entry)))) ⌝ }
 {
     match change {
-        Change::Mpt {
+        BodyChange::Mpt {
             front,
             end,
             kept: _,
             size,
         } => front + 1 + size + (b.len() - end),
-        Change::Plt { start, end, past } => 1 + (end - start) + (b.len() - past),
-        Change::Same => b.len(),
+        BodyChange::Plt { start, end, past } => 1 + (end - start) + (b.len() - past),
+        BodyChange::Same => b.len(),
     }
 }
 
-pub fn changes(change: Change) -> bool
+pub fn changes(change: BodyChange) -> bool
     ensures { λ r. ⌜ r ≡ isChange change ⌝ }
 {
     match change {
-        Change::Mpt {
+        BodyChange::Mpt {
             front: _,
             end: _,
             kept: _,
             size: _,
         } => true,
-        Change::Plt {
+        BodyChange::Plt {
             start: _,
             end: _,
             past: _,
         } => true,
-        Change::Same => false,
+        BodyChange::Same => false,
     }
 }
 
 // The new body, written at `to`.
-fn body_to(b: &[u8], change: Change, o: Options, out: &mut [u8], to: usize) -> usize
+fn body_to(b: &[u8], change: BodyChange, o: Options, out: &mut [u8], to: usize) -> usize
     requires { ⌜ ((n : Option Bytes) × ChangeIs n o (now b) change) × (to + length (now b) ≤ length (now out)) ⌝ }
     ensures { λ r. ⌜ ((n : Option Bytes) → ChangeIs n o (now (b .entry)) change → Wrote (Option·getD n (now (b .entry))) (now (out .entry)) to (now (out .exit)) r) ⌝ }
 {
     match change {
-        Change::Mpt {
+        BodyChange::Mpt {
             front,
             end,
             kept,
             size: _,
         } => mpt_to(b, front, end, kept, o, out, to),
-        Change::Plt { start, end, past } => plt_to(b, start, end, past, out, to),
-        Change::Same => copy(b, out, to),
+        BodyChange::Plt { start, end, past } => plt_to(b, start, end, past, out, to),
+        BodyChange::Same => copy(b, out, to),
     }
 }
 
