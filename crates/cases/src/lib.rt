@@ -158,15 +158,20 @@ fn one_narrowing(case_kind: u8, input: &mut [u8], out: &mut [u8]) -> bool {
     if 15 < head[0] {
         return false;
     }
-    let map_room = be32(&head, 5);
+    let out_length = be32(&head, 5);
     let len = be32(&head, 9);
-    if out.len() < map_room {
+    if out.len() < out_length {
         return false;
     }
     if input.len() < len {
         return false;
     }
-    answer_case(case_kind, &head, &mut input[0..len], &mut out[0..map_room])
+    answer_case(
+        case_kind,
+        &head,
+        &mut input[0..len],
+        &mut out[0..out_length],
+    )
 }
 
 fn in_rooms(case_kind: u8, input: &mut [u8; INPUT], out: &mut [u8; OUTPUT]) -> bool {

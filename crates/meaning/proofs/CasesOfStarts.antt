@@ -96,7 +96,7 @@ answers = record {
 }
 
 -- of a sound record, what the rules drop in the state that it and the rooms hold
-pub dropped-in-state : (r : Record) (work map-room : Bytes) (maps : List ℕ) → sound r (length work) (length map-room) (length maps) ≡ true
-    → droppedNow r work map-room maps ≡ dropped (r .options) (stateOf r work map-room maps .known)
+pub dropped-in-state : (r : Record) (work bodies : Bytes) (map-room : List ℕ) → sound r (length work) (length bodies) (length map-room) ≡ true
+    → droppedNow r work bodies map-room ≡ dropped (r .options) (stateOf r work bodies map-room .known)
 unfolding droppedNow soundRefusal
-dropped-in-state r work map-room maps e = ap (λ (b : Bool). cond (eqb (cond b 0 4) 0) (dropped (r .options) (stateOf r work map-room maps .known)) 0) e
+dropped-in-state r work bodies map-room e = ap (λ (b : Bool). cond (eqb (cond b 0 4) 0) (dropped (r .options) (stateOf r work bodies map-room .known)) 0) e

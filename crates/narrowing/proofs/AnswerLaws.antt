@@ -47,7 +47,7 @@ module _ (n out-length : ℕ) where
   unfolding narrowRefusal
   accepted h k = rw (le-leb n 65539 h, le-leb n out-length k)
 
-  -- what is not refused is short enough, and there is out-length
+  -- what is not refused is short enough, and there is room
   fits-in : (a b : Bool) → leb n 65539 ≡ a → leb n out-length ≡ b → _≡_ {A = ℕ} (cond a (cond b 0 6) 5) 0 → (n ≤ 65539) × (n ≤ out-length)
   fits-in true true ea eb q = (leb-true n 65539 ea, leb-true n out-length eb)
   fits-in true false ea eb q = absurd (omega (arith, q))

@@ -14,7 +14,7 @@ use borrow.Author.Tests.{not-true, not-false}
 use Rattle.meaning.specs.Bytes.{Bytes}
 use Rattle.meaning.specs.Lists.{keep, count}
 use Rattle.meaning.specs.Readers.{Out, bind, many, raw}
-use Rattle.meaning.specs.Tables.{Entry, entry, mptFront, Mpt, mpt, Table, table, isMpt}
+use Rattle.meaning.specs.Tables.{Entry, entry, mptFront, Mpt, mpt, Table, table, isMpt, kindNumber}
 use Rattle.meaning.specs.Wishes.{wanted}
 use Rattle.meaning.specs.Narrow.{isPart, byPart, stayed, went, partsFrom, tableParts, tablesParts, partsOfTable}
 use Rattle.meaning.specs.declared.Part.{Part}
@@ -31,7 +31,7 @@ use Rattle.tables.specs.declared.locations.Carrier.{Carrier}
 use Rattle.narrowing.specs.Tables.{Exact, tablesIn}
 use Rattle.tables.proofs.WalkLaws.{tableAt, part-table, walk-next, walk-stops}
 use Rattle.narrowing.proofs.ExactLaws.{bodyOf, exact-table}
-use Rattle.narrowing.specs.Answers.{Rows, zeros, kindNumber, rowNumber, bumped, countedIn, noRows, CountsBelow, partsRead}
+use Rattle.narrowing.specs.Answers.{Rows, zeros, rowNumber, bumped, countedIn, noRows, CountsBelow, partsRead}
 
 -- ---- what is counted
 
@@ -51,7 +51,7 @@ OnBoth o ps = (a b c d e f : ℕ) → countedIn o ((a ∷ b ∷ c ∷ []) ∷ (d
     ≡ onTop a b c (keep (wanted o) ps) ∷ onTop d e f (keep (λ part. not (wanted o part)) ps) ∷ []
 
 on-both : (o : Options) (ps : List Part) → OnBoth o ps
-unfolding countedIn keep count isPart
+unfolding countedIn keep count isPart kindNumber
 on-both o [] a b c d e f = simp add-zero
 on-both o (part ∷ ps) a b c d e f = go part (wanted o part) (on-both o ps)
   where

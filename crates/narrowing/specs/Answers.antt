@@ -11,13 +11,12 @@ use Rattle.meaning.specs.Bytes.{Bytes, be16At, put16}
 use Rattle.meaning.specs.Writing.{Wrote}
 use Rattle.meaning.specs.Readers.{Out}
 use Rattle.meaning.specs.Messages.{indicator, aggregated}
-use Rattle.meaning.specs.Tables.{Entry, paHead}
+use Rattle.meaning.specs.Tables.{Entry, paHead, kindNumber}
 use Rattle.meaning.specs.Wishes.{wanted}
 use Rattle.meaning.specs.Narrow.{Change, narrowPayload, paMessage, paBytes}
 use Rattle.meaning.specs.Refusals.{numberOf}
 use Rattle.meaning.specs.declared.Narrowing.{Narrowing}
 use Rattle.meaning.specs.declared.Part.{Part}
-use Rattle.meaning.specs.declared.Part.the-variants.{Caption, Carousel, Other}
 use Rattle.meaning.specs.declared.Options.{Options}
 use Rattle.tables.specs.declared.fields.End.{End}
 use Rattle.narrowing.specs.Tables.{tablesIn, tablesAfter, tablesChange, HeadEntries}
@@ -91,11 +90,6 @@ RewroteAs n d to d′ End.Nothing = (n ≡ none) × (d′ ≡ d)
 
 abbrev pub Rows : Type 0
 Rows = List (List ℕ)
-
-abbrev pub kindNumber : Part → ℕ
-kindNumber Caption = 0
-kindNumber Carousel = 1
-kindNumber Other = 2
 
 abbrev pub rowNumber : Options → Part → ℕ
 rowNumber o part = cond (wanted o part) 0 1

@@ -67,11 +67,11 @@ module _ (p : ℕ) (as′ : Listed) (k : Known) where
   list-same none e h = clash (cc)
   list-same (some n) e h =
       let b = and-both (eqb n (length as′)) (sameNumbers (take (2 * length as′) (drop (512 * at) (k .map-room))) (assetNumbers as′)) h in
-      let fragment-heads = put-is p (length as′) (k .map-heads) ∙ head-there p (length as′) (k .map-heads) (e ∙ ap some (eqb-true n (length as′) (b .0))) in
+      let heads-put = put-is p (length as′) (k .map-heads) ∙ head-there p (length as′) (k .map-heads) (e ∙ ap some (eqb-true n (length as′) (b .0))) in
       let numbers =
       over-same (k .map-room) (assetNumbers as′) (512 * at)
       (ap (λ (c : ℕ). take c (drop (512 * at) (k .map-room))) (numbers-length as′) ∙ same-true (take (2 * length as′) (drop (512 * at) (k .map-room))) (assetNumbers as′) (b .1)) in
-      known-same k refl refl fragment-heads numbers refl
+      known-same k refl refl heads-put numbers refl
 
   -- it is there, or it is lost
   list-still : listNew p as′ (k .map-heads) (k .map-room) ≡ false → cond (ltb at 64) (learnt (withList p as′ k at)) (record { known = k; lost = 1 }) .known ≡ k

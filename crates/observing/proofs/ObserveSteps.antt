@@ -119,11 +119,11 @@ keeps-fragments k fs e c p m o h =
     record { seen = h .seen; packages-kept = h .packages-kept; maps-kept = h .maps-kept; data-set-is = h .data-set-is; data-set-all = h .data-set-all; map-room-is = h .map-room-is; map-room-all = h .map-room-all }
 
 -- the part of a room is no longer than the room
-pub part-within : (lost : ℕ) (map-room : Bytes) (a e T most : ℕ) → length map-room ≡ T → lost + T ≤ most → lost + length (take (e - a) (drop a map-room)) ≤ most
-part-within lost map-room a e T most l h = omega (arith, length-take (e - a) (drop a map-room), length-drop a map-room)
+pub part-within : (lost : ℕ) (bodies : Bytes) (a e T most : ℕ) → length bodies ≡ T → lost + T ≤ most → lost + length (take (e - a) (drop a bodies)) ≤ most
+part-within lost bodies a e T most l h = omega (arith, length-take (e - a) (drop a bodies), length-drop a bodies)
 
-pub lost-within : (lost r : ℕ) (map-room : Bytes) (a e T : ℕ) → length map-room ≡ T → r ≤ lost + length (take (e - a) (drop a map-room)) → r ≤ lost + T
-lost-within lost r map-room a e T l h = omega (arith, length-take (e - a) (drop a map-room), length-drop a map-room)
+pub lost-within : (lost r : ℕ) (bodies : Bytes) (a e T : ℕ) → length bodies ≡ T → r ≤ lost + length (take (e - a) (drop a bodies)) → r ≤ lost + T
+lost-within lost r bodies a e T l h = omega (arith, length-take (e - a) (drop a bodies), length-drop a bodies)
 
 module _ (L : Limits) (q : ℕ) (b : Bytes) (k : Known) (e : Extent) where
   pub last-grew : (n start end flags : ℕ) (h₁ : List ℕ) (b₁ : Bytes) → GrewAt L q b (k .fragments) n start end flags h₁ b₁

@@ -191,13 +191,13 @@ module _ (L : Limits) (o : Options) (k : Known) (d : Bytes) (ps : List Bytes) (n
 -- ---- room for what comes next
 
 -- the observer may lose as many maps as the payload and the fragment room have bytes
-pub observer-fits : {p : Bytes} {body id : ℕ} {w : Bool} (lost map-room : ℕ) → Signals p body id w → lost + length p * 16777217 ≤ 18446744073709551615 → map-room ≤ 16777216
-    → lost + length (drop body p) + map-room ≤ 18446744073709551615
-observer-fits {p} {body} lost map-room h f few = omega (arith, f, few, length-drop body p, h .behind-head, h .inside)
+pub observer-fits : {p : Bytes} {body id : ℕ} {w : Bool} (lost T : ℕ) → Signals p body id w → lost + length p * 16777217 ≤ 18446744073709551615 → T ≤ 16777216
+    → lost + length (drop body p) + T ≤ 18446744073709551615
+observer-fits {p} {body} lost T h f few = omega (arith, f, few, length-drop body p, h .behind-head, h .inside)
 
-pub emitter-fits : {p : Bytes} {body id : ℕ} {w : Bool} (s : Progress) (map-room : ℕ) → Signals p body id w → Fits s (length p) map-room
-    → (s .counts .bytes + length p ≤ map-room) × (s .counts .accepted + 1 ≤ 18446744073709551615) × (s .counts .written + 1 ≤ 18446744073709551615) × (s .counts .rewritten + 1 ≤ 18446744073709551615)
-emitter-fits {p} s map-room h f =
+pub emitter-fits : {p : Bytes} {body id : ℕ} {w : Bool} (s : Progress) (out-length : ℕ) → Signals p body id w → Fits s (length p) out-length
+    → (s .counts .bytes + length p ≤ out-length) × (s .counts .accepted + 1 ≤ 18446744073709551615) × (s .counts .written + 1 ≤ 18446744073709551615) × (s .counts .rewritten + 1 ≤ 18446744073709551615)
+emitter-fits {p} s out-length h f =
     let some-bytes : 1 ≤ length p = omega (arith, h .behind-head, h .inside) in
     (f .bytes-fit, omega (arith, f .accepted-fit), omega (arith, f .written-fit), omega (arith, f .rewritten-fit))
 
@@ -222,10 +222,10 @@ never-longer : (o : Options) (p : Bytes) (y : Option Bytes) → narrowPacket o p
 never-longer o p none e = omega arith
 never-longer o p (some y) e = packet-shorter o p y e
 
-pub fits-after : (o : Options) {p : Bytes} {body id : ℕ} {w : Bool} → Signals p body id w → (s r : Progress) (set : Words) (d d′ : Bytes) (map-room : ℕ)
-    → Emitted (inSet set id) (narrowPacket o p) p (s .counts) d (r .counts) d′ → r .extent .lost ≤ s .extent .lost + length (drop body p) + map-room → map-room ≤ 16777216
+pub fits-after : (o : Options) {p : Bytes} {body id : ℕ} {w : Bool} → Signals p body id w → (s r : Progress) (set : Words) (d d′ : Bytes) (T : ℕ)
+    → Emitted (inSet set id) (narrowPacket o p) p (s .counts) d (r .counts) d′ → r .extent .lost ≤ s .extent .lost + length (drop body p) + T → T ≤ 16777216
     → length d′ ≡ length d → (m : ℕ) → Fits s (length p + m) (length d) → Fits r m (length d′)
-fits-after o {p} {body} {id} h s r set d d′ map-room x l few same m f =
+fits-after o {p} {body} {id} h s r set d d′ T x l few same m f =
     let z = emitted-within (inSet set id) (narrowPacket o p) p (s .counts) d (r .counts) d′ (never-longer o p (narrowPacket o p) refl) x in
     let long : 16 ≤ length p = omega (arith, h .behind-head, h .inside) in
     let part = length-drop body p in

@@ -87,7 +87,7 @@ module _ (t : Terms) (y : Machine) where
       (rw q (λ i. record { bytes = s .counts .bytes; accepted = s .counts .accepted + 1; written = w i; rewritten = u i; skipped = v i; lost = s .counts .lost }))
       (rw q (wrote-none (y .out) (s .counts .bytes)))
 
--- ---- places in a run
+-- ---- offsets in a run
 
 pub packet-length : (run : Bytes) (at end : ℕ) → at ≤ end → end ≤ length run → length (packetAt run at end) ≡ end - at
 packet-length run at end a b = length-take-le (end - at) (drop at run) (omega (arith, length-drop at run))

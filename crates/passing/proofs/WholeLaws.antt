@@ -87,8 +87,8 @@ module _ (L : Limits) (o : Options) (k : Known) (d : Bytes) where
         rw cut-same (record { holding = f .holding; counts-are = counts; written = subst (λ (n : ℕ). Wrote (flatten (x .out)) d 0 out n) b (f .written) })
 
 -- Room for a whole call: it begins with zero counts.
-pub begins-fit : (e : Extent) (is : Bool) (n map-room : ℕ) → e .lost ≡ 0 → n ≤ map-room → n ≤ 131078 → Fits (begun e is) n map-room
-begins-fit e is n map-room l h w = record {
+pub begins-fit : (e : Extent) (is : Bool) (n out-length : ℕ) → e .lost ≡ 0 → n ≤ out-length → n ≤ 131078 → Fits (begun e is) n out-length
+begins-fit e is n out-length l h w = record {
   bytes-fit = omega arith;
   accepted-fit = omega arith;
   written-fit = omega arith;

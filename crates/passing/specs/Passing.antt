@@ -47,8 +47,8 @@ Refreshed false o e was data-set packages map-heads map-room set r set′ = (r �
 
 -- There is room for what n more bytes may bring: each packet has a byte at least, and loses no more maps than it and the fragment room
 -- have bytes.
-pub record Fits (s : Progress) (n map-room : ℕ) : Type 0 where
-  pub bytes-fit : s .counts .bytes + n ≤ map-room
+pub record Fits (s : Progress) (n out-length : ℕ) : Type 0 where
+  pub bytes-fit : s .counts .bytes + n ≤ out-length
   pub accepted-fit : s .counts .accepted + n ≤ 18446744073709551615
   pub written-fit : s .counts .written + n ≤ 18446744073709551615
   pub rewritten-fit : s .counts .rewritten + n ≤ 18446744073709551615
@@ -114,7 +114,7 @@ AheadIs limit run at Ahead.Rest = stepOf limit (drop at run) ≡ Keep
 AheadIs limit run at (Ahead.Signalling here end s) =
     (here ≡ at) × PacketTo limit run here end × Signals (packetAt run here end) (s .body) (s .id) (s .rewritable)
 
--- From one place of a run to another: whatever was learned before stays, and whatever run it was has come further.
+-- From one offset of a run to another: whatever was learned before stays, and whatever run it was has come further.
 pub record Along (run : Bytes) (from : ℕ) (t : Terms) (s : Progress) (set : Words) (out : Bytes) (r : Progress) (at : ℕ) (out′ : Bytes) : Type 0 where
   pub packets : List Bytes
   pub skipped : ℕ

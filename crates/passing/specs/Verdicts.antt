@@ -69,7 +69,7 @@ StopIs limit ws ready run from at (Stop.Withhold end) = PacketTo limit run at en
 StopIs limit ws ready run from at (Stop.Signalling end s) =
     PacketTo limit run at end × Signals (packetAt run at end) (s .body) (s .id) (s .rewritable)
 
--- `count` packets that go out as they are, from one place to another.
+-- `count` packets that go out as they are, from one offset to another.
 pub record Rowing (limit : ℕ) (ws : Words) (ready : Bool) (run : Bytes) (from at count : ℕ) : Type 0 where
   pub packets : List Bytes
   pub forth : from ≤ at

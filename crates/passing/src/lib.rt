@@ -336,7 +336,7 @@ fn bytes_so_far(s: Progress) -> usize
 
 // ---- packets that teach nothing
 
-// What stands behind them: bytes to keep, or a signalling packet from one place to another.
+// What stands behind them: bytes to keep, or a signalling packet from one offset to another.
 pub enum Ahead {
     Rest,
     Signalling(usize, usize, Signal),

@@ -75,43 +75,43 @@ head-again : (h : ℕ) (body : Bytes) → length body ≡ fragmentLength h → f
 unfolding fragmentHead fragmentIdentifier fragmentFlags fragmentLength
 head-again h body e = omega arith
 
-bodies-in : (hs : List ℕ) (map-room : Bytes) → bodiesOf (fragmentsIn hs map-room) ≡ take (lens hs) map-room
+bodies-in : (hs : List ℕ) (bodies : Bytes) → bodiesOf (fragmentsIn hs bodies) ≡ take (lens hs) bodies
 unfolding fragmentsIn bodiesOf flatten lens sum
-bodies-in [] map-room = refl
-bodies-in (h ∷ hs) map-room =
-    ap (λ (s : Bytes). take (fragmentLength h) map-room ++ s) (bodies-in hs (drop (fragmentLength h) map-room)) ∙ sym (take-add (fragmentLength h) (lens hs) map-room)
+bodies-in [] bodies = refl
+bodies-in (h ∷ hs) bodies =
+    ap (λ (s : Bytes). take (fragmentLength h) bodies ++ s) (bodies-in hs (drop (fragmentLength h) bodies)) ∙ sym (take-add (fragmentLength h) (lens hs) bodies)
 
 -- The heads of the fragments that heads tell are these, and their bytes are so many.
-record Again (hs : List ℕ) (map-room : Bytes) : Type 0 where
-  pub fragment-heads-are : map fragmentHead (fragmentsIn hs map-room) ≡ hs
-  pub bytes-are : fragmentBytes (fragmentsIn hs map-room) ≡ lens hs
+record Again (hs : List ℕ) (bodies : Bytes) : Type 0 where
+  pub fragment-heads-are : map fragmentHead (fragmentsIn hs bodies) ≡ hs
+  pub bytes-are : fragmentBytes (fragmentsIn hs bodies) ≡ lens hs
 
-fragment-heads-again : (hs : List ℕ) (map-room : Bytes) → lens hs ≤ length map-room → Again hs map-room
+fragment-heads-again : (hs : List ℕ) (bodies : Bytes) → lens hs ≤ length bodies → Again hs bodies
 unfolding fragmentsIn fragmentBytes lens sum
-fragment-heads-again [] map-room w = record { fragment-heads-are = refl; bytes-are = refl }
-fragment-heads-again (h ∷ hs) map-room w =
+fragment-heads-again [] bodies w = record { fragment-heads-are = refl; bytes-are = refl }
+fragment-heads-again (h ∷ hs) bodies w =
     let n = fragmentLength h in
-    let d : length (drop n map-room) ≡ length map-room - n = length-drop n map-room in
-    let l : length (take n map-room) ≡ n = length-take-le n map-room (omega arith) in
-    let r = fragment-heads-again hs (drop n map-room) (omega arith) in
+    let d : length (drop n bodies) ≡ length bodies - n = length-drop n bodies in
+    let l : length (take n bodies) ≡ n = length-take-le n bodies (omega arith) in
+    let r = fragment-heads-again hs (drop n bodies) (omega arith) in
     record {
-      fragment-heads-are = ap₂ (λ (x : ℕ) (ys : List ℕ). x ∷ ys) (head-again h (take n map-room) l) (r .fragment-heads-are);
+      fragment-heads-are = ap₂ (λ (x : ℕ) (ys : List ℕ). x ∷ ys) (head-again h (take n bodies) l) (r .fragment-heads-are);
       bytes-are = ap₂ (λ (x y : ℕ). x + y) l (r .bytes-are);
     }
 
-pub fragments-kept : (T n : ℕ) (hs : List ℕ) (map-room : Bytes) → soundFragments T n hs ≡ true → length hs ≡ 256 → length map-room ≡ T → T ≤ 16777216
-    → HoldsFragments T (fragmentsIn (take n hs) map-room) → KeptFragments T (fragmentsIn (take n hs) map-room) n (cleared n hs) map-room
+pub fragments-kept : (T n : ℕ) (hs : List ℕ) (bodies : Bytes) → soundFragments T n hs ≡ true → length hs ≡ 256 → length bodies ≡ T → T ≤ 16777216
+    → HoldsFragments T (fragmentsIn (take n hs) bodies) → KeptFragments T (fragmentsIn (take n hs) bodies) n (cleared n hs) bodies
 unfolding soundFragments lens
-fragments-kept T n hs map-room e l t few h =
-    let fs = fragmentsIn (take n hs) map-room in
+fragments-kept T n hs bodies e l t few h =
+    let fs = fragmentsIn (take n hs) bodies in
     let apart = and-both (leb n 256 && distinct (map fragmentIdentifier (take n hs))) (leb (lens (take n hs)) T) e in
     let m : n ≤ 256 = leb-true n 256 (and-both (leb n 256) (distinct (map fragmentIdentifier (take n hs))) (apart .0) .0) in
     let w : lens (take n hs) ≤ T = leb-true (lens (take n hs)) T (apart .1) in
-    let g = fragment-heads-again (take n hs) map-room (omega arith) in
+    let g = fragment-heads-again (take n hs) bodies (omega arith) in
     record {
       count = sym (sym (length-map fs fragmentHead) ∙ ap length (g .fragment-heads-are) ∙ length-take-le n hs (omega arith));
       are = slots-kept 256 n hs l m (map fragmentHead fs) (g .fragment-heads-are);
-      front = ap (λ (k : ℕ). take k map-room) (g .bytes-are) ∙ sym (bodies-in (take n hs) map-room);
+      front = ap (λ (k : ℕ). take k bodies) (g .bytes-are) ∙ sym (bodies-in (take n hs) bodies);
       total = t;
       total-few = few;
       hold = h;
@@ -144,15 +144,15 @@ pub record Extends (r : Record) (e : Extent) : Type 0 where
   pub map-heads-are : e .«map_count» ≡ r .map-count
   pub fragments-are : e .«fragment_count» ≡ r .fragment-count
 
-pub state-held : (r : Record) (work bytes : Bytes) (map-room : List ℕ) (e : Extent) → sound r (length work) (length bytes) (length map-room) ≡ true → Whole r → Extends r e
-    → Holding (r .limits .total) (stateOf r work bytes map-room .known) e (r .data-set) (cleared (r .package-count) (r .packages)) (cleared (r .map-count) (r .map-heads)) map-room
-    (cleared (r .fragment-count) (r .fragment-heads)) bytes
+pub state-held : (r : Record) (work bodies : Bytes) (map-room : List ℕ) (e : Extent) → sound r (length work) (length bodies) (length map-room) ≡ true → Whole r → Extends r e
+    → Holding (r .limits .total) (stateOf r work bodies map-room .known) e (r .data-set) (cleared (r .package-count) (r .packages)) (cleared (r .map-count) (r .map-heads)) map-room
+    (cleared (r .fragment-count) (r .fragment-heads)) bodies
 unfolding stateOf
-state-held r work bytes map-room e s w n =
-    let p = record-parts r (length work) (length bytes) (length map-room) s in
-    let h = state-holds r work bytes map-room s .known-holds in
+state-held r work bodies map-room e s w n =
+    let p = record-parts r (length work) (length bodies) (length map-room) s in
+    let h = state-holds r work bodies map-room s .known-holds in
     let T = r .limits .total in
-    let t : length bytes ≡ T = sym (p .total-is) in
+    let t : length bodies ≡ T = sym (p .total-is) in
     let f = subst (λ (z : ℕ). soundFragments z (r .fragment-count) (r .fragment-heads) ≡ true) t (p .fragments-sound) in
     record {
       tables-kept = record {
@@ -166,8 +166,8 @@ state-held r work bytes map-room e s w n =
         map-room-is = refl;
         map-room-all = p .map-room-good;
       };
-      fragments-kept = subst (λ (m : ℕ). KeptFragments T (fragmentsIn (take (r .fragment-count) (r .fragment-heads)) bytes) m (cleared (r .fragment-count) (r .fragment-heads)) bytes) (sym (n .fragments-are))
-          (fragments-kept T (r .fragment-count) (r .fragment-heads) bytes f (w .fragments-all) t (omega (arith, p .total-few, p .total-is)) (h .fragments-hold));
+      fragments-kept = subst (λ (m : ℕ). KeptFragments T (fragmentsIn (take (r .fragment-count) (r .fragment-heads)) bodies) m (cleared (r .fragment-count) (r .fragment-heads)) bodies) (sym (n .fragments-are))
+          (fragments-kept T (r .fragment-count) (r .fragment-heads) bodies f (w .fragments-all) t (omega (arith, p .total-few, p .total-is)) (h .fragments-hold));
     }
 
 -- ---- the record of arrays that hold a state
@@ -192,8 +192,8 @@ recordWith L o held-count e data-set packages map-heads fragment-heads = record 
 by-front : (n : ℕ) (xs ys : List ℕ) → take n xs ≡ ys → xs ≡ ys ++ drop n xs
 by-front n xs ys e = sym (take-append-drop n xs) ∙ ap (λ (zs : List ℕ). zs ++ drop n xs) e
 
-module _ (L : Limits) (o : Options) (st : State) {e : Extent} {data-set packages map-heads map-room fragment-heads : List ℕ} {bytes : Bytes}
-    (k : Holding (L .total) (st .known) e data-set packages map-heads map-room fragment-heads bytes) where
+module _ (L : Limits) (o : Options) (st : State) {e : Extent} {data-set packages map-heads map-room fragment-heads : List ℕ} {bodies : Bytes}
+    (k : Holding (L .total) (st .known) e data-set packages map-heads map-room fragment-heads bodies) where
   pub record-back : (n : ℕ) → n ≡ length (st .held) → recordWith L o n e data-set packages map-heads fragment-heads ≡ recordOf L o st
   unfolding recordOf
   record-back n h =
@@ -214,13 +214,13 @@ module _ (L : Limits) (o : Options) (st : State) {e : Extent} {data-set packages
       }
 
   -- with a work room that begins with the held bytes, the record's state is this one
-  pub state-again : (work : Bytes) → HoldsState L o st → take (length (st .held)) work ≡ st .held → stateOf (recordOf L o st) work bytes map-room ≡ st
+  pub state-again : (work : Bytes) → HoldsState L o st → take (length (st .held)) work ≡ st .held → stateOf (recordOf L o st) work bodies map-room ≡ st
   state-again work h w =
       let fs = st .known .fragments in
       let n = length (st .held) in
       let m = fragmentBytes fs in
       let at-work : work ≡ st .held ++ drop n work = by-front n work (st .held) w in
-      let at-bytes : bytes ≡ bodiesOf fs ++ drop m bytes = by-front m bytes (bodiesOf fs) (k .fragments-kept .front) in
-      let same : stateOf (recordOf L o st) work bytes map-room ≡ stateOf (recordOf L o st) (st .held ++ drop n work) (bodiesOf fs ++ drop m bytes) (st .known .map-room) =
+      let at-bytes : bodies ≡ bodiesOf fs ++ drop m bodies = by-front m bodies (bodiesOf fs) (k .fragments-kept .front) in
+      let same : stateOf (recordOf L o st) work bodies map-room ≡ stateOf (recordOf L o st) (st .held ++ drop n work) (bodiesOf fs ++ drop m bodies) (st .known .map-room) =
       λ i. stateOf (recordOf L o st) (at-work i) (at-bytes i) (k .tables-kept .map-room-is i) in
-      same ∙ state-back L o st (k .fragments-kept .total-few) h (drop n work) (drop m bytes)
+      same ∙ state-back L o st (k .fragments-kept .total-few) h (drop n work) (drop m bodies)

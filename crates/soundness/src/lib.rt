@@ -56,10 +56,10 @@ pub fn good_fragment_room(total: usize, most: usize) -> bool
     most <= total
 }
 
-pub fn good_map_room(map_heads: usize) -> bool
-    ensures { λ r. ⌜ r ≡ goodMapRoom «map_heads» ⌝ }
+pub fn good_map_room(map_length: usize) -> bool
+    ensures { λ r. ⌜ r ≡ goodMapRoom «map_length» ⌝ }
 {
-    map_heads == 32768
+    map_length == 32768
 }
 
 // Whether the limits are the lengths of the lent rooms (work room `w`, fragment room `t`, map room `m`), and in range.
