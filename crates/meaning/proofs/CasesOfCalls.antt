@@ -96,9 +96,9 @@ pub record Pushes : Type 0 where
   -- W of 4,096 bytes makes a packet of 2,052 none
   pub above-limit : push (record { work = 4096; total = 1; most = 1 }) noCaptions start (0x7F ∷ 0xFF ∷ 0x08 ∷ 0x00 ∷ [])
       ≡ record { out = []; counts = counted 0 0 0 0 1; state = record { held = 0xFF ∷ 0x08 ∷ 0x00 ∷ []; known = start .known } }
-  -- in two pieces, with a refused one between them
+  -- in two pieces, with a refused one between them, which counts nothing
   pub in-pieces : series limits noCaptions start ((take 70 stream, 70) ∷ (stream, 9) ∷ (drop 70 stream, 65536) ∷ [])
-      ≡ record { out = plt ∷ narrowed ∷ video ∷ []; state = record { held = 0x7F ∷ []; known = after } }
+      ≡ record { out = plt ∷ narrowed ∷ video ∷ []; counts = counted 118 5 3 1 0; state = record { held = 0x7F ∷ []; known = after } }
 
 pub pushes : Pushes
 unfolding noWords inSet withId fresh pass push series

@@ -18,7 +18,7 @@ abbrev seven-and-eight : List Fragment
 seven-and-eight = piece 7 (1 ∷ 2 ∷ []) ∷ piece 8 (3 ∷ 4 ∷ 5 ∷ []) ∷ []
 
 -- T = 8, M = 4
-abbrev small : Limits
+abbrev pub small : Limits
 small = record { work = 65536; total = 8; most = 4 }
 
 abbrev pieces : ℕ → ℕ → List Fragment
@@ -77,22 +77,22 @@ piece-cases = record {
 
 -- ---- M in a PA message, whole and cut after its first bytes, on identifier 6 and then on others
 
-abbrev limits : Limits
+abbrev pub limits : Limits
 limits = record { work = 65536; total = 65536; most = 65536 }
 
-abbrev front : Bytes
+abbrev pub front : Bytes
 front = 0x00 ∷ 0x00 ∷ 0x07 ∷ 0x00 ∷ 0x00 ∷ 0x00 ∷ 0x30 ∷ 0x00 ∷ []
 
-abbrev beside : List Fragment → Known → Known
+abbrev pub beside : List Fragment → Known → Known
 beside fs k = record { plt-seen = k .plt-seen; packages = k .packages; map-heads = k .map-heads; map-room = k .map-room; data-set = k .data-set; fragments = fs }
 
-abbrev of-six : ℕ → Bytes → Fragment
+abbrev pub of-six : ℕ → Bytes → Fragment
 of-six flags b = record { identifier = 6; flags = flags; body = b }
 
 abbrev nothing : Known → Learnt
 nothing k = record { known = k; lost = 0 }
 
-abbrev packet : ℕ → Bytes → Bytes
+abbrev pub packet : ℕ → Bytes → Bytes
 packet payload-type s = 0x7F ∷ 0x03 ∷ 0x00 ∷ 0x00 ∷ 0x00 ∷ 0x00 ∷ 0x61 ∷ 0x00 ∷ payload-type ∷ 0x00 ∷ 0x06 ∷ 1 ∷ 2 ∷ 3 ∷ 4 ∷ 5 ∷ 6 ∷ 7 ∷ 8 ∷ s
 
 pub record Payloads : Type 0 where

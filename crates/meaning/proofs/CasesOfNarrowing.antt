@@ -8,7 +8,7 @@ use lib.ListN.{replicate, drop}
 use Rattle.meaning.specs.Bytes.{Bytes}
 use Rattle.meaning.specs.Tables.{Table}
 use Rattle.meaning.specs.Wishes.{wanted}
-use Rattle.meaning.specs.Narrow.{mptWithout, isService, lastOf, pltOnly, newBody, tableBytes, narrowTable, relength, paBytes, narrowPa, paMessage, payloadBytes, narrowPayload, narrowPacket, narrowedPacket, isPart, byPart, stayed, went, tableParts, changeTable, changePayload, changePacket}
+use Rattle.meaning.specs.Narrow.{mptWithout, isService, lastOf, pltOnly, newBody, tableBytes, narrowTable, relength, paBytes, narrowPa, paMessage, payloadBytes, narrowPayload, narrowPacket, narrowedPacket, isPart, byPart, stayed, went, tableParts, Change, changeTable, changePayload, changePacket, changeMade, changedBytes, noneOfEach, staysOf, goesOf}
 use Rattle.meaning.specs.declared.Part.the-variants.{Caption, Carousel, Other}
 use Rattle.meaning.specs.declared.Service.the-variants.{Every}
 use Rattle.meaning.specs.declared.Options.{Options}
@@ -17,23 +17,23 @@ use Rattle.meaning.proofs.CasesOfTables.{aapp}
 
 -- ---- bodies
 
-abbrev front : Bytes
+abbrev pub front : Bytes
 front = 0 ∷ 2 ∷ 4 ∷ 0 ∷ 0 ∷ 0 ∷ []
 
-abbrev more : Bytes
+abbrev pub more : Bytes
 more = 0xEE ∷ 0xEE ∷ []
 
-abbrev three : Bytes
+abbrev pub three : Bytes
 three = front ++ (3 ∷ E 0x11 hvc1 0xF1 0x00 ++ (E 0x22 stpp 0xF1 0x30 ++ (E 0x33 aapp 0xF1 0x40 ++ more)))
 
 -- service 0401 twice, the second time at a location of type 5; then 0402
-abbrev at0 : Bytes
+abbrev pub at0 : Bytes
 at0 = 2 ∷ 4 ∷ 1 ∷ 0 ∷ 0xF0 ∷ 0x01 ∷ []
 
-abbrev at5 : Bytes
+abbrev pub at5 : Bytes
 at5 = 2 ∷ 4 ∷ 1 ∷ 5 ∷ 1 ∷ 7 ∷ []
 
-abbrev packages : Bytes
+abbrev pub packages : Bytes
 packages = 3 ∷ at0 ++ (at5 ++ (2 ∷ 4 ∷ 2 ∷ 0 ∷ 0xF0 ∷ 0x02 ∷ more))
 
 abbrev all-on : Options
@@ -92,19 +92,19 @@ abbrev body : ℕ → ℕ → Bytes → Bytes
 body first second table1 = 2 ∷ 0x20 ∷ 0x05 ∷ 0x00 ∷ first ∷ 0x1F ∷ 0x06 ∷ 0x00 ∷ second ∷ table1 ++ (M₁ ++ unread)
 
 -- flag bits 1 to 5 and the counter are not asked; bytes after the message go
-abbrev payload : Bytes
+abbrev pub payload : Bytes
 payload = 0x3E ∷ 0x55 ∷ 0x00 ∷ 0x00 ∷ 0x07 ∷ 0x00 ∷ 0x00 ∷ 0x00 ∷ 0xB5 ∷ body 9 9 M ++ (0x99 ∷ [])
 
-abbrev narrowed : Bytes
+abbrev pub narrowed : Bytes
 narrowed = 0x3E ∷ 0x55 ∷ 0x00 ∷ 0x00 ∷ 0x07 ∷ 0x00 ∷ 0x00 ∷ 0x00 ∷ 0xA3 ∷ body 0x19 0x19 M₁
 
 -- of a packet's first four bytes only the type is read; the length follows
-abbrev packet : ℕ → ℕ → ℕ → Bytes → Bytes
+abbrev pub packet : ℕ → ℕ → ℕ → Bytes → Bytes
 packet length header payload-type s =
     0x7E ∷ 0x03 ∷ 0x00 ∷ length ∷ 0x00 ∷ 0x00 ∷ header ∷ 0x00 ∷ payload-type ∷ 0x00 ∷ 0x05 ∷ 1 ∷ 2 ∷ 3 ∷ 4 ∷ 5 ∷ 6 ∷ 7 ∷ 8 ∷ s
 
 -- the PLT of 01's example 7, or another table, alone in its message
-abbrev alone-in : ℕ → Bytes → Bytes
+abbrev pub alone-in : ℕ → Bytes → Bytes
 alone-in size t = 0x00 ∷ 0x00 ∷ 0x00 ∷ 0x00 ∷ 0x07 ∷ 0x00 ∷ 0x00 ∷ 0x00 ∷ size ∷ 0x00 ∷ t
 
 pub record Messages : Type 0 where
@@ -183,4 +183,26 @@ counted = record {
   in-packet = refl;
   on-five = refl;
   unchanged = (refl, refl);
+}
+
+-- ---- what is answered: refused or unchanged, nothing
+
+abbrev change : Change
+change = record { out = M₁; stays = 0 ∷ 0 ∷ 1 ∷ []; goes = 1 ∷ 0 ∷ 0 ∷ [] }
+
+pub record Made : Type 0 where
+  pub accepted : (changeMade 0 (some change) ≡ some change) × (changeMade 0 none ≡ none)
+  pub refused : (changeMade 5 (some change) ≡ none) × (changeMade 6 (some change) ≡ none)
+  pub changed : (changedBytes (some change) ≡ M₁) × (staysOf (some change) ≡ 0 ∷ 0 ∷ 1 ∷ []) × (goesOf (some change) ≡ 1 ∷ 0 ∷ 0 ∷ [])
+  pub of-each : noneOfEach ≡ byPart []
+  pub unchanged : (changedBytes none ≡ []) × (staysOf none ≡ 0 ∷ 0 ∷ 0 ∷ []) × (goesOf none ≡ 0 ∷ 0 ∷ 0 ∷ [])
+
+pub made : Made
+unfolding changeMade byPart
+made = record {
+  accepted = (refl, refl);
+  refused = (refl, refl);
+  changed = (refl, refl, refl);
+  of-each = refl;
+  unchanged = (refl, refl, refl);
 }

@@ -2,13 +2,12 @@
 use Prim.Native.Nat.{ℕ}
 use mathlib.Core.Path.{_≡_, refl}
 use mathlib.Core.Bool.{Bool, true, false}
-use mathlib.Core.List.{List, [], _∷_, _++_}
+use mathlib.Core.List.{[], _∷_, _++_, flatten}
 use mathlib.Core.Option.{none, some}
 use lib.ListN.{length, take, drop, replicate}
 use Rattle.meaning.specs.Bytes.{Bytes}
-use Rattle.meaning.specs.Record.{State}
-use Rattle.meaning.specs.Start.{fresh}
-use Rattle.meaning.specs.Programs.{optionsOf, inputRefused, chunk, programLimits, Sums, pushAll, digits, item, refusedLine, sumsLine, filterWrites, sumsWrites}
+use Rattle.meaning.specs.Series.{Series}
+use Rattle.meaning.specs.Programs.{optionsOf, inputRefused, inputOptions, chunk, programLimits, programLent, programCalls, digits, item, refusedLine, sumsLine, filterWrites, sumsWrites}
 use Rattle.meaning.specs.declared.Service.the-variants.{Every, Only}
 use Rattle.meaning.specs.declared.Options.{Options}
 use Rattle.meaning.specs.declared.Counts.{Counts}
@@ -29,10 +28,12 @@ pub record Input : Type 0 where
   pub above-bit-3 : (inputRefused (0x0F ∷ 0 ∷ 0 ∷ []) ≡ false) × (inputRefused (0x10 ∷ 0 ∷ 0 ∷ []) ≡ true)
   pub in-chunks : chunk (replicate 32769 7) ≡ some (replicate 32768 7, 7 ∷ [])
   pub last-chunk : (chunk (7 ∷ []) ≡ some (7 ∷ [], [])) × (chunk [] ≡ none)
+  pub asked : inputOptions (0x0E ∷ 4 ∷ 1 ∷ 9 ∷ []) ≡ record { service = Only 0x0401; caption = false; carousel = true; eit = true }
   pub limits : programLimits ≡ record { work = 65536; total = 65536; most = 65536 }
+  pub lent : programLent (7 ∷ []) ≡ (7 ∷ [], 65536)
 
 pub input : Input
-unfolding optionsOf inputRefused chunk programLimits
+unfolding optionsOf inputRefused inputOptions chunk programLimits
 input = record {
   bit0 = refl;
   bit1 = refl;
@@ -42,17 +43,15 @@ input = record {
   above-bit-3 = (refl, refl);
   in-chunks = refl;
   last-chunk = (refl, refl);
+  asked = refl;
   limits = refl;
+  lent = refl;
 }
 
 -- ---- text
 
-abbrev six : ℕ → ℕ → ℕ → ℕ → ℕ → Bytes → Sums
-six packets written rewritten skipped lost held = record {
-  out = [];
-  counts = record { bytes = 0; accepted = packets; written = written; rewritten = rewritten; skipped = skipped; lost = lost };
-  state = record { held = held; known = fresh [] .known };
-}
+abbrev six : ℕ → ℕ → ℕ → ℕ → ℕ → Counts
+six packets written rewritten skipped lost = record { bytes = 0; accepted = packets; written = written; rewritten = rewritten; skipped = skipped; lost = lost }
 
 -- `packets A written B rewritten C skipped D held E lost F` and a newline, each one digit
 abbrev line : ℕ → ℕ → ℕ → ℕ → ℕ → ℕ → Bytes
@@ -73,7 +72,7 @@ pub record Text : Type 0 where
       ≡ 0x31 ∷ 0x38 ∷ 0x34 ∷ 0x34 ∷ 0x36 ∷ 0x37 ∷ 0x34 ∷ 0x34 ∷ 0x30 ∷ 0x37 ∷ 0x33 ∷ 0x37 ∷ 0x30 ∷ 0x39 ∷ 0x35 ∷ 0x35 ∷ 0x31 ∷ 0x36 ∷ 0x31 ∷ 0x35 ∷ []
   pub a-word : item (0x61 ∷ []) 18446744073709551615 ≡ 0x61 ∷ 0x20 ∷ digits 20 18446744073709551615
   pub refusal : refusedLine 8 ≡ refused8
-  pub sums : sumsLine (six 1 2 3 4 6 (0 ∷ 0 ∷ 0 ∷ 0 ∷ 0 ∷ [])) ≡ line 0x31 0x32 0x33 0x34 0x35 0x36
+  pub sums : sumsLine (six 1 2 3 4 6) 5 ≡ line 0x31 0x32 0x33 0x34 0x35 0x36
 
 pub text : Text
 unfolding digits item refusedLine sumsLine
@@ -88,11 +87,11 @@ all-of-it = plt ++ (narrowed ++ video)
 abbrev two-lists : Bytes
 two-lists = signal 0x2A 0 0x12 (0x80 ∷ 1 ∷ 0 ∷ 0x0D ∷ 2 ∷ 2 ∷ 4 ∷ 1 ∷ 0 ∷ 0 ∷ 6 ∷ 2 ∷ 4 ∷ 2 ∷ 0 ∷ 0 ∷ 7 ∷ []) ++ narrowed
 
-abbrev in-two : Sums
-in-two = pushAll noCaptions (fresh (0 ∷ 0 ∷ 0 ∷ 0 ∷ [])) (take 70 stream ∷ drop 70 stream ∷ [])
+abbrev in-two : Series
+in-two = programCalls noCaptions (take 70 stream ∷ drop 70 stream ∷ [])
 
 pub record Written : Type 0 where
-  pub pieces : (in-two .out ≡ all-of-it) × (in-two .counts ≡ record { bytes = 118; accepted = 5; written = 3; rewritten = 1; skipped = 0; lost = 0 })
+  pub pieces : (flatten (in-two .out) ≡ all-of-it) × (in-two .counts ≡ record { bytes = 118; accepted = 5; written = 3; rewritten = 1; skipped = 0; lost = 0 })
   pub held-at-the-end : in-two .state .held ≡ 0x7F ∷ []
   pub no-captions : filterWrites (0x06 ∷ 0 ∷ 0 ∷ stream) ≡ all-of-it
   pub ours : filterWrites (0x0E ∷ 4 ∷ 1 ∷ stream) ≡ all-of-it
@@ -105,7 +104,7 @@ pub record Written : Type 0 where
   pub sums-refused : sumsWrites (0 ∷ 0 ∷ []) ≡ refused8
 
 pub written : Written
-unfolding pushAll fresh filterWrites sumsWrites
+unfolding programCalls flatten filterWrites sumsWrites
 written = record {
   pieces = (refl, refl);
   held-at-the-end = refl;

@@ -4,7 +4,7 @@ use mathlib.Core.Path.{_≡_, refl}
 use mathlib.Core.Bool.{Bool, true, false}
 use Rattle.meaning.specs.Narrow.{narrowRefusal}
 use Rattle.meaning.specs.Rooms.{packetLimit, goodWorkRoom, goodFragmentRoom, goodMapRoom}
-use Rattle.meaning.specs.Refusals.{numberOf, answerNumber, narrowingNumber, narrowingLength}
+use Rattle.meaning.specs.Refusals.{numberOf, answerNumber, narrowingNumber, narrowingChanged, narrowingLength}
 use Rattle.meaning.specs.Start.{startRefusal}
 use Rattle.meaning.specs.declared.Refusal.the-variants.{WorkRoom, FragmentRoom, MapRoom, Unsound, Long, Short, Tally, Input}
 use Rattle.meaning.specs.declared.Narrowing.{Narrowing}
@@ -16,16 +16,18 @@ pub record Numbers : Type 0 where
   pub others : (numberOf Tally ≡ 7) × (numberOf Input ≡ 8)
   pub answers : (answerNumber Done ≡ 0) × (answerNumber (Refused Tally) ≡ 7)
   pub narrowings : (narrowingNumber (Narrowing.Refused Long) ≡ 5) × (narrowingNumber Narrowing.Unchanged ≡ 0) × (narrowingNumber (Narrowing.Changed 9) ≡ 0)
+  pub changes : (narrowingChanged (Narrowing.Refused Long) ≡ false) × (narrowingChanged Narrowing.Unchanged ≡ false) × (narrowingChanged (Narrowing.Changed 9) ≡ true)
   pub lengths : (narrowingLength (Narrowing.Refused Long) ≡ 0) × (narrowingLength Narrowing.Unchanged ≡ 0) × (narrowingLength (Narrowing.Changed 9) ≡ 9)
 
 pub numbers : Numbers
-unfolding numberOf answerNumber narrowingNumber narrowingLength
+unfolding numberOf answerNumber narrowingNumber narrowingChanged narrowingLength
 numbers = record {
   starts = (refl, refl, refl);
   calls = (refl, refl, refl);
   others = (refl, refl);
   answers = (refl, refl);
   narrowings = (refl, refl, refl);
+  changes = (refl, refl, refl);
   lengths = (refl, refl, refl);
 }
 

@@ -4,7 +4,7 @@ use mathlib.Core.Path.{_≡_, refl}
 use mathlib.Core.Bool.{true, false}
 use mathlib.Core.List.{List, [], _∷_, Sublistᴰ·slnil, Sublistᴰ·cons, Sublistᴰ·cons-cons}
 use native.Mathlib.Omega.{arith}
-use lib.ListN.{length, drop}
+use lib.ListN.{length, drop, replicate, length-replicate}
 use Rattle.meaning.specs.Bytes.{Bytes}
 use Rattle.meaning.specs.Lists.{any, sum}
 use Rattle.meaning.specs.Learn.{Fragment, Known, fragmentBytes}
@@ -34,7 +34,7 @@ abbrev piece : Fragment
 piece = record { identifier = 7; flags = 255; body = 1 ∷ 2 ∷ [] }
 
 abbrev known : Known
-known = record { plt-seen = true; packages = (1, 65535) ∷ (2, 9) ∷ []; map-heads = (0x700, 9) ∷ (5, 255) ∷ []; map-room = []; data-set = []; fragments = piece ∷ [] }
+known = record { plt-seen = true; packages = (1, 65535) ∷ (2, 9) ∷ []; map-heads = (0x700, 9) ∷ (5, 255) ∷ []; map-room = replicate 32768 0; data-set = []; fragments = piece ∷ [] }
 
 pub held-at-limits : Holds 2 known
 unfolding rising distinct fragmentBytes
@@ -42,6 +42,7 @@ held-at-limits = record {
   packages-hold = record { few = omega arith; rise = refl; small = (omega arith, (omega arith, tt)) };
   maps-hold = record { few = omega arith; once = refl; small = (omega arith, (omega arith, tt)) };
   fragments-hold = record { few = omega arith; once = refl; flags = (omega arith, tt); within = omega arith };
+  map-room-all = length-replicate {A = ℕ} 32768 0;
 }
 
 -- ---- one more is too many

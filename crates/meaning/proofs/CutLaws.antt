@@ -53,7 +53,7 @@ drop-pos : (n : ℕ) (b : ℕ) (s : Bytes) → 0 < n → drop n (b ∷ s) ≡ dr
 drop-pos zero b s h = absurd (omega arith)
 drop-pos (suc n) b s h = rw sub-one
 
-step-nil : (P : ℕ) → stepOf P [] ≡ Keep
+pub step-nil : (P : ℕ) → stepOf P [] ≡ Keep
 unfolding stepOf
 step-nil P = refl
 

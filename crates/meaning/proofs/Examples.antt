@@ -1,12 +1,14 @@
 -- 01's starred examples, 1 to 12, together as one list; each holds by computing the definitions. And the sums example.
-use Prim.Native.Nat.{ℕ}
-use mathlib.Core.Path.{_≡_, refl}
+use Prim.Native.Nat.{ℕ, _≤_}
+use mathlib.Core.Path.{_≡_, refl, sym, subst}
+use mathlib.Core.Logic.{inl, inr}
 use mathlib.Core.Bool.{true, false}
-use mathlib.Core.List.{List, [], _∷_, _++_}
-use mathlib.Core.Option.{none, some}
-use lib.ListN.{replicate}
+use mathlib.Core.List.{List, [], _∷_, _++_, List·Memᴰ, List·Memᴰ·not-nil, List·Memᴰ·cases-cons}
+use mathlib.Core.Option.{Option, none, some}
+use native.Mathlib.Omega.{arith}
+use lib.ListN.{length, replicate}
 use Rattle.meaning.specs.Bytes.{Bytes}
-use Rattle.meaning.specs.Narrow.{changeTable}
+use Rattle.meaning.specs.Narrow.{Change, changeTable, noneOfEach}
 use Rattle.meaning.specs.Record.{State}
 use Rattle.meaning.specs.Start.{fresh}
 use Rattle.meaning.specs.Push.{push}
@@ -64,9 +66,6 @@ noCarousels = record { service = Every; caption = true; carousel = false; eit = 
 abbrev pub service : ℕ → Options
 service n = record { service = Only n; caption = true; carousel = true; eit = true }
 
-abbrev pub none-of-each : List ℕ
-none-of-each = 0 ∷ 0 ∷ 0 ∷ []
-
 abbrev limits : Limits
 limits = record { work = 131078; total = 65536; most = 65536 }
 
@@ -79,22 +78,45 @@ counts bytes packets skipped = record { bytes = bytes; accepted = packets; writt
 abbrev holding : Bytes → State
 holding s = record { held = s; known = start .known }
 
-abbrev packet12 : Bytes
+abbrev pub packet12 : Bytes
 packet12 = 0x7F ∷ 0xFF ∷ 0x00 ∷ 0x01 ∷ 0xAA ∷ []
 
 -- ---- the list
 
+-- A table, what is wanted, and what narrowing changes.
+pub record Example : Type 0 where
+  pub options : Options
+  pub table : Bytes
+  pub change : Option Change
+
+abbrev becomes : Bytes → List ℕ → List ℕ → Option Change
+becomes y stays goes = some (record { out = y; stays = stays; goes = goes })
+
+-- 1 to 10, in 01's order.
+abbrev pub starredTables : List Example
+starredTables =
+    record { options = noCaptions; table = M; change = becomes M₁ (0 ∷ 0 ∷ 1 ∷ []) (1 ∷ 0 ∷ 0 ∷ []) }
+    ∷ record { options = noCaptions; table = M₁; change = none }
+    ∷ record { options = noCarousels; table = M; change = none }
+    ∷ record { options = noCaptions; table = mWith 3 hvc1 stpp; change = none }
+    ∷ record { options = noCaptions; table = M₅; change = none }
+    ∷ record { options = noCaptions; table = mWith 2 stpp stpp; change = becomes M₆ noneOfEach (2 ∷ 0 ∷ 0 ∷ []) }
+    ∷ record { options = service 0x0401; table = pltWith 0x01; change = becomes (oneService 0x01) noneOfEach noneOfEach }
+    ∷ record { options = service 0x0401; table = oneService 0x01; change = becomes (oneService 0x01) noneOfEach noneOfEach }
+    ∷ record { options = service 0x0402; table = pltWith 0x01; change = none }
+    ∷ record { options = service 0x0400; table = pltWith 0x00; change = becomes (oneService 0x00) noneOfEach noneOfEach }
+    ∷ []
+
+-- The definition changes it so, and it is within the limit for narrowing.
+abbrev pub Computes : Example → Type 0
+Computes e = (changeTable (e .options) (e .table) ≡ e .change) × (length (e .table) ≤ 65539)
+
+abbrev AllCompute : List Example → Type 0
+AllCompute [] = Unit {0}
+AllCompute (e ∷ es) = Computes e × AllCompute es
+
 pub record Starred : Type 0 where
-  pub ex1 : changeTable noCaptions M ≡ some (record { out = M₁; stays = 0 ∷ 0 ∷ 1 ∷ []; goes = 1 ∷ 0 ∷ 0 ∷ [] })
-  pub ex2 : changeTable noCaptions M₁ ≡ none
-  pub ex3 : changeTable noCarousels M ≡ none
-  pub ex4 : changeTable noCaptions (mWith 3 hvc1 stpp) ≡ none
-  pub ex5 : changeTable noCaptions M₅ ≡ none
-  pub ex6 : changeTable noCaptions (mWith 2 stpp stpp) ≡ some (record { out = M₆; stays = none-of-each; goes = 2 ∷ 0 ∷ 0 ∷ [] })
-  pub ex7 : changeTable (service 0x0401) (pltWith 0x01) ≡ some (record { out = oneService 0x01; stays = none-of-each; goes = none-of-each })
-  pub ex8 : changeTable (service 0x0401) (oneService 0x01) ≡ some (record { out = oneService 0x01; stays = none-of-each; goes = none-of-each })
-  pub ex9 : changeTable (service 0x0402) (pltWith 0x01) ≡ none
-  pub ex10 : changeTable (service 0x0400) (pltWith 0x00) ≡ some (record { out = oneService 0x00; stays = none-of-each; goes = none-of-each })
+  pub tables : AllCompute starredTables
   pub ex11 : push limits noCaptions start (packet12 ++ (0x00 ∷ []))
       ≡ record { out = []; counts = counts 0 0 3; state = holding (0x01 ∷ 0xAA ∷ 0x00 ∷ []) }
   pub ex12 : push limits noCaptions start packet12 ≡ record { out = packet12 ∷ []; counts = counts 5 1 0; state = holding [] }
@@ -102,22 +124,20 @@ pub record Starred : Type 0 where
 
 pub starred : Starred
 unfolding changeTable push fresh
-starred =
-    record {
-      ex1 = refl;
-      ex2 = refl;
-      ex3 = refl;
-      ex4 = refl;
-      ex5 = refl;
-      ex6 = refl;
-      ex7 = refl;
-      ex8 = refl;
-      ex9 = refl;
-      ex10 = refl;
-      ex11 = refl;
-      ex12 = refl;
-      ex12-next = refl;
-    }
+starred = record {
+  tables = ((refl, omega arith), ((refl, omega arith), ((refl, omega arith), ((refl, omega arith), ((refl, omega arith), ((refl, omega arith), ((refl, omega arith), ((refl, omega arith), ((refl, omega arith), ((refl, omega arith), tt))))))))));
+  ex11 = refl;
+  ex12 = refl;
+  ex12-next = refl;
+}
+
+-- Each of the list.
+each-of : (es : List Example) → AllCompute es → (e : Example) → List·Memᴰ e es → Computes e
+each-of [] h e m = absurd (List·Memᴰ·not-nil m)
+each-of (x ∷ es) h e m = elim (List·Memᴰ·cases-cons m) [ inl q ↦ subst Computes (sym q) (h .0) | inr i ↦ each-of es (h .1) e i ]
+
+pub starred-each : (e : Example) → List·Memᴰ e starredTables → Computes e
+starred-each = each-of starredTables (starred .tables)
 
 -- 00 00 00 and example 11: `packets 0 written 0 rewritten 0 skipped 3 held 3 lost 0`
 pub sums-example : sumsWrites (0x00 ∷ 0x00 ∷ 0x00 ∷ packet12 ++ (0x00 ∷ []))

@@ -113,7 +113,7 @@ module _ (L : Limits) {o₁ o₂ : Options} (fewer : Fewer o₁ o₂) where
 
         go : (a : Bool) → Thinned (narrowedPacket o₁) (series L o₁ st cs .out) (series L o₂ st cs .out) × (series L o₁ st cs .state ≡ series L o₂ st cs .state)
             → Thinned (narrowedPacket o₁) (r₁ .out) (r₂ .out) × (r₁ .state ≡ r₂ .state)
-            → Thinned (narrowedPacket o₁) (cond a (seriesOn (push L o₁ st (c .0) .out) r₁) (series L o₁ st cs) .out) (cond a (seriesOn (push L o₂ st (c .0) .out) r₂) (series L o₂ st cs) .out)
-            × (cond a (seriesOn (push L o₁ st (c .0) .out) r₁) (series L o₁ st cs) .state ≡ cond a (seriesOn (push L o₂ st (c .0) .out) r₂) (series L o₂ st cs) .state)
+            → Thinned (narrowedPacket o₁) (cond a (seriesOn (push L o₁ st (c .0)) r₁) (series L o₁ st cs) .out) (cond a (seriesOn (push L o₂ st (c .0)) r₂) (series L o₂ st cs) .out)
+            × (cond a (seriesOn (push L o₁ st (c .0)) r₁) (series L o₁ st cs) .state ≡ cond a (seriesOn (push L o₂ st (c .0)) r₂) (series L o₂ st cs) .state)
         go true skipped done = (thinned-append (push-thinned st (c .0)) (done .0), done .1)
         go false skipped done = skipped

@@ -14,11 +14,15 @@ pub mod CasesOfFragments
 pub mod CasesOfRules
 pub mod CasesOfRefusals
 pub mod CasesOfRecords
+pub mod CasesOfUnsound
 pub mod CasesOfSound
 pub mod CasesOfCalls
 pub mod CasesOfStarts
 pub mod CasesOfPrograms
+pub mod CasesOfRecount
+pub mod CasesOfLost
 pub mod ListLaws
+pub mod AnswerLaws
 pub mod Local
 pub mod CutLaws
 pub mod Framed
@@ -31,4 +35,9 @@ pub mod LessIsLess
 pub mod SoundnessKept
 pub mod SoundnessLaws
 pub mod SpareLaws
+pub mod SeriesLaws
+pub mod ProgramLaws
 pub mod Statements
+pub mod SizeLaws
+pub mod RecountLaws
+pub mod LostLaws

@@ -23,10 +23,10 @@ use Rattle.meaning.proofs.Local.{table-local, raw-local, take-front}
 use Rattle.meaning.proofs.Framed.{before, Again, AllAgain, Framed, raw-framed, many-framed, many-again, Walked, walked, walk-again}
 use Rattle.meaning.proofs.TableLaws.{Narrows, withBody, table-again, table-split, narrowAt, table-narrows, body-narrows}
 
-abbrev Found : Type 0
+abbrev pub Found : Type 0
 Found = Table × Bytes
 
-abbrev Reads : List Found → Type 0
+abbrev pub Reads : List Found → Type 0
 Reads = AllAgain (raw table) (λ x. x .1)
 
 pub raw-nil : raw table [] ≡ none
@@ -45,7 +45,7 @@ table-of x g =
     ap table (sym (append-nil (x .1))) ∙ b .was ∙ ap₂ (λ (t : Table) (r : Bytes). some (t, r)) (ap (λ z. z .0 .0) q) (ap (λ z. z .1) q)
 
 -- as narrowing leaves it
-abbrev step : Options → ℕ → Found → Found
+abbrev pub step : Options → ℕ → Found → Found
 step o p x = (withBody (x .0) (Option·getD (newBody o p (x .0 .number) (x .0 .body)) (x .0 .body)), tableAfter o p x)
 
 -- it is its bytes narrowed
@@ -57,7 +57,7 @@ unfolding raw
 raw-of y t u e = rw (e, take-front y t)
 
 -- and it reads again
-step-again : {o₁ o₂ : Options} → Fewer o₁ o₂ → (p : ℕ) (x : Found) → Again (raw table) (λ x. x .1) x → Again (raw table) (λ x. x .1) (step o₂ p x)
+pub step-again : {o₁ o₂ : Options} → Fewer o₁ o₂ → (p : ℕ) (x : Found) → Again (raw table) (λ x. x .1) x → Again (raw table) (λ x. x .1) (step o₂ p x)
 unfolding newTable
 step-again {o₁} {o₂} fewer p x g t = go (newBody o₂ p (x .0 .number) (x .0 .body)) refl
   where
@@ -73,11 +73,11 @@ step-again {o₁} {o₂} fewer p x g t = go (newBody o₂ p (x .0 .number) (x .0
 -- ---- all tables of the walk
 
 module _ {o₁ o₂ : Options} (fewer : Fewer o₁ o₂) (p : ℕ) where
-  all-again : (xs : List Found) → Reads xs → Reads (map (step o₂ p) xs)
+  pub all-again : (xs : List Found) → Reads xs → Reads (map (step o₂ p) xs)
   all-again [] h = tt
   all-again (x ∷ xs) h = (step-again fewer p x (h .0), all-again xs (h .1))
 
-  step-bytes : (xs : List Found) → map (λ x. x .1) (map (step o₂ p) xs) ≡ map (tableAfter o₂ p) xs
+  pub step-bytes : (xs : List Found) → map (λ x. x .1) (map (step o₂ p) xs) ≡ map (tableAfter o₂ p) xs
   step-bytes [] = refl
   step-bytes (x ∷ xs) = ap (λ (l : List Bytes). tableAfter o₂ p x ∷ l) (step-bytes xs)
 
@@ -179,7 +179,7 @@ fours-again : (es : List Bytes) → Fours es → AllAgain (bytes 4) (λ x. x) es
 fours-again [] f = tt
 fours-again (e ∷ es) f = (four-again e (f .0), fours-again es (f .1))
 
-map-same : (es : List Bytes) → map (λ x. x) es ≡ es
+pub map-same : (es : List Bytes) → map (λ x. x) es ≡ es
 map-same [] = refl
 map-same (e ∷ es) = ap (λ (l : List Bytes). e ∷ l) (map-same es)
 
@@ -197,7 +197,7 @@ pub record HeadSplit (s : Bytes) (h : PaHead) (r : Bytes) : Type 0 where
   pub fours : Fours (h .entries)
   pub number : length (h .entries) ≡ h .count % 256
 
-bytes-framed : (n : ℕ) → Framed (bytes n) (λ x. x)
+pub bytes-framed : (n : ℕ) → Framed (bytes n) (λ x. x)
 unfolding bytes
 bytes-framed n s a r e = go (leb n (length s)) refl e
   where
@@ -213,7 +213,7 @@ bytes-framed n s a r e = go (leb n (length s)) refl e
         )
 
 -- as many as were asked for
-taken : (n : ℕ) (s a r : Bytes) → bytes n s ≡ some (a, r) → length a ≡ n
+pub taken : (n : ℕ) (s a r : Bytes) → bytes n s ≡ some (a, r) → length a ≡ n
 unfolding bytes
 taken n s a r e = go (leb n (length s)) refl e
   where
@@ -259,26 +259,26 @@ body-again h xs left f l g n =
 module _ {o₁ o₂ : Options} (fewer : Fewer o₁ o₂) (p : ℕ) where
   -- the parts of a body that more wishes change
   module _ (s : Bytes) (h : PaHead) (r : Bytes) (e : paHead s ≡ some (h, r)) where
-    abbrev xs : List Found
+    abbrev pub xs : List Found
     xs = walk (raw table) r .found
 
-    abbrev left : Bytes
+    abbrev pub left : Bytes
     left = walk (raw table) r .left
 
-    abbrev ts₁ : List Bytes
+    abbrev pub ts₁ : List Bytes
     ts₁ = map (tableAfter o₁ p) xs
 
-    abbrev ts₂ : List Bytes
+    abbrev pub ts₂ : List Bytes
     ts₂ = map (tableAfter o₂ p) xs
 
-    abbrev h₂ : PaHead
+    abbrev pub h₂ : PaHead
     h₂ = record { count = h .count; entries = relength (h .entries) ts₂ }
 
     same-long : length ts₂ ≡ length ts₁
     same-long = length-map xs (tableAfter o₂ p) ∙ sym (length-map xs (tableAfter o₁ p))
 
     -- what more wishes leave reads as the narrowed tables
-    reads-again : pa (paBytes h ts₂ left) ≡ some (h₂, record { found = map (step o₂ p) xs; left = left })
+    pub reads-again : pa (paBytes h ts₂ left) ≡ some (h₂, record { found = map (step o₂ p) xs; left = left })
     unfolding paBytes
     reads-again =
         let sp = head-split s h r e in
@@ -306,7 +306,7 @@ module _ {o₁ o₂ : Options} (fewer : Fewer o₁ o₂) (p : ℕ) where
         go false ea =
             ap (λ (z : List Bytes). paBytes h z left) (sym (step-bytes fewer p xs) ∙ sym (none-changed o₁ p (map (step o₂ p) xs) ea) ∙ same)
 
-    long : length (paBytes h ts₂ left) ≤ length s
+    pub long : length (paBytes h ts₂ left) ≤ length s
     unfolding paBytes
     long =
         let sp = head-split s h r e in

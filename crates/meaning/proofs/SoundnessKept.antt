@@ -1,12 +1,12 @@
 -- What a sound state holds to, and that learning keeps it: services rise, no map or fragment identifier comes twice, counts and lengths
 -- stay within their limits. No packet breaks it. Rests on specs/Learn.
-use Prim.Native.Nat.{ℕ, zero, suc, _+_, _-_, _%_, _≤_, _<_}
+use Prim.Native.Nat.{ℕ, zero, suc, _+_, _*_, _-_, _%_, _≤_, _<_}
 use mathlib.Core.Path.{_≡_, refl, sym, ap, _∙_, subst}
 use mathlib.Core.Bool.{Bool, true, false, cond, not, _&&_, _||_}
 use mathlib.Core.List.{List, [], _∷_, _++_}
 use mathlib.Core.Option.{Option, none, some, Option·none-ne-some, Option·some-injective}
 use native.Mathlib.Omega.{arith}
-use lib.ListN.{length, take, drop, length-append}
+use lib.ListN.{length, take, drop, length-append, length-take, length-drop}
 use lib.Arith.{lt-of-le-ne}
 use lib.Dec.{leb, ltb, eqb}
 use borrow.Author.Tests.{ltb-true, ltb-false, leb-true, eqb-true, eqb-false, lt-ltb, ne-eqb}
@@ -17,7 +17,7 @@ use Rattle.meaning.specs.Readers.{_>>=_, Out, Reader, give, byte, u8, u1
 use Rattle.meaning.specs.Mmtp.{Mmtp, mmtpOf, isSignalling}
 use Rattle.meaning.specs.Messages.{Message, messages, indicator}
 use Rattle.meaning.specs.Tables.{elsewhere, locationBody, location, Entry, Mpt, mpt, Package, packageFields, packageEntry, plt, serviceOf, Table, isMpt, isPlt, pa}
-use Rattle.meaning.specs.Learn.{Fragment, Known, learnt, placeFor, listAsset, listed, withList, mptFrom, learnMpt, insertPackage, addPackage, packagesIn, pltFrom, learnPlt, learnTable, learnTables, paTables, withData, learnMessage, learnMessages, withFragments, isOf, without, fragmentBytes, fragmentOf, grown, growIn, holdFirst, fits, middleOf, middle, joined, lastFor, last, byIndicator, observe, learnFrom, learn}
+use Rattle.meaning.specs.Learn.{Fragment, Known, Listed, assetNumbers, over, learnt, placeFor, listAsset, listed, withList, mptFrom, learnMpt, insertPackage, addPackage, packagesIn, pltFrom, learnPlt, learnTable, learnTables, paTables, withData, learnMessage, learnMessages, withFragments, isOf, without, fragmentBytes, fragmentOf, grown, growIn, holdFirst, fits, middleOf, middle, joined, lastFor, last, byIndicator, observe, learnFrom, learn}
 use Rattle.meaning.specs.Soundness.{rising, distinct, firsts, identifiers, SecondsBelow, SmallFlags, HoldsPackages, HoldsMaps, HoldsFragments, Holds}
 use Rattle.meaning.specs.declared.Limits.{Limits}
 use Rattle.meaning.proofs.ListLaws.{and-both, and-true, or-neither, keep-length}
@@ -171,7 +171,7 @@ put-is p n (m ∷ ms) = go (eqb (m .0) p) (put-is p n ms)
     go true ih = refl
     go false ih = ap (λ (l : List (ℕ × ℕ)). m ∷ l) ih
 
-put-length : (N p n : ℕ) (ms : List (ℕ × ℕ)) → length ms ≤ N → placeFor p ms < N → length (putHead p n ms) ≤ N
+pub put-length : (N p n : ℕ) (ms : List (ℕ × ℕ)) → length ms ≤ N → placeFor p ms < N → length (putHead p n ms) ≤ N
 unfolding placeFor putHead
 put-length N p n [] l h = omega arith
 put-length zero p n (m ∷ ms) l h = absurd (omega arith)
@@ -235,12 +235,26 @@ maps-hold-after p es ms l h m =
       small = put-below 256 p n ms (omega (arith, list-length es)) (m .small);
     })
 
+numbers-length : (as′ : Listed) → length (assetNumbers as′) ≡ 2 * length as′
+unfolding assetNumbers
+numbers-length [] = refl
+numbers-length ((p, part) ∷ as′) = omega (arith, numbers-length as′)
+
+-- a list at a place of the map room leaves it as long as it is
+list-within : (map-room : List ℕ) (i : ℕ) (as′ : Listed) → i < 64 → length as′ < 256 → length map-room ≡ 32768 → length (over map-room (512 * i) (assetNumbers as′)) ≡ 32768
+unfolding over
+list-within map-room i as′ h l m =
+    let at = 512 * i in
+    let n = length (assetNumbers as′) in
+    omega (arith, h, l, m, numbers-length as′, length-append (take at map-room) (assetNumbers as′ ++ drop (at + n) map-room), length-append (assetNumbers as′) (drop (at + n) map-room), length-take at map-room, length-drop (at + n) map-room)
+
 pub list-holds : (T p : ℕ) (es : List Entry) (k : Known) → length es < 256 → placeFor p (k .map-heads) < 64 → Holds T k → Holds T (withList p (listed es) k (placeFor p (k .map-heads)))
 unfolding withList
 list-holds T p es k l h s = record {
   packages-hold = s .packages-hold;
   maps-hold = maps-hold-after p es (k .map-heads) l h (s .maps-hold);
   fragments-hold = s .fragments-hold;
+  map-room-all = list-within (k .map-room) (placeFor p (k .map-heads)) (listed es) h (omega (arith, list-length es)) (s .map-room-all);
 }
 
 mpt-holds : (T p : ℕ) (b : Bytes) (x : Out Mpt) → mpt b ≡ x → (k : Known) → Holds T k → Holds T (mptFrom p x k .known)
@@ -257,7 +271,7 @@ mpt-holds T p b (some (m, more)) e k s = go (ltb (placeFor p (k .map-heads)) 64)
 pub packages-holds : (T : ℕ) (b : Bytes) (x : Out (List Package)) → plt b ≡ x → (k : Known) → Holds T k → Holds T (pltFrom x k)
 packages-holds T b none e k s = s
 packages-holds T b (some (xs, more)) e k s =
-    record { packages-hold = plt-holds b xs more e; maps-hold = s .maps-hold; fragments-hold = s .fragments-hold }
+    record { packages-hold = plt-holds b xs more e; maps-hold = s .maps-hold; fragments-hold = s .fragments-hold; map-room-all = s .map-room-all }
 
 table-holds : (T p : ℕ) (t : Table) (k : Known) → Holds T k → Holds T (learnTable p t k .known)
 unfolding learnTable learnPlt learnMpt
@@ -279,7 +293,8 @@ message-holds T p m k s = go (eqb (m .number) 0) (eqb (m .number) 0x8003)
   where
     go : (a b : Bool) → Holds T (cond a (learnTables p (paTables (pa (m .body))) k) (cond b (learnt (withData p k)) (learnt k)) .known)
     go true b = tables-hold T p (paTables (pa (m .body))) k s
-    go false true = record { packages-hold = s .packages-hold; maps-hold = s .maps-hold; fragments-hold = s .fragments-hold }
+    go false true =
+        record { packages-hold = s .packages-hold; maps-hold = s .maps-hold; fragments-hold = s .fragments-hold; map-room-all = s .map-room-all }
     go false false = s
 
 messages-hold : (T p : ℕ) (ms : List Message) (k : Known) → Holds T k → Holds T (learnMessages p ms k .known)
@@ -470,7 +485,7 @@ middle-holds L p b fs (some f) s = go (fits L f b fs) refl
 -- ---- a payload, a packet
 
 abbrev pub with-fragments : {T : ℕ} {k : Known} {fs : List Fragment} → Holds T k → HoldsFragments T fs → Holds T (withFragments fs k)
-with-fragments s f = record { packages-hold = s .packages-hold; maps-hold = s .maps-hold; fragments-hold = f }
+with-fragments s f = record { packages-hold = s .packages-hold; maps-hold = s .maps-hold; fragments-hold = f; map-room-all = s .map-room-all }
 
 last-holds : (L : Limits) (p : ℕ) (b : Bytes) (k : Known) (o : Option Fragment) → Holds (L .total) k → Holds (L .total) (lastFor o L p b k .known)
 last-holds L p b k none s = s

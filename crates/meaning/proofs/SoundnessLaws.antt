@@ -19,7 +19,7 @@ use Rattle.meaning.specs.Rooms.{packetLimit, goodWorkRoom, goodFragmentR
 use Rattle.meaning.specs.Learn.{Fragment, Known, learn, fragmentBytes}
 use Rattle.meaning.specs.Record.{State, slots, Record, packPair, pairOf, fragmentHead, fragmentIdentifier, fragmentFlags, fragmentLength, recordOf, fragmentsIn, stateOf, bodiesOf}
 use Rattle.meaning.specs.Soundness.{rising, distinct, soundRooms, soundHeld, soundPackages, soundMaps, soundFragments, sound, firsts, identifiers, SecondsBelow, SmallFlags, HoldsPackages, HoldsMaps, HoldsFragments, Holds}
-use Rattle.meaning.specs.Start.{fresh}
+use Rattle.meaning.specs.Start.{fresh, blank}
 use Rattle.meaning.specs.Push.{withheld, passOne, pass, filtered, push, pushRefusal}
 use Rattle.meaning.specs.Series.{Lent, callRefusal, series, seriesOn}
 use Rattle.meaning.specs.declared.Limits.{Limits}
@@ -36,17 +36,27 @@ pub record HoldsState (L : Limits) (o : Options) (st : State) : Type 0 where
 
 -- ---- a start
 
-pub fresh-holds : (L : Limits) (o : Options) (map-room : List ℕ) → 0 < packetLimit (L .work) → HoldsState L o (fresh map-room)
+pub fresh-holds : (L : Limits) (o : Options) (map-room : List ℕ) → 0 < packetLimit (L .work) → length map-room ≡ 32768 → HoldsState L o (fresh map-room)
 unfolding fresh rising distinct fragmentBytes sum
-fresh-holds L o map-room h = record {
+fresh-holds L o map-room h m = record {
   held-few = h;
   held-none = λ e. refl;
   known-holds = record {
     packages-hold = record { few = omega arith; rise = refl; small = tt };
     maps-hold = record { few = omega arith; once = refl; small = tt };
     fragments-hold = record { few = omega arith; once = refl; flags = tt; within = omega arith };
+    map-room-all = m;
   };
 }
+
+-- What a refused start hands back is unsound, whatever the rooms.
+pub blank-unsound : (W T n : ℕ) → sound blank W T n ≡ false
+unfolding sound blank soundHeld packetLimit
+blank-unsound W T n = go (soundRooms (blank .limits) W T n)
+  where
+    go : (a : Bool) → (a && false && soundPackages 0 (blank .packages) && soundMaps 0 (blank .map-heads) && soundFragments T 0 (blank .fragment-heads)) ≡ false
+    go true = refl
+    go false = refl
 
 -- ---- a call, and a series of calls
 
@@ -81,7 +91,7 @@ series-holds L o st (c ∷ cs) four h =
     go (eqb (callRefusal L st c) 0) (series-holds L o (push L o st (c .0) .state) cs four (push-holds L o st (c .0) four h)) (series-holds L o st cs four h)
   where
     go : (a : Bool) → HoldsState L o (series L o (push L o st (c .0) .state) cs .state) → HoldsState L o (series L o st cs .state)
-        → HoldsState L o (cond a (seriesOn (push L o st (c .0) .out) (series L o (push L o st (c .0) .state) cs)) (series L o st cs) .state)
+        → HoldsState L o (cond a (seriesOn (push L o st (c .0)) (series L o (push L o st (c .0) .state) cs)) (series L o st cs) .state)
     go true x y = x
     go false x y = y
 
@@ -291,7 +301,7 @@ held-from L o n work e =
 
 pub state-holds : (r : Record) (work bodies : Bytes) (map-room : List ℕ) → sound r (length work) (length bodies) (length map-room) ≡ true
     → HoldsState (r .limits) (r .options) (stateOf r work bodies map-room)
-unfolding sound stateOf soundRooms
+unfolding sound stateOf soundRooms goodMapRoom
 state-holds r work bodies map-room e =
     let W = length work in
     let T = length bodies in
@@ -306,17 +316,18 @@ state-holds r work bodies map-room e =
       known-holds = record {
         packages-hold = packages-from (r .package-count) (r .packages) (h₂ .1);
         maps-hold = maps-from (r .map-count) (r .map-heads) (h₃ .1);
-        fragments-hold = subst (λ (t : ℕ). HoldsFragments t (fragmentsIn (take (r .fragment-count) (r .fragment-heads)) bodies)) (sym (total-is (h₁ .0)))
+        fragments-hold = subst (λ (t : ℕ). HoldsFragments t (fragmentsIn (take (r .fragment-count) (r .fragment-heads)) bodies)) (sym (rooms-are (h₁ .0) .0))
             (fragments-from (r .fragment-count) (r .fragment-heads) T bodies (h₄ .1));
+        map-room-all = rooms-are (h₁ .0) .1;
       };
     }
   where
-    total-is : soundRooms (r .limits) (length work) (length bodies) (length map-room) ≡ true → r .limits .total ≡ length bodies
-    total-is q =
+    rooms-are : soundRooms (r .limits) (length work) (length bodies) (length map-room) ≡ true → (r .limits .total ≡ length bodies) × (length map-room ≡ 32768)
+    rooms-are q =
         let a = and-both (eqb (r .limits .work) (length work) && eqb (r .limits .total) (length bodies) && goodMapRoom (length map-room) && goodWorkRoom (length work)) (goodFragmentRoom (length bodies) (r .limits .most)) q in
         let b = and-both (eqb (r .limits .work) (length work) && eqb (r .limits .total) (length bodies) && goodMapRoom (length map-room)) (goodWorkRoom (length work)) (a .0) in
         let c = and-both (eqb (r .limits .work) (length work) && eqb (r .limits .total) (length bodies)) (goodMapRoom (length map-room)) (b .0) in
-        eqb-true (r .limits .total) (length bodies) (and-both (eqb (r .limits .work) (length work)) (eqb (r .limits .total) (length bodies)) (c .0) .1)
+        (eqb-true (r .limits .total) (length bodies) (and-both (eqb (r .limits .work) (length work)) (eqb (r .limits .total) (length bodies)) (c .0) .1), eqb-true (length map-room) 32768 (c .1))
 
 -- ---- the record of a state, with rooms that begin with its bytes, holds that state
 

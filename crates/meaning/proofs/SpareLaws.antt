@@ -61,7 +61,7 @@ assets-front (suc n) (p ∷ k ∷ xs) ys h = ap (λ (l : Listed). (p, kindOf k) 
 
 -- ---- a list put into its place changes that list and no other
 
-unfoldable putList : ℕ → Listed → List (ℕ × Listed) → List (ℕ × Listed)
+unfoldable pub putList : ℕ → Listed → List (ℕ × Listed) → List (ℕ × Listed)
 putList p as′ [] = (p, as′) ∷ []
 putList p as′ (l ∷ ls) = cond (eqb (l .0) p) ((p, as′) ∷ ls) (l ∷ putList p as′ ls)
 
@@ -88,7 +88,7 @@ front-list : (as′ : Listed) (map-room : List ℕ) → assetsIn (length as′) 
 unfolding over
 front-list as′ map-room = assets-back as′ (drop (0 + length (assetNumbers as′)) map-room)
 
-lists-put : (N p : ℕ) (as′ : Listed) (ms : List (ℕ × ℕ)) (map-room : List ℕ) → SecondsBelow 256 ms → length as′ < 256 → placeFor p ms < N → length map-room ≡ 512 * N
+pub lists-put : (N p : ℕ) (as′ : Listed) (ms : List (ℕ × ℕ)) (map-room : List ℕ) → SecondsBelow 256 ms → length as′ < 256 → placeFor p ms < N → length map-room ≡ 512 * N
     → listsIn (putHead p (length as′) ms) (over map-room (512 * placeFor p ms) (assetNumbers as′)) ≡ putList p as′ (listsIn ms map-room)
 unfolding listsIn putHead putList placeFor
 lists-put N p as′ [] map-room b l h r =
@@ -237,7 +237,7 @@ message-alike T p m k map-room s = go (eqb (m .number) 0) (eqb (m .number) 0x800
     go false true = record {
       map-room-after = map-room;
       spare = record {
-        holds = record { packages-hold = s .holds .packages-hold; maps-hold = s .holds .maps-hold; fragments-hold = s .holds .fragments-hold };
+        holds = record { packages-hold = s .holds .packages-hold; maps-hold = s .holds .maps-hold; fragments-hold = s .holds .fragments-hold; map-room-all = s .holds .map-room-all };
         own-length = s .own-length;
         other-length = s .other-length;
         lists-same = s .lists-same;

@@ -72,6 +72,7 @@ pub record MptSplit (b : Bytes) (m : Mpt) (more : Bytes) : Type 0 where
   pub number : ℕ
   pub whole : b ≡ m .front ++ number ∷ (flatten (map (λ e. e .bytes-of) (m .entries)) ++ more)
   pub entries-again : AllAgain entry (λ e. e .bytes-of) (m .entries)
+  pub counted : length (m .entries) ≡ number % 256
   pub few : length (m .entries) < 256
   pub read : (es : List Entry) (t : Bytes) → AllAgain entry (λ e. e .bytes-of) es → length es < 256
       → mpt (mptBody (m .front) es t) ≡ some (record { front = m .front; entries = es }, t)
@@ -92,6 +93,7 @@ mpt-split b m more e =
       number = num .0;
       whole = front .0 ∙ ap (λ (z : Bytes). f .1 ++ z) (num .1 ∙ ap (λ (z : Bytes). num .0 ∷ z) (ents .whole));
       entries-again = ents .again;
+      counted = ents .length-of ∙ num .2;
       few = omega (arith, ents .length-of, num .2);
       read = λ es t h l. read-again f (front .1) es t h l;
     })
@@ -100,7 +102,9 @@ mpt-split b m more e =
         → mpt (mptBody (f .1) es t) ≡ some (record { front = f .1; entries = es }, t)
     read-again f g es t h l =
         let k : length es % 256 ≡ length es = omega arith in
-        rw (g (length es ∷ (flatten (map (λ e. e .bytes-of) es) ++ t)), k, many-again entry (λ e. e .bytes-of) es t h)
+        let front : raw mptFront (mptBody (f .1) es t) ≡ some (f, length es ∷ (flatten (map (λ e. e .bytes-of) es) ++ t)) =
+        g (length es ∷ (flatten (map (λ e. e .bytes-of) es) ++ t)) in
+        rw (front, k, many-again entry (λ e. e .bytes-of) es t h)
 
 -- ---- an MPT narrowed
 
@@ -194,18 +198,19 @@ unfolding packageEntry
 package-framed = made-framed _ (λ p. p .bytes-of) (λ a. refl) (raw-framed packageFields-local)
 
 -- a PLT's body in its parts
-record PltSplit (b : Bytes) (ps : List Package) (more : Bytes) : Type 0 where
-  number : ℕ
-  whole : b ≡ number ∷ (flatten (map (λ p. p .bytes-of) ps) ++ more)
-  again : AllAgain packageEntry (λ p. p .bytes-of) ps
+pub record PltSplit (b : Bytes) (ps : List Package) (more : Bytes) : Type 0 where
+  pub number : ℕ
+  pub whole : b ≡ number ∷ (flatten (map (λ p. p .bytes-of) ps) ++ more)
+  pub counted : length ps ≡ number % 256
+  pub again : AllAgain packageEntry (λ p. p .bytes-of) ps
 
-plt-split : (b : Bytes) (ps : List Package) (more : Bytes) → plt b ≡ some (ps, more) → PltSplit b ps more
+pub plt-split : (b : Bytes) (ps : List Package) (more : Bytes) → plt b ≡ some (ps, more) → PltSplit b ps more
 unfolding plt
 plt-split b ps more e =
     let b₁ = before (u8 b) (λ n. many n packageEntry) ps more e in
     let num = u8-split b (b₁ .first) (b₁ .rest) (b₁ .was) in
     let m = many-framed packageEntry (λ p. p .bytes-of) package-framed (b₁ .first) (b₁ .rest) ps more (b₁ .then-was) in
-    record { number = num .0; whole = num .1 ∙ ap (λ (z : Bytes). num .0 ∷ z) (m .whole); again = m .again }
+    record { number = num .0; whole = num .1 ∙ ap (λ (z : Bytes). num .0 ∷ z) (m .whole); counted = m .length-of ∙ num .2; again = m .again }
 
 -- the entry that stays is one of the service's, reads again, and is no longer than all
 record Stays (s : ℕ) (e : Bytes) (most : ℕ) : Type 0 where
@@ -313,12 +318,17 @@ u16-below (a ∷ b ∷ s) n r e = subst (λ (m : ℕ). m < 65536) (ap (λ z. z .
 abbrev pub withBody : Table → Bytes → Table
 withBody t b = record { number = t .number; version = t .version; body = b }
 
+-- number, version, length and body in order
+table-bytes : (t : Table) (b r : Bytes) → tableBytes t b ++ r ≡ t .number ∷ t .version ∷ length b / 256 % 256 ∷ length b % 256 ∷ (b ++ r)
+unfolding tableBytes put16
+table-bytes t b r = refl
+
 pub table-again : (t : Table) (b r : Bytes) → length b < 65536 → table (tableBytes t b ++ r) ≡ some (withBody t b, r)
-unfolding table tableBytes put16 byte counted16 u16 bytes
+unfolding table byte counted16 u16 bytes
 table-again t b r h =
     let l : length b ≤ length (b ++ r) = omega (arith, length-append b r) in
     let e : length b % 65536 ≡ length b = omega arith in
-    rw (be16-put (length b), e, le-leb _ _ l, take-at b r (length b) refl, drop-at b r (length b) refl)
+    rw (table-bytes t b r, be16-put (length b), e, le-leb _ _ l, take-at b r (length b) refl, drop-at b r (length b) refl)
 
 pub record TableSplit (y : Bytes) (t : Table) (r : Bytes) : Type 0 where
   pub few : length (t .body) < 65536

@@ -20,7 +20,8 @@ pub mod Calls
 pub mod Start
 pub mod Push
 pub mod Dropped
-pub mod Series
 pub mod Tally
+pub mod Series
 pub mod Programs
 pub mod Less
+pub mod Recount

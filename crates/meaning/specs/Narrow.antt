@@ -247,3 +247,25 @@ changePacket o p = Option·map (changeOf o (partsOfPacket (mmtpOf p))) (narrowPa
 
 unfoldable pub narrowRefusal : ℕ → ℕ → ℕ
 narrowRefusal n out-length = cond (leb n 65539) (cond (leb n out-length) 0 6) 5
+
+-- ---- what is answered, by the refusal's number and by what the definition changes: refused or unchanged, nothing
+
+-- The change that is made.
+unfoldable pub changeMade : ℕ → Option Change → Option Change
+changeMade number c = cond (eqb number 0) c none
+
+abbrev pub changedBytes : Option Change → Bytes
+changedBytes none = []
+changedBytes (some c) = c .out
+
+-- No caption, no carousel, no other.
+abbrev pub noneOfEach : List ℕ
+noneOfEach = 0 ∷ 0 ∷ 0 ∷ []
+
+abbrev pub staysOf : Option Change → List ℕ
+staysOf none = noneOfEach
+staysOf (some c) = c .stays
+
+abbrev pub goesOf : Option Change → List ℕ
+goesOf none = noneOfEach
+goesOf (some c) = c .goes

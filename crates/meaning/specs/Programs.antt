@@ -1,17 +1,14 @@
 -- What the two programs write for what they read: 01, the paragraph after the examples.
-use Prim.Native.Nat.{ℕ, _+_, _/_, _%_, zero, suc}
+use Prim.Native.Nat.{ℕ, _+_, _/_, _%_, zero, suc, _≤_}
 use mathlib.Core.Bool.{Bool, cond, true, _||_}
-use mathlib.Core.List.{List, [], _∷_, _++_, flatten}
+use mathlib.Core.List.{List, [], _∷_, _++_, map, flatten}
 use mathlib.Core.Option.{none, some}
-use lib.ListN.{length, take, drop, replicate}
+use lib.ListN.{length, take, drop, getD, replicate}
 use lib.Dec.{eqb, ltb}
 use Rattle.meaning.specs.Bytes.{Bytes, be16At}
 use Rattle.meaning.specs.Readers.{Reader, walk}
-use Rattle.meaning.specs.Record.{State}
-use Rattle.meaning.specs.Calls.{countsOf}
 use Rattle.meaning.specs.Start.{fresh}
-use Rattle.meaning.specs.Push.{push}
-use Rattle.meaning.specs.Tally.{addCounts}
+use Rattle.meaning.specs.Series.{Lent, Series, series}
 use Rattle.meaning.specs.declared.Service.{Service}
 use Rattle.meaning.specs.declared.Service.the-variants.{Every, Only}
 use Rattle.meaning.specs.declared.Options.{Options}
@@ -40,6 +37,10 @@ unfoldable pub inputRefused : Bytes → Bool
 inputRefused [] = true
 inputRefused (flags ∷ s) = ltb (length s) 2 || ltb 15 flags
 
+unfoldable pub inputOptions : Bytes → Options
+unfolding optionsOf be16At
+inputOptions s = optionsOf (getD s 0 0) (be16At s 1)
+
 -- Chunks of 32,768 bytes; the end of the input ends the last one.
 unfoldable pub chunk : Reader Bytes
 chunk [] = none
@@ -48,27 +49,26 @@ chunk (b ∷ s) = some (take 32768 (b ∷ s), drop 32768 (b ∷ s))
 unfoldable pub programLimits : Limits
 programLimits = record { work = 65536; total = 65536; most = 65536 }
 
--- ---- all chunks in turn: what is written, the sums, and the state at the end
+-- ---- all chunks in turn
 
-pub record Sums : Type 0 where
-  pub out : Bytes
-  pub counts : Counts
-  pub state : State
+-- A chunk, lent with an output of 65,536 bytes.
+abbrev pub programLent : Bytes → Lent
+programLent c = (c, 65536)
 
-unfoldable pub pushAll : Options → State → List Bytes → Sums
-unfolding push programLimits flatten
-pushAll o st [] = record { out = []; counts = countsOf 0; state = st }
-pushAll o st (c ∷ cs) =
-    let p = push programLimits o st c in
-    let r = pushAll o (p .state) cs in
-    record { out = flatten (p .out) ++ r .out; counts = addCounts (p .counts) (r .counts); state = r .state }
+-- The calls of a program: a start with a map room of zeros, then chunk after chunk.
+unfoldable pub programCalls : Options → List Bytes → Series
+unfolding series programLimits fresh
+programCalls o cs = series programLimits o (fresh (replicate 32768 0)) (map programLent cs)
 
-unfoldable pub sumsOf : Bytes → Sums
-unfolding pushAll optionsOf be16At walk chunk fresh
--- never written: such an input is refused
-sumsOf [] = pushAll (optionsOf 0 0) (fresh []) []
-sumsOf (flags ∷ s) =
-    pushAll (optionsOf flags (be16At s 0)) (fresh (replicate 32768 0)) (walk chunk (drop 2 s) .found)
+-- What a program can read: each chunk has 1 to 32,768 bytes.
+abbrev pub Chunks : List Bytes → Type 0
+Chunks [] = Unit {0}
+Chunks (c ∷ cs) = (1 ≤ length c) × (length c ≤ 32768) × Chunks cs
+
+-- The stream begins behind the service. What this says of an input that is refused is never written.
+unfoldable pub sumsOf : Bytes → Series
+unfolding programCalls inputOptions walk chunk
+sumsOf s = programCalls (inputOptions s) (walk chunk (drop 3 s) .found)
 
 -- ---- text
 
@@ -87,24 +87,25 @@ unfoldable pub refusedLine : ℕ → Bytes
 unfolding item
 refusedLine n = item (0x72 ∷ 0x65 ∷ 0x66 ∷ 0x75 ∷ 0x73 ∷ 0x65 ∷ 0x64 ∷ []) n ++ (0x0A ∷ [])
 
--- `packets 0 written 0 rewritten 0 skipped 3 held 3 lost 0` and a newline.
-unfoldable pub sumsLine : Sums → Bytes
+-- `packets 0 written 0 rewritten 0 skipped 3 held 3 lost 0` and a newline: the counts, and how many bytes are held.
+unfoldable pub sumsLine : Counts → ℕ → Bytes
 unfolding item
-sumsLine r =
-    item (0x70 ∷ 0x61 ∷ 0x63 ∷ 0x6B ∷ 0x65 ∷ 0x74 ∷ 0x73 ∷ []) (r .counts .accepted)
-    ++ (0x20 ∷ item (0x77 ∷ 0x72 ∷ 0x69 ∷ 0x74 ∷ 0x74 ∷ 0x65 ∷ 0x6E ∷ []) (r .counts .written))
-    ++ (0x20 ∷ item (0x72 ∷ 0x65 ∷ 0x77 ∷ 0x72 ∷ 0x69 ∷ 0x74 ∷ 0x74 ∷ 0x65 ∷ 0x6E ∷ []) (r .counts .rewritten))
-    ++ (0x20 ∷ item (0x73 ∷ 0x6B ∷ 0x69 ∷ 0x70 ∷ 0x70 ∷ 0x65 ∷ 0x64 ∷ []) (r .counts .skipped))
-    ++ (0x20 ∷ item (0x68 ∷ 0x65 ∷ 0x6C ∷ 0x64 ∷ []) (length (r .state .held)))
-    ++ (0x20 ∷ item (0x6C ∷ 0x6F ∷ 0x73 ∷ 0x74 ∷ []) (r .counts .lost))
+sumsLine c held-count =
+    item (0x70 ∷ 0x61 ∷ 0x63 ∷ 0x6B ∷ 0x65 ∷ 0x74 ∷ 0x73 ∷ []) (c .accepted)
+    ++ (0x20 ∷ item (0x77 ∷ 0x72 ∷ 0x69 ∷ 0x74 ∷ 0x74 ∷ 0x65 ∷ 0x6E ∷ []) (c .written))
+    ++ (0x20 ∷ item (0x72 ∷ 0x65 ∷ 0x77 ∷ 0x72 ∷ 0x69 ∷ 0x74 ∷ 0x74 ∷ 0x65 ∷ 0x6E ∷ []) (c .rewritten))
+    ++ (0x20 ∷ item (0x73 ∷ 0x6B ∷ 0x69 ∷ 0x70 ∷ 0x70 ∷ 0x65 ∷ 0x64 ∷ []) (c .skipped))
+    ++ (0x20 ∷ item (0x68 ∷ 0x65 ∷ 0x6C ∷ 0x64 ∷ []) held-count)
+    ++ (0x20 ∷ item (0x6C ∷ 0x6F ∷ 0x73 ∷ 0x74 ∷ []) (c .lost))
     ++ (0x0A ∷ [])
 
 -- ---- the programs
 
+-- The filtered stream; bytes held at the end are not written.
 unfoldable pub filterWrites : Bytes → Bytes
-unfolding inputRefused refusedLine sumsOf
-filterWrites s = cond (inputRefused s) (refusedLine 8) (sumsOf s .out)
+unfolding inputRefused refusedLine sumsOf flatten
+filterWrites s = cond (inputRefused s) (refusedLine 8) (flatten (sumsOf s .out))
 
 unfoldable pub sumsWrites : Bytes → Bytes
 unfolding inputRefused refusedLine sumsLine sumsOf
-sumsWrites s = cond (inputRefused s) (refusedLine 8) (sumsLine (sumsOf s))
+sumsWrites s = cond (inputRefused s) (refusedLine 8) (sumsLine (sumsOf s .counts) (length (sumsOf s .state .held)))

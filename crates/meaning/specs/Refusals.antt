@@ -1,5 +1,6 @@
 -- Refusal numbers: 01, "Refusal numbers". The lowest that applies is given, 0 for none.
 use Prim.Native.Nat.{ℕ}
+use mathlib.Core.Bool.{Bool, true, false}
 use Rattle.meaning.specs.declared.Refusal.{Refusal}
 use Rattle.meaning.specs.declared.Refusal.the-variants.{WorkRoom, FragmentRoom, MapRoom, Unsound, Long, Short, Tally, Input}
 use Rattle.meaning.specs.declared.Narrowing.{Narrowing}
@@ -22,12 +23,17 @@ unfolding numberOf
 answerNumber Done = 0
 answerNumber (Refused r) = numberOf r
 
--- What narrowing answers: the refusal's number, and the length of what was written, 0 where nothing was.
+-- What narrowing answers: the refusal's number, whether anything is changed, and the length of what was written, 0 where nothing was.
 unfoldable pub narrowingNumber : Narrowing → ℕ
 unfolding numberOf
 narrowingNumber (Narrowing.Refused r) = numberOf r
 narrowingNumber Narrowing.Unchanged = 0
 narrowingNumber (Narrowing.Changed n) = 0
+
+unfoldable pub narrowingChanged : Narrowing → Bool
+narrowingChanged (Narrowing.Refused r) = false
+narrowingChanged Narrowing.Unchanged = false
+narrowingChanged (Narrowing.Changed n) = true
 
 unfoldable pub narrowingLength : Narrowing → ℕ
 narrowingLength (Narrowing.Refused r) = 0

@@ -1,5 +1,5 @@
 -- A series of calls from a start that was not refused: each takes the state that the one before handed back; a refused one writes
--- nothing and changes nothing. The records in between are sound (proofs/SoundnessLaws), so that only 5 and 6 can come
+-- nothing, counts nothing and changes nothing. The records in between are sound (proofs/SoundnessLaws), so that only 5 and 6 can come.
 use Prim.Native.Nat.{ℕ}
 use mathlib.Core.Bool.{cond}
 use mathlib.Core.List.{List, [], _∷_, _++_}
@@ -7,9 +7,12 @@ use lib.ListN.{length}
 use lib.Dec.{eqb}
 use Rattle.meaning.specs.Bytes.{Bytes}
 use Rattle.meaning.specs.Record.{State}
-use Rattle.meaning.specs.Push.{push, lengthRefusal}
+use Rattle.meaning.specs.Calls.{countsOf}
+use Rattle.meaning.specs.Push.{Outcome, push, lengthRefusal}
+use Rattle.meaning.specs.Tally.{addCounts}
 use Rattle.meaning.specs.declared.Options.{Options}
 use Rattle.meaning.specs.declared.Limits.{Limits}
+use Rattle.meaning.specs.declared.Counts.{Counts}
 
 -- A chunk, and the length of the output lent with it.
 abbrev pub Lent : Type 0
@@ -21,14 +24,16 @@ callRefusal L st c = lengthRefusal (L .work) (length (st .held)) (length (c .0))
 
 pub record Series : Type 0 where
   pub out : List Bytes
+  -- the sums over the calls that were not refused
+  pub counts : Counts
   pub state : State
 
-abbrev pub seriesOn : List Bytes → Series → Series
-seriesOn out r = record { out = out ++ r .out; state = r .state }
+abbrev pub seriesOn : Outcome → Series → Series
+seriesOn p r = record { out = p .out ++ r .out; counts = addCounts (p .counts) (r .counts); state = r .state }
 
 unfoldable pub series : Limits → Options → State → List Lent → Series
 unfolding callRefusal push
-series L o st [] = record { out = []; state = st }
+series L o st [] = record { out = []; counts = countsOf 0; state = st }
 series L o st (c ∷ cs) =
     let p = push L o st (c .0) in
-    cond (eqb (callRefusal L st c) 0) (seriesOn (p .out) (series L o (p .state) cs)) (series L o st cs)
+    cond (eqb (callRefusal L st c) 0) (seriesOn p (series L o (p .state) cs)) (series L o st cs)

@@ -66,7 +66,8 @@ unfoldable pub soundRefusal : Record → ℕ → ℕ → ℕ → ℕ
 unfolding sound
 soundRefusal r W T map-length = cond (sound r W T map-length) 0 4
 
--- ---- in parts, of what is known: services rise, no map or fragment identifier comes twice, counts and lengths stay within their limits
+-- ---- in parts, of what is known: services rise, no map or fragment identifier comes twice, counts and lengths stay within their limits, the
+-- map room has all its numbers
 
 -- The first of each pair: services of packages, identifiers of maps.
 abbrev pub firsts : List (ℕ × ℕ) → List ℕ
@@ -104,3 +105,4 @@ pub record Holds (T : ℕ) (k : Known) : Type 0 where
   pub packages-hold : HoldsPackages (k .packages)
   pub maps-hold : HoldsMaps (k .map-heads)
   pub fragments-hold : HoldsFragments T (k .fragments)
+  pub map-room-all : length (k .map-room) ≡ 32768
