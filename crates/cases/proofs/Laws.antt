@@ -3,11 +3,9 @@ use Prim.Native.Nat.{ℕ, _≤_}
 use mathlib.Core.Path.{_≡_, refl}
 use mathlib.Core.List.{List}
 use mathlib.Core.Option.{Option}
-use native.Mathlib.Omega.{arith}
 use lib.ListN.{length, getD}
 use borrow.Author.Tests.{eq-eqb, ne-eqb}
 use Rattle.meaning.specs.Bytes.{Bytes, be16At, put16, put32}
-use Rattle.meaning.specs.Writing.{Wrote}
 use Rattle.meaning.specs.Narrow.{Change, changeTable, changePayload, changePacket}
 use Rattle.meaning.specs.Refusals.{narrowingLength}
 use Rattle.meaning.specs.Programs.{optionsOf}
@@ -43,7 +41,4 @@ module _ (case-kind : ℕ) (head input : Bytes) (o : Options) (s : ℕ) (i : s �
   case-packet n m = rw (e, i, ne-eqb case-kind 1 n, ne-eqb case-kind 2 m)
 
 pub told-within : (x : ℕ) (n : Option Change) (d d′ : Bytes) (r : Narrowing) (s w : List ℕ) → NarrowedAs x n d d′ r s w → narrowingLength r ≤ length d′
-unfolding narrowingLength
-told-within x n d d′ (Narrowing.Refused r) s w h = omega arith
-told-within x n d d′ Narrowing.Unchanged s w h = omega arith
-told-within x n d d′ (Narrowing.Changed k) s w h = let u : Wrote (h .1 .0 .out) d 0 d′ k = h .1 .2 in wrote-within u
+told-within x n d d′ r s w h = wrote-within (h .written)

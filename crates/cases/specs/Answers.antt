@@ -7,14 +7,13 @@ use lib.Dec.{eqb}
 use lib.ListN.{getD}
 use Rattle.meaning.specs.Bytes.{Bytes, be16At, put32}
 use Rattle.meaning.specs.Narrow.{Change, changeTable, changePayload, changePacket}
-use Rattle.meaning.specs.Refusals.{narrowingNumber, narrowingLength}
+use Rattle.meaning.specs.Refusals.{narrowingNumber, narrowingChanged, narrowingLength}
 use Rattle.meaning.specs.Programs.{optionsOf}
 use Rattle.meaning.specs.declared.Narrowing.{Narrowing}
 
 unfoldable pub changedFlag : Narrowing → ℕ
-changedFlag (Narrowing.Refused r) = 0
-changedFlag Narrowing.Unchanged = 0
-changedFlag (Narrowing.Changed n) = 1
+unfolding narrowingChanged
+changedFlag n = cond (narrowingChanged n) 1 0
 
 unfoldable pub threeBytes : ℕ → ℕ → ℕ → Bytes
 threeBytes a b c = put32 a ++ (put32 b ++ put32 c)

@@ -1,32 +1,35 @@
--- What the three narrowings answer at each of their returns: refused, unchanged, or changed with the counts. Rests on CountLaws,
--- TableLaws and PayloadLaws.
+-- What the three narrowings answer at each of their returns: refused, unchanged, or changed with the counts; and that what they promise
+-- is one answer. Rests on CountLaws, TableLaws and PayloadLaws.
 use Prim.Native.Nat.{ℕ, _+_, _-_, _*_, _≤_, _<_}
 use mathlib.Core.Path.{_≡_, refl, sym, ap, ap₂, _∙_}
 use mathlib.Core.Bool.{Bool, true, false, cond, _&&_}
 use mathlib.Core.List.{List, []}
 use mathlib.Core.Option.{Option, none, some, Option·map, Option·getD}
 use native.Mathlib.Omega.{arith}
-use lib.ListN.{length, take, drop, getD, length-take, length-drop}
-use lib.Seq.{take-length}
+use lib.ListN.{length, take, drop, getD, length-take}
 use lib.Dec.{leb, eqb}
-use borrow.Author.Tests.{leb-true, le-leb, lt-leb, eq-eqb, ne-eqb}
+use borrow.Author.Tests.{leb-true, le-leb, lt-leb, ne-eqb}
 use Rattle.meaning.specs.Bytes.{Bytes}
 use Rattle.meaning.specs.Writing.{Wrote}
 use Rattle.meaning.specs.Mmtp.{Mmtp, mmtpOf}
 use Rattle.meaning.specs.Tables.{table, pa}
-use Rattle.meaning.specs.Narrow.{changeOf, newBody, newTable, narrowTable, partsOfTable, changeTable, tablesParts, paMessage, partsOfMessage, payloadBytes, narrowPayload, changePayload, packetBytes, packetFor, narrowPacket, partsOfPacket, changePacket, narrowRefusal}
+use Rattle.meaning.specs.Narrow.{changeOf, newBody, newTable, narrowTable, partsOfTable, changeTable, tablesParts, paMessage, partsOfMessage, payloadBytes, narrowPayload, changePayload, packetFor, narrowPacket, partsOfPacket, changePacket, narrowRefusal, changeMade, noneOfEach}
 use Rattle.meaning.specs.Narrow as meant
+use Rattle.meaning.specs.Refusals.{narrowingNumber, narrowingChanged, narrowingLength}
 use Rattle.meaning.specs.declared.Narrowing.{Narrowing}
 use Rattle.meaning.specs.declared.Part.{Part}
 use Rattle.meaning.specs.declared.Options.{Options}
 use Rattle.meaning.proofs.ListLaws.{clash}
+use Rattle.meaning.proofs.Writes.{wrote-none, wrote-one}
+use Rattle.meaning.proofs.AnswerLaws.{narrowing-told, none-made, all-made}
 use Rattle.tables.specs.Answers.{TableIs}
 use Rattle.tables.specs.declared.pa.Table as code
-use Rattle.tlv.specs.Answers.{MmtpIs}
+use Rattle.tlv.specs.Answers.{Behind, PartIs, MmtpIs}
 use Rattle.tlv.specs.declared.Mmtp as read
 use Rattle.narrowing.specs.Tables.{ChangeIs, isChange, tablesIn, tablesChange, afterTable}
-use Rattle.narrowing.specs.Answers.{zeros, NarrowedAs, RefusedAs, isRefused, PaFound, bodyAfter, packetWith, Rows, noRows, countedIn, CountsBelow}
+use Rattle.narrowing.specs.Answers.{NarrowedAs, RefusedAs, isRefused, PaFound, bodyAfter, signalOf, Rows, noRows, countedIn, CountsBelow}
 use Rattle.narrowing.specs.declared.table.BodyChange.{BodyChange}
+use Rattle.tlv.proofs.Laws.{behind-short}
 use Rattle.tables.proofs.WalkLaws.{tableAt, part-table}
 use Rattle.narrowing.proofs.CountLaws.{counted-rows, below-more, tally-start}
 use Rattle.narrowing.proofs.TableLaws.{stays, changed}
@@ -55,27 +58,55 @@ module _ (n out-length : ℕ) where
 
   pub not-refused : (r : Narrowing) → RefusedAs (narrowRefusal n out-length) r → isRefused r ≡ false
       → (narrowRefusal n out-length ≡ 0) × (n ≤ 65539) × (n ≤ out-length)
-  unfolding narrowRefusal
+  unfolding narrowRefusal narrowingNumber narrowingChanged
   not-refused (Narrowing.Refused x) h q = clash (cc)
-  not-refused Narrowing.Unchanged h q = (let k = fits-in (leb n 65539) (leb n out-length) refl refl h in (h, k .0, k .1))
-  not-refused (Narrowing.Changed k) h q = absurd h
+  not-refused Narrowing.Unchanged h q = let k = fits-in (leb n 65539) (leb n out-length) refl refl (sym (h .0)) in (sym (h .0), k .0, k .1)
+  not-refused (Narrowing.Changed k) h q = clash (cc)
 
 -- ---- the answers; q, s and w are what is returned
 
 module _ (x : ℕ) (n : Option meant.Change) (d : Bytes) (q : Narrowing) (s w : List ℕ) where
-  pub refused-answer : (r : Narrowing) → RefusedAs x r → isRefused r ≡ true → (q ≡ r) × (s ≡ zeros) × (w ≡ zeros) → NarrowedAs x n d d q s w
-  refused-answer (Narrowing.Refused r) h t e = rw (e .0) (h, refl, e .1, e .2)
-  refused-answer Narrowing.Unchanged h t e = clash (cc)
-  refused-answer (Narrowing.Changed k) h t e = absurd h
+  -- no change is made
+  none-answer : (d′ : Bytes) → d′ ≡ d → changeMade x n ≡ none → narrowingNumber q ≡ x → narrowingChanged q ≡ false → narrowingLength q ≡ 0
+      → (s ≡ noneOfEach) × (w ≡ noneOfEach) → NarrowedAs x n d d′ q s w
+  none-answer d′ g e a c l z =
+      record { number-is = a; changed-is = rw e c; written = rw (e, l, g) (wrote-none d 0); stays-are = rw e (z .0); goes-are = rw e (z .1) }
 
-  pub unchanged-answer : (d′ : Bytes) → d′ ≡ d → x ≡ 0 → n ≡ none → (q ≡ Narrowing.Unchanged) × (s ≡ zeros) × (w ≡ zeros) → NarrowedAs x n d d′ q s w
-  unchanged-answer d′ g z h e = rw (e .0) (z, h, g, e .1, e .2)
+  pub refused-answer : (r : Narrowing) → RefusedAs x r → isRefused r ≡ true → (q ≡ r) × (s ≡ noneOfEach) × (w ≡ noneOfEach) → NarrowedAs x n d d q s w
+  unfolding narrowingNumber narrowingChanged narrowingLength
+  refused-answer (Narrowing.Refused r) h t e =
+      none-answer d refl (rw (← h .0) (none-made r n)) (rw (e .0) (h .0)) (rw (e .0)) (rw (e .0)) (e .1, e .2)
+  refused-answer Narrowing.Unchanged h t e = clash (cc)
+  refused-answer (Narrowing.Changed k) h t e = clash (cc)
+
+  pub unchanged-answer : (d′ : Bytes) → d′ ≡ d → x ≡ 0 → n ≡ none → (q ≡ Narrowing.Unchanged) × (s ≡ noneOfEach) × (w ≡ noneOfEach) → NarrowedAs x n d d′ q s w
+  unfolding narrowingNumber narrowingChanged narrowingLength
+  unchanged-answer d′ g z h e = none-answer d′ g (all-made x n z ∙ h) (rw (e .0) (sym z)) (rw (e .0)) (rw (e .0)) (e .1, e .2)
 
   pub changed-answer : (d′ : Bytes) (k : ℕ) (counts : Rows) (o : Options) (ps : List Part) (y : Bytes) → x ≡ 0 → n ≡ some (changeOf o ps y) → Wrote y d 0 d′ k
       → counts ≡ countedIn o noRows ps → (q ≡ Narrowing.Changed k) × (s ≡ getD counts 0 []) × (w ≡ getD counts 1 []) → NarrowedAs x n d d′ q s w
+  unfolding narrowingNumber narrowingChanged narrowingLength
   changed-answer d′ k counts o ps y z h u c e =
       let r = c ∙ counted-rows o ps in
-      rw (e .0) (z, (changeOf o ps y, h, u, e .1 ∙ ap (λ (l : Rows). getD l 0 []) r, e .2 ∙ ap (λ (l : Rows). getD l 1 []) r))
+      let m : changeMade x n ≡ some (changeOf o ps y) = all-made x n z ∙ h in
+      record {
+        number-is = rw (e .0) (sym z);
+        changed-is = rw (m, e .0);
+        written = rw (m, e .0) u;
+        stays-are = rw m (e .1 ∙ ap (λ (l : Rows). getD l 0 []) r);
+        goes-are = rw m (e .2 ∙ ap (λ (l : Rows). getD l 1 []) r);
+      }
+
+-- Any two answers that the promise allows are equal.
+pub narrowed-one : (x : ℕ) (n : Option meant.Change) (d d′ d″ : Bytes) (q r : Narrowing) (s t w v : List ℕ)
+    → NarrowedAs x n d d′ q s w → NarrowedAs x n d d″ r t v → (q ≡ r) × (d′ ≡ d″) × (s ≡ t) × (w ≡ v)
+narrowed-one x n d d′ d″ q r s t w v a b =
+    let o = wrote-one _ d 0 d′ d″ _ _ (a .written) (b .written) in (
+      narrowing-told q r (a .number-is ∙ sym (b .number-is)) (a .changed-is ∙ sym (b .changed-is)) (o .1),
+      o .0,
+      a .stays-are ∙ sym (b .stays-are),
+      a .goes-are ∙ sym (b .goes-are),
+    )
 
 -- ---- a table
 
@@ -147,22 +178,13 @@ pub unread-stays : (o : Options) (p : Bytes) → mmtpOf p ≡ none → changePac
 unfolding changePacket narrowPacket
 unread-stays o p e = rw e
 
--- from an offset within on
-pub rest-whole : (p : Bytes) (body : ℕ) → take (length p - body) (drop body p) ≡ drop body p
-rest-whole p body = ap (λ (m : ℕ). take m (drop body p)) (sym (length-drop body p)) ∙ take-length (drop body p)
+module _ (o : Options) (p : Bytes) (q k : ℕ) (w : Bool) (h : MmtpIs (mmtpOf p) p (read.Mmtp.Read q k w)) where
+  -- by its payload type and whether it is rewritable
+  abbrev changeBy : ℕ → Bool → Option meant.Change
+  changeBy j v =
+      Option·map (changeOf o (partsOfMessage (paMessage (h .0)))) (packetFor o p (some (record { identifier = q; payload-type = j; rewritable = v; payload = h .0 })))
 
--- a packet with another payload, by where its payload starts
-pub same-packets : (p : Bytes) (body q k : ℕ) (w : Bool) → body ≤ length p → (x : Option Bytes)
-    → Option·map (packetBytes p (record { identifier = q; payload-type = k; rewritable = w; payload = drop body p })) x ≡ Option·map (packetWith p body) x
-unfolding packetBytes packetWith
-same-packets p body q k w h none = refl
-same-packets p body q k w h (some y) = let z : length p - length (drop body p) ≡ body = omega (arith, length-drop body p, h) in rw z
-
-module _ (o : Options) (p : Bytes) (body q k : ℕ) (w : Bool) (h : MmtpIs (mmtpOf p) p (read.Mmtp.Read body q k w)) where
-  abbrev there : Mmtp
-  there = record { identifier = q; payload-type = k; rewritable = w; payload = drop body p }
-
-  packet-is : changePacket o p ≡ Option·map (changeOf o (partsOfMessage (paMessage (drop body p)))) (packetFor o p (some there))
+  packet-is : changePacket o p ≡ changeBy k w
   unfolding changePacket narrowPacket
   packet-is = ap (λ (m : Option Mmtp). Option·map (changeOf o (partsOfPacket m)) (packetFor o p m)) (h .2)
 
@@ -175,14 +197,20 @@ module _ (o : Options) (p : Bytes) (body q k : ℕ) (w : Bool) (h : MmtpIs (mmtp
   pub not-rewritable : w ≡ false → changePacket o p ≡ none
   not-rewritable e = packet-off (and-off (eqb k 2) w e)
 
-  module _ (two : k ≡ 2) (on : w ≡ true) where
-    packet-on : changePacket o p ≡ Option·map (changeOf o (partsOfMessage (paMessage (drop body p)))) (Option·map (packetWith p body) (narrowPayload o q (drop body p)))
-    packet-on =
-        packet-is ∙ rw (ap₂ _&&_ (eq-eqb k 2 two) on) (ap (λ (x : Option Bytes). Option·map (changeOf o (partsOfMessage (paMessage (drop body p)))) x) (same-packets p body q k w (h .1) (narrowPayload o q (drop body p))))
+  -- the part that the reader hands back
+  module _ (s : Bytes) (g : PartIs (Option·map (λ m. m .payload) (mmtpOf p)) 16 p s) where
+    part-is : (s ≡ h .0) × Behind 16 p s
+    part-is = rw (h .2) at g
 
-    pub packet-stays : Option·map (packetWith p body) (narrowPayload o q (drop body p)) ≡ none → changePacket o p ≡ none
-    packet-stays e = packet-on ∙ rw e
+    pub payload-short : 16 + length s ≤ length p
+    payload-short = behind-short (part-is .1)
 
-    pub packet-changes : (y : Bytes) → Option·map (packetWith p body) (narrowPayload o q (drop body p)) ≡ some y
-        → changePacket o p ≡ some (changeOf o (partsOfMessage (paMessage (drop body p))) y)
-    packet-changes y e = packet-on ∙ rw e
+    module _ (two : k ≡ 2) (on : w ≡ true) where
+      packet-on : changePacket o p ≡ Option·map (changeOf o (partsOfMessage (paMessage s))) (packetFor o p (some (signalOf q s)))
+      packet-on = packet-is ∙ ap₂ changeBy two on ∙ rw (part-is .0)
+
+      pub packet-stays : packetFor o p (some (signalOf q s)) ≡ none → changePacket o p ≡ none
+      packet-stays e = packet-on ∙ ap (Option·map (changeOf o (partsOfMessage (paMessage s)))) e
+
+      pub packet-changes : (y : Bytes) → packetFor o p (some (signalOf q s)) ≡ some y → changePacket o p ≡ some (changeOf o (partsOfMessage (paMessage s)) y)
+      packet-changes y e = packet-on ∙ ap (Option·map (changeOf o (partsOfMessage (paMessage s)))) e

@@ -16,7 +16,7 @@ use Rattle.meaning.specs.Lists.{keep, count}
 use Rattle.meaning.specs.Readers.{Out, bind, many, raw}
 use Rattle.meaning.specs.Tables.{Entry, entry, mptFront, Mpt, mpt, Table, table, isMpt, kindNumber}
 use Rattle.meaning.specs.Wishes.{wanted}
-use Rattle.meaning.specs.Narrow.{isPart, byPart, stayed, went, partsFrom, tableParts, tablesParts, partsOfTable}
+use Rattle.meaning.specs.Narrow.{isPart, byPart, stayed, went, partsFrom, tableParts, tablesParts, partsOfTable, noneOfEach}
 use Rattle.meaning.specs.declared.Part.{Part}
 use Rattle.meaning.specs.declared.Part.the-variants.{Caption, Carousel, Other}
 use Rattle.meaning.specs.declared.Options.{Options}
@@ -31,7 +31,7 @@ use Rattle.tables.specs.declared.locations.Carrier.{Carrier}
 use Rattle.narrowing.specs.Tables.{Exact, tablesIn}
 use Rattle.tables.proofs.WalkLaws.{tableAt, part-table, walk-next, walk-stops}
 use Rattle.narrowing.proofs.ExactLaws.{bodyOf, exact-table}
-use Rattle.narrowing.specs.Answers.{Rows, zeros, rowNumber, bumped, countedIn, noRows, CountsBelow, partsRead}
+use Rattle.narrowing.specs.Answers.{Rows, rowNumber, bumped, countedIn, noRows, CountsBelow, partsRead}
 
 -- ---- what is counted
 
@@ -212,15 +212,15 @@ parts-few u = go (isMpt (u .number)) (mpt (u .body)) refl
     go true none e = omega arith
     go true (some y) e = omega (arith, length-map (y .0 .entries) (λ e. e .part), mpt-split (u .body) (y .0) (y .1) e .few)
 
-zeros-low : (j n : ℕ) → getD zeros j 0 ≤ n
-zeros-low zero n = omega arith
-zeros-low (suc zero) n = omega arith
-zeros-low (suc (suc zero)) n = omega arith
-zeros-low (suc (suc (suc j))) n = omega arith
+none-of-each-low : (j n : ℕ) → getD noneOfEach j 0 ≤ n
+none-of-each-low zero n = omega arith
+none-of-each-low (suc zero) n = omega arith
+none-of-each-low (suc (suc zero)) n = omega arith
+none-of-each-low (suc (suc (suc j))) n = omega arith
 
 none-low : (n i j : ℕ) → getD (getD noRows i []) j 0 ≤ n
-none-low n zero j = zeros-low j n
-none-low n (suc zero) j = zeros-low j n
+none-low n zero j = none-of-each-low j n
+none-low n (suc zero) j = none-of-each-low j n
 none-low n (suc (suc i)) j = omega arith
 
 -- The tables from `tables` to `at` are counted in t. A table has four bytes at least and fewer than 256 entries.

@@ -12,7 +12,7 @@ use Rattle.meaning.specs.Bytes.{Bytes, be16At, put16, put32}
 use Rattle.meaning.specs.Writing.{Wrote}
 use Rattle.meaning.specs.Messages.{message}
 use Rattle.meaning.specs.Tables.{paHead, pa}
-use Rattle.meaning.specs.Narrow.{paOf, paMessage, payloadBytes, narrowPayload, partsOfMessage, tablesParts}
+use Rattle.meaning.specs.Narrow.{paOf, paMessage, payloadBytes, narrowPayload, packetBytes, packetFor, partsOfMessage, tablesParts}
 use Rattle.meaning.specs.declared.Options.{Options}
 use Rattle.meaning.proofs.NarrowLaws.{message-size}
 use Rattle.meaning.proofs.Writes.{wrote-then}
@@ -20,7 +20,7 @@ use Rattle.tables.specs.Answers.{MessageIs, PaHeadIs}
 use Rattle.tables.specs.declared.messages.Found.{Found}
 use Rattle.tables.specs.declared.fields.End.{End}
 use Rattle.narrowing.specs.Tables.{tablesIn}
-use Rattle.narrowing.specs.Answers.{PaFound, NoPa, ChangedPaIs, RewroteAs, bodyAfter, packetWith, countedIn, noRows}
+use Rattle.narrowing.specs.Answers.{PaFound, NoPa, ChangedPaIs, RewroteAs, bodyAfter, signalOf, countedIn, noRows}
 use Rattle.narrowing.specs.declared.narrow.Pa.{Pa}
 use Rattle.narrowing.proofs.PayloadLaws.{Starts, none-no-pa, one-message, message-number, number-at, pa-body, length-right, packet-right, pa-narrowed}
 
@@ -108,37 +108,38 @@ module _ (o : Options) (p : ℕ) (payload : Bytes) (end tables : ℕ) (h : PaFou
 pub front-long : (p : Bytes) (body : ℕ) → body ≤ length p → length (take (body - 0) (drop 0 p)) ≡ body
 front-long p body h = rw (sub-zero body) (length-take-le body p h)
 
-module _ (p : Bytes) (body : ℕ) (fit : body ≤ length p) {d d₁ : Bytes} {to c : ℕ} (u : Wrote (take (body - 0) (drop 0 p)) d to d₁ c) where
+module _ (p payload : Bytes) (short : 4 + length payload ≤ length p) {d d₁ : Bytes} {to c : ℕ} (u : Wrote (take (length p - length payload - 0) (drop 0 p)) d to d₁ c) where
+  abbrev front : ℕ
+  front = length p - length payload
+
   -- the payload has room behind the front
-  pub payload-room : (end tables : ℕ) → PaFound (take (length p - body) (drop body p)) end tables → to + length p ≤ length d → length d₁ ≡ length d → c + end ≤ length d₁
-  payload-room end tables h l s = omega (arith, u .end, front-long p body fit, h .within, ap length (behind-all p body), length-drop body p)
+  pub payload-room : (end tables : ℕ) → PaFound payload end tables → to + length p ≤ length d → length d₁ ≡ length d → c + end ≤ length d₁
+  payload-room end tables h l s = omega (arith, u .end, front-long p front (omega arith), h .within)
 
   -- the front, the payload, and then the length
-  packet-written : {y d₂ d₃ : Bytes} {last q : ℕ} → Wrote y d₁ c d₂ last → 4 ≤ body → to ≤ length d → Wrote (put16 (last - to - 4)) d₂ (to + 2) d₃ q
-      → Wrote (packetWith p body y) d to d₃ last
-  packet-written {y} {d₂} {d₃} {last} {q} v four l w =
-      let rest : length (take (body - 4) (drop 4 p)) ≡ body - 4 = length-take-le (body - 4) (drop 4 p) (omega (arith, length-drop 4 p)) in
-      let n : last - to - 4 ≡ length (take (body - 4) (drop 4 p) ++ y) =
-      omega (arith, u .end, v .end, front-long p body fit, rest, length-append (take (body - 4) (drop 4 p)) y) in
-      packet-right p y d d₂ d₃ body to last q four fit l (wrote-then (rw (sub-zero body) at u) v) (rw n at w)
+  packet-written : {y d₂ d₃ : Bytes} {last q : ℕ} (pid : ℕ) → Wrote y d₁ c d₂ last → to ≤ length d → Wrote (put16 (last - to - 4)) d₂ (to + 2) d₃ q
+      → Wrote (packetBytes p (signalOf pid payload) y) d to d₃ last
+  unfolding packetBytes
+  packet-written {y} {d₂} {d₃} {last} {q} pid v l w =
+      let rest : length (take (front - 4) (drop 4 p)) ≡ front - 4 = length-take-le (front - 4) (drop 4 p) (omega (arith, length-drop 4 p)) in
+      let n : last - to - 4 ≡ length (take (front - 4) (drop 4 p) ++ y) =
+      omega (arith, u .end, v .end, front-long p front (omega arith), rest, length-append (take (front - 4) (drop 4 p)) y) in
+      packet-right p y d d₂ d₃ front to last q (omega arith) (omega arith) l (wrote-then (rw (sub-zero front) at u) v) (rw n at w)
 
-module _ (o : Options) (pid : ℕ) (p : Bytes) (body : ℕ) where
-  abbrev payloadOf : Bytes
-  payloadOf = take (length p - body) (drop body p)
+module _ (o : Options) (pid : ℕ) (p payload : Bytes) where
+  packet-of : (x : Option Bytes) → narrowPayload o pid payload ≡ x → packetFor o p (some (signalOf pid payload)) ≡ Option·map (packetBytes p (signalOf pid payload)) x
+  packet-of x e = ap (Option·map (packetBytes p (signalOf pid payload))) e
 
-  packet-of : (x : Option Bytes) → narrowPayload o pid payloadOf ≡ x → Option·map (packetWith p body) (narrowPayload o pid (drop body p)) ≡ Option·map (packetWith p body) x
-  packet-of x e = ap (Option·map (packetWith p body)) (ap (narrowPayload o pid) (sym (behind-all p body)) ∙ e)
-
-  pub packet-stays : narrowPayload o pid payloadOf ≡ none → Option·map (packetWith p body) (narrowPayload o pid (drop body p)) ≡ none
+  pub packet-stays : narrowPayload o pid payload ≡ none → packetFor o p (some (signalOf pid payload)) ≡ none
   packet-stays e = packet-of none e
 
-  pub packet-rewritten : (four : 4 ≤ body) (fit : body ≤ length p) (end tables : ℕ) (h : ChangedPaIs o pid payloadOf (Pa.Found end tables))
-      {d d₁ d₂ d₃ : Bytes} {to c last q : ℕ} → to ≤ length d → Wrote (take (body - 0) (drop 0 p)) d to d₁ c → Wrote (payloadBytes payloadOf (after o pid payloadOf end tables (h .0))) d₁ c d₂ last
-      → Wrote (put16 (last - to - 4)) d₂ (to + 2) d₃ q
-      → RewroteAs (Option·map (packetWith p body) (narrowPayload o pid (drop body p))) d to d₃ (End.At last)
-  packet-rewritten four fit end tables h l u v w =
-      let y : Bytes = payloadBytes payloadOf (after o pid payloadOf end tables (h .0)) in
-      (packetWith p body y, packet-of (some y) (pa-narrowed o pid payloadOf end tables (h .0) (h .1)), packet-written p body fit u v four l w)
+  pub packet-rewritten : (short : 4 + length payload ≤ length p) (end tables : ℕ) (h : ChangedPaIs o pid payload (Pa.Found end tables))
+      {d d₁ d₂ d₃ : Bytes} {to c last q : ℕ} → to ≤ length d → Wrote (take (length p - length payload - 0) (drop 0 p)) d to d₁ c
+      → Wrote (payloadBytes payload (after o pid payload end tables (h .0))) d₁ c d₂ last → Wrote (put16 (last - to - 4)) d₂ (to + 2) d₃ q
+      → RewroteAs (packetFor o p (some (signalOf pid payload))) d to d₃ (End.At last)
+  packet-rewritten short end tables h l u v w =
+      let y : Bytes = payloadBytes payload (after o pid payload end tables (h .0)) in
+      (packetBytes p (signalOf pid payload) y, packet-of (some y) (pa-narrowed o pid payload end tables (h .0) (h .1)), packet-written p payload short u pid v l w)
 
 -- ---- what is counted of it
 

@@ -8,4 +8,3 @@ pub mod WalkLaws
 pub mod PayloadLaws
 pub mod FoundLaws
 pub mod AnswerLaws
-pub mod Examples

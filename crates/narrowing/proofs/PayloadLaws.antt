@@ -21,7 +21,7 @@ use Rattle.meaning.proofs.ListLaws.{and-both, clash}
 use Rattle.meaning.proofs.Framed.{before}
 use Rattle.meaning.proofs.Writes.{wrote-patch}
 use Rattle.narrowing.specs.Tables.{tablesChange}
-use Rattle.narrowing.specs.Answers.{startsPa, PaFound, NoPa, bodyAfter, packetWith}
+use Rattle.narrowing.specs.Answers.{startsPa, PaFound, NoPa, bodyAfter}
 
 -- ---- a payload that holds no PA message
 
@@ -229,8 +229,8 @@ length-right payload b d d′ d″ to r q n h u v =
     (subst (λ (z : Bytes). Wrote z d to d′ r) (ap (λ (z : Bytes). z ++ b) (nine-split payload n) ∙ append-assoc (take 5 payload) (take 4 (drop 5 payload)) b) u) v
 
 pub packet-right : (p y d d′ d″ : Bytes) (body to r q : ℕ) → 4 ≤ body → body ≤ length p → to ≤ length d → Wrote (take body p ++ y) d to d′ r
-    → Wrote (put16 (length (take (body - 4) (drop 4 p) ++ y))) d′ (to + 2) d″ q → Wrote (packetWith p body y) d to d″ r
-unfolding packetWith
+    → Wrote (put16 (length (take (body - 4) (drop 4 p) ++ y))) d′ (to + 2) d″ q
+    → Wrote (take 2 p ++ (put16 (length (take (body - 4) (drop 4 p) ++ y)) ++ (take (body - 4) (drop 4 p) ++ y))) d to d″ r
 packet-right p y d d′ d″ body to r q n l h u v =
     let two : length (take 2 p) ≡ 2 = length-take-le 2 p (omega arith) in
     let next : length (take 2 (drop 2 p)) ≡ 2 = length-take-le 2 (drop 2 p) (omega (arith, length-drop 2 p)) in

@@ -1,20 +1,22 @@
--- What the three narrowings answer: the refusal's number, or nothing changed, or the narrowed bytes at the front of the output with the
--- counts of the entries that stayed and went. Each fixes the whole output.
+-- What the three narrowings answer, by the definition that gives the number, the change and the length of each answer, with the whole
+-- output and the counts of the entries that stayed and went; and what the functions below them answer.
 use Prim.Native.Nat.{ℕ, _+_, _-_, _≤_}
 use mathlib.Core.Path.{_≡_}
 use mathlib.Core.Bool.{Bool, true, false, cond, _&&_}
-use mathlib.Core.List.{List, [], _∷_, _++_, map}
+use mathlib.Core.List.{List, [], _∷_, map}
 use mathlib.Core.Option.{Option, none, some}
 use lib.ListN.{length, take, drop, getD, set}
 use lib.Dec.{leb, eqb}
-use Rattle.meaning.specs.Bytes.{Bytes, be16At, put16}
+use Rattle.meaning.specs.Bytes.{Bytes, be16At}
 use Rattle.meaning.specs.Writing.{Wrote}
+use Rattle.meaning.specs.Lists.{isSome}
 use Rattle.meaning.specs.Readers.{Out}
+use Rattle.meaning.specs.Mmtp.{Mmtp}
 use Rattle.meaning.specs.Messages.{indicator, aggregated}
 use Rattle.meaning.specs.Tables.{Entry, paHead, kindNumber}
 use Rattle.meaning.specs.Wishes.{wanted}
-use Rattle.meaning.specs.Narrow.{Change, narrowPayload, paMessage, paBytes}
-use Rattle.meaning.specs.Refusals.{numberOf}
+use Rattle.meaning.specs.Narrow.{Change, narrowPayload, paMessage, paBytes, changeMade, changedBytes, noneOfEach, staysOf, goesOf}
+use Rattle.meaning.specs.Refusals.{narrowingNumber, narrowingChanged, narrowingLength}
 use Rattle.meaning.specs.declared.Narrowing.{Narrowing}
 use Rattle.meaning.specs.declared.Part.{Part}
 use Rattle.meaning.specs.declared.Options.{Options}
@@ -22,21 +24,18 @@ use Rattle.tables.specs.declared.fields.End.{End}
 use Rattle.narrowing.specs.Tables.{tablesIn, tablesAfter, tablesChange, HeadEntries}
 use Rattle.narrowing.specs.declared.narrow.Pa.{Pa}
 
-abbrev pub zeros : List ℕ
-zeros = 0 ∷ 0 ∷ 0 ∷ []
+-- By the refusal's number x and what the definition changes: what is told, what stands in the output d, which is d′ now, and the rows of
+-- those that stayed and went. Where nothing is written the output is as it was.
+pub record NarrowedAs (x : ℕ) (n : Option Change) (d d′ : Bytes) (r : Narrowing) (s w : List ℕ) : Type 0 where
+  pub number-is : narrowingNumber r ≡ x
+  pub changed-is : narrowingChanged r ≡ isSome (changeMade x n)
+  pub written : Wrote (changedBytes (changeMade x n)) d 0 d′ (narrowingLength r)
+  pub stays-are : s ≡ staysOf (changeMade x n)
+  pub goes-are : w ≡ goesOf (changeMade x n)
 
--- By the refusal's number x and what the definition changes.
-abbrev pub NarrowedAs : ℕ → Option Change → Bytes → Bytes → Narrowing → List ℕ → List ℕ → Type 0
-NarrowedAs x n d d′ (Narrowing.Refused r) s w = (x ≡ numberOf r) × (d′ ≡ d) × (s ≡ zeros) × (w ≡ zeros)
-NarrowedAs x n d d′ Narrowing.Unchanged s w = (x ≡ 0) × (n ≡ none) × (d′ ≡ d) × (s ≡ zeros) × (w ≡ zeros)
-NarrowedAs x n d d′ (Narrowing.Changed k) s w =
-    (x ≡ 0) × ((c : Change) × (n ≡ some c) × Wrote (c .out) d 0 d′ k × (s ≡ c .stays) × (w ≡ c .goes))
-
--- By the lengths of input and output: refused, or else not.
+-- By the lengths of input and output: refused with this number, or else unchanged.
 abbrev pub RefusedAs : ℕ → Narrowing → Type 0
-RefusedAs x (Narrowing.Refused r) = x ≡ numberOf r
-RefusedAs x Narrowing.Unchanged = x ≡ 0
-RefusedAs x (Narrowing.Changed k) = ⊥
+RefusedAs x r = (narrowingNumber r ≡ x) × (narrowingChanged r ≡ false)
 
 abbrev pub isRefused : Narrowing → Bool
 isRefused (Narrowing.Refused r) = true
@@ -60,12 +59,9 @@ startsPa s = leb 4 (length s) && (eqb (indicator (getD s 0 0)) 0 && (eqb (aggreg
 abbrev pub bodyAfter : Options → ℕ → Bytes → ℕ → List Bytes → Bytes
 bodyAfter o p b tables es = paBytes (record { count = getD b 0 0; entries = es }) (tablesAfter o p (drop tables b)) (tablesIn (drop tables b) .left)
 
--- A packet whose payload starts at `body`, with another payload.
-unfoldable pub packetWith : Bytes → ℕ → Bytes → Bytes
-unfolding put16
-packetWith p body y =
-    let rest = take (body - 4) (drop 4 p) ++ y in
-    take 2 p ++ (put16 (length rest) ++ rest)
+-- What is read of a rewritable signalling packet with this identifier and this payload.
+abbrev pub signalOf : ℕ → Bytes → Mmtp
+signalOf pid payload = record { identifier = pid; payload-type = 2; rewritable = true; payload = payload }
 
 -- There is none where there is no such message, or its head does not read.
 abbrev pub NoPa : Bytes → Type 0
@@ -104,7 +100,7 @@ countedIn o rows [] = rows
 countedIn o rows (part ∷ ps) = countedIn o (bumped rows (rowNumber o part) (kindNumber part)) ps
 
 abbrev pub noRows : Rows
-noRows = zeros ∷ zeros ∷ []
+noRows = noneOfEach ∷ noneOfEach ∷ []
 
 -- no count passes a bound
 abbrev pub CountsBelow : Rows → ℕ → Type 0

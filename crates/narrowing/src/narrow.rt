@@ -4,10 +4,10 @@ ghost use Prim.Native.Nat.{ℕ, _+_, _-_, _*_, _≤_, _<_};
 ghost use lib.ListN.{length, take, drop, getD};
 ghost use Rattle.meaning.specs.Bytes.{Bytes};
 ghost use Rattle.meaning.specs.Writing.{Wrote};
-ghost use Rattle.meaning.specs.Narrow.{narrowPayload, payloadBytes, paMessage, partsOfMessage, changeTable, changePayload, changePacket, narrowRefusal};
+ghost use Rattle.meaning.specs.Narrow.{payloadBytes, packetFor, paMessage, partsOfMessage, changeTable, changePayload, changePacket, narrowRefusal, noneOfEach};
 ghost use mathlib.Core.List.{List, [], _∷_};
-ghost use mathlib.Core.Option.{Option·map};
-ghost use Rattle.narrowing.specs.Answers.{zeros, startsPa, NarrowedAs, RefusedAs, isRefused, PaFound, PaIs, ChangedPaIs, RewroteAs, bodyAfter, packetWith, noRows, countedIn};
+ghost use mathlib.Core.Option.{some};
+ghost use Rattle.narrowing.specs.Answers.{startsPa, NarrowedAs, RefusedAs, isRefused, PaFound, PaIs, ChangedPaIs, RewroteAs, bodyAfter, signalOf, noRows, countedIn};
 use crate::counting::count_table;
 use crate::counting::count_tables;
 use crate::pa::pa_changes;
@@ -30,6 +30,7 @@ use tables::pa::pa_tables;
 use tables::pa::table_at;
 use tlv::Mmtp;
 use tlv::mmtp_of;
+use tlv::packet_payload;
 
 // What narrowing answers. The rows count captions, carousels and others.
 pub struct Narrowed {
@@ -57,7 +58,7 @@ fn answer_of(narrowing: Narrowing, counts: [[u64; 3]; 2]) -> Narrowed
 }
 
 fn without_counts(narrowing: Narrowing) -> Narrowed
-    ensures { λ r. ⌜ (r .narrowing ≡ narrowing) × (r .stayed ≡ zeros) × (r .went ≡ zeros) ⌝ }
+    ensures { λ r. ⌜ (r .narrowing ≡ narrowing) × (r .stayed ≡ noneOfEach) × (r .went ≡ noneOfEach) ⌝ }
 {
     answer_of(narrowing, [[0u64; 3]; 2])
 }
@@ -195,30 +196,30 @@ pub fn narrow_payload(payload: &[u8], pid: u16, o: Options, out: &mut [u8]) -> N
     )
 }
 
-// The packet `p`, whose payload starts at `body`, narrowed, at `to` of the output.
-fn narrowed_to(p: &[u8], body: usize, pid: u16, o: Options, out: &mut [u8], to: usize) -> End
-    requires { ⌜ (4 ≤ body) × (body ≤ length (now p)) × (to + length (now p) ≤ length (now out)) ⌝ }
-    ensures { λ r. ⌜ RewroteAs (Option·map (packetWith (now (p .entry)) body) (narrowPayload o pid (drop body (now (p .entry))))) (now (out .entry)) to (now (out .exit)) r ⌝ }
+// The packet `p`, whose payload is `payload`, narrowed, at `to` of the output.
+fn narrowed_to(p: &[u8], payload: &[u8], pid: u16, o: Options, out: &mut [u8], to: usize) -> End
+    requires { ⌜ (4 + length (now payload) ≤ length (now p)) × (to + length (now p) ≤ length (now out)) ⌝ }
+    ensures { λ r. ⌜ RewroteAs (packetFor o (now (p .entry)) (some (signalOf pid (now (payload .entry))))) (now (out .entry)) to (now (out .exit)) r ⌝ }
 {
-    let payload = &p[body..];
     let Pa::Found { end, tables } = changed_pa(payload, pid, o) else {
         return End::Nothing;
     };
-    let c = copy(&p[0..body], out, to);
+    let front = p.len() - payload.len();
+    let c = copy(&p[0..front], out, to);
     let last = payload_to(payload, end, tables, pid, o, out, c);
     put16(out, to + 2, last - to - 4);
     End::At(last)
 }
 
 // The same. A packet with no PA message costs no more than the test.
-pub fn rewrite(p: &[u8], body: usize, pid: u16, o: Options, out: &mut [u8], to: usize) -> End
-    requires { ⌜ (4 ≤ body) × (body ≤ length (now p)) × (to + length (now p) ≤ length (now out)) ⌝ }
-    ensures { λ r. ⌜ RewroteAs (Option·map (packetWith (now (p .entry)) body) (narrowPayload o pid (drop body (now (p .entry))))) (now (out .entry)) to (now (out .exit)) r ⌝ }
+pub fn rewrite(p: &[u8], payload: &[u8], pid: u16, o: Options, out: &mut [u8], to: usize) -> End
+    requires { ⌜ (4 + length (now payload) ≤ length (now p)) × (to + length (now p) ≤ length (now out)) ⌝ }
+    ensures { λ r. ⌜ RewroteAs (packetFor o (now (p .entry)) (some (signalOf pid (now (payload .entry))))) (now (out .entry)) to (now (out .exit)) r ⌝ }
 {
-    if !starts_pa(&p[body..]) {
+    if !starts_pa(payload) {
         return End::Nothing;
     }
-    narrowed_to(p, body, pid, o, out, to)
+    narrowed_to(p, payload, pid, o, out, to)
 }
 
 // The counts of a payload that narrowing changes.
@@ -241,7 +242,6 @@ pub fn narrow_packet(p: &[u8], o: Options, out: &mut [u8]) -> Narrowed
         return without_counts(refused);
     }
     let Mmtp::Read {
-        body,
         identifier,
         payload_type,
         rewritable,
@@ -255,8 +255,9 @@ pub fn narrow_packet(p: &[u8], o: Options, out: &mut [u8]) -> Narrowed
     if !rewritable {
         return without_counts(Narrowing::Unchanged);
     }
-    let End::At(n) = narrowed_to(p, body, identifier, o, out, 0) else {
+    let payload = packet_payload(p);
+    let End::At(n) = narrowed_to(p, payload, identifier, o, out, 0) else {
         return without_counts(Narrowing::Unchanged);
     };
-    answer_of(Narrowing::Changed(n), count_payload(&p[body..], o))
+    answer_of(Narrowing::Changed(n), count_payload(payload, o))
 }

@@ -17,7 +17,10 @@ use Rattle.meaning.specs.declared.Step.{Step}
 use Rattle.meaning.specs.declared.Step.the-variants.{Packet}
 use Rattle.meaning.proofs.ListLaws.{clash, or-left, or-right}
 use Rattle.meaning.proofs.CutLaws.{View, view, size-four, cut-packet}
-use Rattle.passing.specs.Verdicts.{Plain, Signals, AllPass, ahead, PacketTo, packetAt, StopIs, Rowing, RowIs}
+use Rattle.tlv.specs.Answers.{MmtpIs}
+use Rattle.tlv.specs.declared.Mmtp.{Mmtp}
+use Rattle.tlv.proofs.Laws.{behind-short}
+use Rattle.passing.specs.Verdicts.{Plain, SignalsSome, AllPass, ahead, PacketTo, packetAt, StopIs, Rowing, RowIs}
 use Rattle.passing.specs.declared.Stop.{Stop}
 use Rattle.passing.proofs.PassLaws.{flatten-append}
 
@@ -42,14 +45,15 @@ module _ (p : Bytes) (ws : Words) (ready : Bool) where
       pub wanted-passes : inSet ws id ≡ false → not ready ≡ false → Plain p ws ready false
       wanted-passes h g = plain false (rw h g)
 
-pub signals-read : (p : Bytes) (body id payload-type : ℕ) (w : Bool) → 16 ≤ body → body ≤ length p → id < 65536 → payload-type ≡ 2
-    → mmtpOf p ≡ some (record { identifier = id; payload-type = payload-type; rewritable = w; payload = drop body p }) → Signals p body id w
-signals-read p body id payload-type w b i f k e = record {
-  behind-head = b;
-  inside = i;
-  identifier-fits = f;
-  read = e ∙ ap (λ (n : ℕ). some (record { identifier = id; payload-type = n; rewritable = w; payload = drop body p })) k;
-}
+pub signals-read : (p : Bytes) (id payload-type : ℕ) (w : Bool) → id < 65536 → payload-type ≡ 2 → MmtpIs (mmtpOf p) p (Mmtp.Read id payload-type w) → SignalsSome p id w
+signals-read p id payload-type w f k m = (
+  m .0,
+  record {
+    behind-header = behind-short (m .1);
+    identifier-fits = f;
+    read = m .2 ∙ ap (λ (n : ℕ). some (record { identifier = id; payload-type = n; rewritable = w; payload = m .0 })) k;
+  },
+)
 
 -- ---- a packet of a run
 

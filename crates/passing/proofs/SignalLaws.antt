@@ -6,13 +6,13 @@ use mathlib.Core.Bool.{Bool, true, false, cond}
 use mathlib.Core.List.{List, [], _∷_, _++_, flatten, append-nil}
 use mathlib.Core.Option.{Option, none, some, Option·map, Option·getD}
 use native.Mathlib.Omega.{arith}
-use lib.ListN.{length, drop, length-drop}
+use lib.ListN.{length}
 use Rattle.meaning.specs.Bytes.{Bytes}
 use Rattle.meaning.specs.Writing.{Wrote}
 use Rattle.meaning.specs.Sets.{Words, inSet}
 use Rattle.meaning.specs.Lists.{isSome}
 use Rattle.meaning.specs.Mmtp.{Mmtp, mmtpOf}
-use Rattle.meaning.specs.Narrow.{narrowPayload, packetBytes, packetFor, narrowPacket}
+use Rattle.meaning.specs.Narrow.{packetFor, narrowPacket}
 use Rattle.meaning.specs.Learn.{Known, Learnt, learnFrom, learn, observe}
 use Rattle.meaning.specs.Rules.{drops, ready}
 use Rattle.meaning.specs.Push.{Passed, none-passed, passOne, pass, withheld}
@@ -21,8 +21,8 @@ use Rattle.meaning.specs.declared.Options.{Options}
 use Rattle.meaning.specs.declared.Counts.{Counts}
 use Rattle.meaning.proofs.Writes.{wrote-none}
 use Rattle.meaning.proofs.Statements.{packet-shorter}
-use Rattle.narrowing.specs.Answers.{packetWith}
-use Rattle.narrowing.proofs.AnswerLaws.{same-packets}
+use Rattle.tlv.specs.Answers.{PartIs}
+use Rattle.narrowing.specs.Answers.{signalOf}
 use Rattle.learning.specs.Kept.{Keeps}
 use Rattle.learning.specs.declared.Extent.{Extent}
 use Rattle.observing.specs.News.{news}
@@ -58,18 +58,23 @@ module _ (y : Option Bytes) (p : Bytes) (c : Counts) (d d′ : Bytes) (r : Count
 
 -- ---- narrowing a packet of signalling
 
-module _ (o : Options) {p : Bytes} {body id : ℕ} {w : Bool} (h : Signals p body id w) where
-  narrows-as : narrowPacket o p ≡ cond w (Option·map (packetWith p body) (narrowPayload o id (drop body p))) none
+module _ (o : Options) {p payload : Bytes} {id : ℕ} {w : Bool} (h : Signals p payload id w) where
+  -- by whether it is rewritable
+  narrows-as : (v : Bool) → w ≡ v → narrowPacket o p ≡ packetFor o p (some (record { identifier = id; payload-type = 2; rewritable = v; payload = payload }))
   unfolding narrowPacket
-  narrows-as = ap (packetFor o p) (h .read) ∙ ap (λ (x : Option Bytes). cond w x none) (same-packets p body id 2 w (h .inside) (narrowPayload o id (drop body p)))
+  narrows-as v e = ap (packetFor o p) (h .read) ∙ ap (λ (b : Bool). packetFor o p (some (record { identifier = id; payload-type = 2; rewritable = b; payload = payload }))) e
 
-  pub narrows-on : w ≡ true → narrowPacket o p ≡ Option·map (packetWith p body) (narrowPayload o id (drop body p))
-  narrows-on e = narrows-as ∙ rw e
+  pub narrows-on : w ≡ true → narrowPacket o p ≡ packetFor o p (some (signalOf id payload))
+  narrows-on e = narrows-as true e
 
   pub narrows-off : w ≡ false → narrowPacket o p ≡ none
-  narrows-off e = narrows-as ∙ rw e
+  narrows-off e = narrows-as false e
 
 -- ---- what is known after it
+
+-- the part that the reader hands back is the payload
+pub part-is : {p payload : Bytes} {id : ℕ} {w : Bool} (r : Bytes) → Signals p payload id w → PartIs (Option·map (λ m. m .payload) (mmtpOf p)) 16 p r → r ≡ payload
+part-is r h g = let k = rw (h .read) at g in k .0
 
 -- the observer counts changes from none
 abbrev pub noChange : Extent → Extent
@@ -108,9 +113,9 @@ module _ (L : Limits) (o : Options) (id : ℕ) (s : Bytes) (k : Known) where
 
 -- ---- what passes
 
-module _ (L : Limits) (o : Options) (k : Known) {p : Bytes} {body id : ℕ} {w : Bool} (h : Signals p body id w) where
+module _ (L : Limits) (o : Options) (k : Known) {p payload : Bytes} {id : ℕ} {w : Bool} (h : Signals p payload id w) where
   abbrev told : Learnt
-  told = observe L id (drop body p) k
+  told = observe L id payload k
 
   abbrev passedOne : Passed
   passedOne = passOne (drops o (told .known) id) (narrowPacket o p) p (told .lost) (none-passed (told .known))
@@ -157,23 +162,23 @@ lost-after true y p lost k = omega arith
 lost-after false y p lost k = omega arith
 
 module _ (L : Limits) (o : Options) (k : Known) (d : Bytes) (ps : List Bytes) (n : ℕ) (s r : Progress)
-    {p : Bytes} {body id : ℕ} {w : Bool} (h : Signals p body id w) where
+    {p payload : Bytes} {id : ℕ} {w : Bool} (h : Signals p payload id w) where
   abbrev here : Known
   here = pass L o k ps .known
 
   abbrev step : Learnt
-  step = observe L id (drop body p) here
+  step = observe L id payload here
 
   -- A run has come one packet further.
   pub signalled : {data-set packages map-heads map-room fragment-heads : List ℕ} {bodies : Bytes} {set : Words} {out : Bytes}
       {data-set′ packages′ map-heads′ map-room′ fragment-heads′ : List ℕ} {bodies′ : Bytes} {set′ : Words} {out′ : Bytes}
       → Sofar L o k d ps n s data-set packages map-heads map-room fragment-heads bodies set out
-      → Observed (L .total) step (news L id (drop body p) here) (noChange (s .extent)) (r .extent) data-set′ packages′ map-heads′ map-room′ fragment-heads′ bodies′
+      → Observed (L .total) step (news L id payload here) (noChange (s .extent)) (r .extent) data-set′ packages′ map-heads′ map-room′ fragment-heads′ bodies′
       → Refreshed (r .extent .changed) o (r .extent) (s .ready) data-set′ packages′ map-heads′ map-room′ set (r .ready) set′
       → Emitted (inSet set′ id) (narrowPacket o p) p (s .counts) out (r .counts) out′
       → Sofar L o k d (ps ++ p ∷ []) (n + 0) r data-set′ packages′ map-heads′ map-room′ fragment-heads′ bodies′ set′ out′
   signalled {data-set} {packages} {map-heads} {map-room} {fragment-heads} {bodies} {set} {out} {data-set′} {packages′} {map-heads′} {map-room′} {fragment-heads′} {bodies′} {set′} {out′} f seen fresh sent =
-      let g = refreshed-is L o id (drop body p) here (r .extent .changed) (seen .changed-is) fresh (seen .holding .tables-kept) (f .set-is) (f .ready-is) in
+      let g = refreshed-is L o id payload here (r .extent .changed) (seen .changed-is) fresh (seen .holding .tables-kept) (f .set-is) (f .ready-is) in
       let b : inSet set′ id ≡ drops o (step .known) id = g .0 .member id (h .identifier-fits) in
       let x = rw b at sent in
       let y = narrowPacket o p in
@@ -191,14 +196,14 @@ module _ (L : Limits) (o : Options) (k : Known) (d : Bytes) (ps : List Bytes) (n
 -- ---- room for what comes next
 
 -- the observer may lose as many maps as the payload and the fragment room have bytes
-pub observer-fits : {p : Bytes} {body id : ℕ} {w : Bool} (lost T : ℕ) → Signals p body id w → lost + length p * 16777217 ≤ 18446744073709551615 → T ≤ 16777216
-    → lost + length (drop body p) + T ≤ 18446744073709551615
-observer-fits {p} {body} lost T h f few = omega (arith, f, few, length-drop body p, h .behind-head, h .inside)
+pub observer-fits : {p payload : Bytes} {id : ℕ} {w : Bool} (lost T : ℕ) → Signals p payload id w → lost + length p * 16777217 ≤ 18446744073709551615 → T ≤ 16777216
+    → lost + length payload + T ≤ 18446744073709551615
+observer-fits lost T h f few = omega (arith, f, few, h .behind-header)
 
-pub emitter-fits : {p : Bytes} {body id : ℕ} {w : Bool} (s : Progress) (out-length : ℕ) → Signals p body id w → Fits s (length p) out-length
+pub emitter-fits : {p payload : Bytes} {id : ℕ} {w : Bool} (s : Progress) (out-length : ℕ) → Signals p payload id w → Fits s (length p) out-length
     → (s .counts .bytes + length p ≤ out-length) × (s .counts .accepted + 1 ≤ 18446744073709551615) × (s .counts .written + 1 ≤ 18446744073709551615) × (s .counts .rewritten + 1 ≤ 18446744073709551615)
 emitter-fits {p} s out-length h f =
-    let some-bytes : 1 ≤ length p = omega (arith, h .behind-head, h .inside) in
+    let some-bytes : 1 ≤ length p = omega (arith, h .behind-header) in
     (f .bytes-fit, omega (arith, f .accepted-fit), omega (arith, f .written-fit), omega (arith, f .rewritten-fit))
 
 -- the output grows by no more than the packet
@@ -222,18 +227,17 @@ never-longer : (o : Options) (p : Bytes) (y : Option Bytes) → narrowPacket o p
 never-longer o p none e = omega arith
 never-longer o p (some y) e = packet-shorter o p y e
 
-pub fits-after : (o : Options) {p : Bytes} {body id : ℕ} {w : Bool} → Signals p body id w → (s r : Progress) (set : Words) (d d′ : Bytes) (T : ℕ)
-    → Emitted (inSet set id) (narrowPacket o p) p (s .counts) d (r .counts) d′ → r .extent .lost ≤ s .extent .lost + length (drop body p) + T → T ≤ 16777216
+pub fits-after : (o : Options) {p payload : Bytes} {id : ℕ} {w : Bool} → Signals p payload id w → (s r : Progress) (set : Words) (d d′ : Bytes) (T : ℕ)
+    → Emitted (inSet set id) (narrowPacket o p) p (s .counts) d (r .counts) d′ → r .extent .lost ≤ s .extent .lost + length payload + T → T ≤ 16777216
     → length d′ ≡ length d → (m : ℕ) → Fits s (length p + m) (length d) → Fits r m (length d′)
-fits-after o {p} {body} {id} h s r set d d′ T x l few same m f =
+fits-after o {p} {payload} {id} h s r set d d′ T x l few same m f =
     let z = emitted-within (inSet set id) (narrowPacket o p) p (s .counts) d (r .counts) d′ (never-longer o p (narrowPacket o p) refl) x in
-    let long : 16 ≤ length p = omega (arith, h .behind-head, h .inside) in
-    let part = length-drop body p in
+    let long : 16 + length payload ≤ length p = h .behind-header in
     record {
       bytes-fit = omega (arith, z .0, f .bytes-fit);
       accepted-fit = omega (arith, z .1, f .accepted-fit);
       written-fit = omega (arith, z .2, f .written-fit);
       rewritten-fit = omega (arith, z .3, f .rewritten-fit);
       skipped-fit = omega (arith, z .4, f .skipped-fit);
-      lost-fit = omega (arith, f .lost-fit, part, l, few, long);
+      lost-fit = omega (arith, f .lost-fit, l, few, long);
     }

@@ -25,7 +25,7 @@ use Rattle.passing.specs.declared.Terms.{Terms}
 use Rattle.passing.specs.declared.Progress.{Progress}
 use Rattle.passing.specs.declared.Scanned.{Scanned}
 use Rattle.passing.specs.declared.Ahead.{Ahead}
-use Rattle.passing.specs.Verdicts.{Signals, ahead, PacketTo, packetAt}
+use Rattle.passing.specs.Verdicts.{SignalsSome, ahead, PacketTo, packetAt}
 
 -- ---- one signalling packet
 
@@ -112,7 +112,7 @@ withRow s count bytes = record {
 abbrev pub AheadIs : ℕ → Bytes → ℕ → Ahead → Type 0
 AheadIs limit run at Ahead.Rest = stepOf limit (drop at run) ≡ Keep
 AheadIs limit run at (Ahead.Signalling here end s) =
-    (here ≡ at) × PacketTo limit run here end × Signals (packetAt run here end) (s .body) (s .id) (s .rewritable)
+    (here ≡ at) × PacketTo limit run here end × SignalsSome (packetAt run here end) (s .id) (s .rewritable)
 
 -- From one offset of a run to another: whatever was learned before stays, and whatever run it was has come further.
 pub record Along (run : Bytes) (from : ℕ) (t : Terms) (s : Progress) (set : Words) (out : Bytes) (r : Progress) (at : ℕ) (out′ : Bytes) : Type 0 where

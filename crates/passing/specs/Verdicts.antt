@@ -30,17 +30,19 @@ pub record Plain (p : Bytes) (ws : Words) (ready stop : Bool) : Type 0 where
   pub other : signals (mmtpOf p) ≡ false
   pub fate : stopped (mmtpOf p) ws ready ≡ stop
 
--- Signalling, its payload from `body` on.
-pub record Signals (p : Bytes) (body id : ℕ) (w : Bool) : Type 0 where
-  pub behind-head : 16 ≤ body
-  pub inside : body ≤ length p
+-- Signalling, with its payload behind the header.
+pub record Signals (p payload : Bytes) (id : ℕ) (w : Bool) : Type 0 where
+  pub behind-header : 16 + length payload ≤ length p
   pub identifier-fits : id < 65536
-  pub read : mmtpOf p ≡ some (record { identifier = id; payload-type = 2; rewritable = w; payload = drop body p })
+  pub read : mmtpOf p ≡ some (record { identifier = id; payload-type = 2; rewritable = w; payload = payload })
+
+abbrev pub SignalsSome : Bytes → ℕ → Bool → Type 0
+SignalsSome p id w = (payload : Bytes) × Signals p payload id w
 
 abbrev pub VerdictIs : Bytes → Words → Bool → Verdict → Type 0
 VerdictIs p ws ready Verdict.Pass = Plain p ws ready false
 VerdictIs p ws ready Verdict.Withhold = Plain p ws ready true
-VerdictIs p ws ready (Verdict.Signalling s) = Signals p (s .body) (s .id) (s .rewritable)
+VerdictIs p ws ready (Verdict.Signalling s) = SignalsSome p (s .id) (s .rewritable)
 
 -- ---- a row
 
@@ -67,7 +69,7 @@ StopIs limit ws ready run from at Stop.More = from < at
 StopIs limit ws ready run from at Stop.Skip = stepOf limit (drop at run) ≡ Skip
 StopIs limit ws ready run from at (Stop.Withhold end) = PacketTo limit run at end × Plain (packetAt run at end) ws ready true
 StopIs limit ws ready run from at (Stop.Signalling end s) =
-    PacketTo limit run at end × Signals (packetAt run at end) (s .body) (s .id) (s .rewritable)
+    PacketTo limit run at end × SignalsSome (packetAt run at end) (s .id) (s .rewritable)
 
 -- `count` packets that go out as they are, from one offset to another.
 pub record Rowing (limit : ℕ) (ws : Words) (ready : Bool) (run : Bytes) (from at count : ℕ) : Type 0 where

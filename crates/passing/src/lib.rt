@@ -4,14 +4,14 @@ ghost use mathlib.Core.Path.{_≡_};
 ghost use Prim.Native.Nat.{ℕ, _+_, _-_, _*_, _≤_, _<_};
 ghost use mathlib.Core.Bool.{true, false};
 ghost use mathlib.Core.List.{List, [], _∷_, _++_};
-ghost use mathlib.Core.Option.{Option·map};
-ghost use lib.ListN.{length, drop};
+ghost use mathlib.Core.Option.{some};
+ghost use lib.ListN.{length};
 ghost use Rattle.meaning.specs.Sets.{inSet};
-ghost use Rattle.meaning.specs.Narrow.{narrowPayload, narrowPacket};
+ghost use Rattle.meaning.specs.Narrow.{packetFor, narrowPacket};
 ghost use Rattle.meaning.specs.Learn.{Known};
-ghost use Rattle.narrowing.specs.Answers.{packetWith};
+ghost use Rattle.narrowing.specs.Answers.{signalOf};
 ghost use Rattle.learning.specs.Kept.{Keeps};
-ghost use Rattle.passing.specs.Verdicts.{VerdictIs, Signals, RowIs};
+ghost use Rattle.passing.specs.Verdicts.{VerdictIs, Signals, SignalsSome, RowIs};
 ghost use Rattle.passing.specs.Passing.{Emitted, Refreshed, Fits, SofarSome, SofarAfter, AheadIs, Along, ScannedAs, withSkipped, withWithheld, withRow};
 use learning::Extent;
 use meaning::Counts;
@@ -28,7 +28,7 @@ use tlv::Mmtp;
 use tlv::gap_end;
 use tlv::mmtp_of;
 use tlv::next;
-use tlv::payload_of;
+use tlv::packet_payload;
 
 // What stays the same over a call: the wishes, the packet limit, and the most bytes of one message.
 pub struct Terms {
@@ -44,9 +44,8 @@ pub struct Progress {
     pub ready: bool,
 }
 
-// A signalling packet: where its payload starts, its identifier, and whether narrowing may change it.
+// A signalling packet: its identifier, and whether narrowing may change it.
 pub struct Signal {
-    pub body: usize,
     pub id: u16,
     pub rewritable: bool,
 }
@@ -62,7 +61,6 @@ fn verdict_of(p: &[u8], set: &[u64; 1024], is_ready: bool) -> Verdict
     ensures { λ r. ⌜ VerdictIs (now (p .entry)) (now (set .entry)) «is_ready» r ⌝ }
 {
     let Mmtp::Read {
-        body,
         identifier,
         payload_type,
         rewritable,
@@ -72,7 +70,6 @@ fn verdict_of(p: &[u8], set: &[u64; 1024], is_ready: bool) -> Verdict
     };
     if payload_type == 2 {
         return Verdict::Signalling(Signal {
-            body,
             id: identifier,
             rewritable,
         });
@@ -104,19 +101,27 @@ fn sent(c: Counts, bytes: usize, rewritten: usize) -> Counts
 }
 
 // Narrowed, or as it is where narrowing leaves it.
-fn narrowed(p: &[u8], body: usize, id: u16, o: Options, c: Counts, out: &mut [u8]) -> Counts
-    requires { ⌜ (4 ≤ body) × (body ≤ length (now p)) × (c .bytes + length (now p) ≤ length (now out)) × (c .accepted + 1 ≤ 18446744073709551615) × (c .written + 1 ≤ 18446744073709551615) × (c .rewritten + 1 ≤ 18446744073709551615) ⌝ }
-    ensures { λ r. ⌜ Emitted false (Option·map (packetWith (now (p .entry)) body) (narrowPayload o id (drop body (now (p .entry))))) (now (p .entry)) c (now (out .entry)) r (now (out .exit)) ⌝ }
+fn narrowed(p: &[u8], payload: &[u8], id: u16, o: Options, c: Counts, out: &mut [u8]) -> Counts
+    requires { ⌜ (4 + length (now payload) ≤ length (now p)) × (c .bytes + length (now p) ≤ length (now out)) × (c .accepted + 1 ≤ 18446744073709551615) × (c .written + 1 ≤ 18446744073709551615) × (c .rewritten + 1 ≤ 18446744073709551615) ⌝ }
+    ensures { λ r. ⌜ Emitted false (packetFor o (now (p .entry)) (some (signalOf id (now (payload .entry))))) (now (p .entry)) c (now (out .entry)) r (now (out .exit)) ⌝ }
 {
-    let End::At(last) = rewrite(p, body, id, o, out, c.bytes) else {
+    let End::At(last) = rewrite(p, payload, id, o, out, c.bytes) else {
         return sent(c, copy(p, out, c.bytes), 0);
     };
     sent(c, last, 1)
 }
 
 // A signalling packet, after it was learned from: withheld where the set has it, else written.
-fn emit(p: &[u8], s: Signal, o: Options, c: Counts, set: &[u64; 1024], out: &mut [u8]) -> Counts
-    requires { ⌜ Signals (now p) (s .body) (s .id) (s .rewritable) × (c .bytes + length (now p) ≤ length (now out)) × (c .accepted + 1 ≤ 18446744073709551615) × (c .written + 1 ≤ 18446744073709551615) × (c .rewritten + 1 ≤ 18446744073709551615) ⌝ }
+fn emit(
+    p: &[u8],
+    payload: &[u8],
+    s: Signal,
+    o: Options,
+    c: Counts,
+    set: &[u64; 1024],
+    out: &mut [u8],
+) -> Counts
+    requires { ⌜ Signals (now p) (now payload) (s .id) (s .rewritable) × (c .bytes + length (now p) ≤ length (now out)) × (c .accepted + 1 ≤ 18446744073709551615) × (c .written + 1 ≤ 18446744073709551615) × (c .rewritten + 1 ≤ 18446744073709551615) ⌝ }
     ensures { λ r. ⌜ Emitted (inSet (now (set .entry)) (s .id)) (narrowPacket o (now (p .entry))) (now (p .entry)) c (now (out .entry)) r (now (out .exit)) ⌝ }
 {
     if has(set, s.id) {
@@ -130,7 +135,7 @@ fn emit(p: &[u8], s: Signal, o: Options, c: Counts, set: &[u64; 1024], out: &mut
         };
     }
     if s.rewritable {
-        return narrowed(p, s.body, s.id, o, c, out);
+        return narrowed(p, payload, s.id, o, c, out);
     }
     sent(c, copy(p, out, c.bytes), 0)
 }
@@ -185,13 +190,13 @@ fn signalling(
     set: &mut [u64; 1024],
     out: &mut [u8],
 ) -> Progress
-    requires { ⌜ Signals (now p) (signal .body) (signal .id) (signal .rewritable) × Fits s (length (now p)) (length (now out)) × SofarSome t s (now «data_set») (now packages) (now «map_heads») (now «map_room») (now «fragment_heads») (now bodies) (now set) (now out) ⌝ }
+    requires { ⌜ SignalsSome (now p) (signal .id) (signal .rewritable) × Fits s (length (now p)) (length (now out)) × SofarSome t s (now «data_set») (now packages) (now «map_heads») (now «map_room») (now «fragment_heads») (now bodies) (now set) (now out) ⌝ }
     ensures { λ r. ⌜ SofarAfter (now (p .entry) ∷ []) 0 t s (now («data_set» .entry)) (now (packages .entry)) (now («map_heads» .entry)) (now («map_room» .entry)) (now («fragment_heads» .entry)) (now (bodies .entry)) (now (set .entry)) (now (out .entry)) r (now («data_set» .exit)) (now (packages .exit)) (now («map_heads» .exit)) (now («map_room» .exit)) (now («fragment_heads» .exit)) (now (bodies .exit)) (now (set .exit)) (now (out .exit)) × ((m : ℕ) → Fits s (length (now (p .entry)) + m) (length (now (out .entry))) → Fits r m (length (now (out .exit)))) ⌝ }
 {
     let o = t.options;
     let c = s.counts;
     let before = unchanged(s.extent);
-    let payload = payload_of(p, signal.body);
+    let payload = packet_payload(p);
     let e = observe(
         payload,
         signal.id,
@@ -205,7 +210,7 @@ fn signalling(
         bodies,
     );
     let is_ready = refreshed(e, s.ready, o, data_set, packages, map_heads, map_room, set);
-    let d = emit(p, signal, o, c, set, out);
+    let d = emit(p, payload, signal, o, c, set, out);
     Progress {
         extent: e,
         counts: d,

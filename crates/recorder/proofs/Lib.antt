@@ -1,5 +1,4 @@
 -- Laws that the proofs of the record and of its calls cite.
-pub mod AnswerLaws
 pub mod SlotLaws
 pub mod StateLaws
 pub mod CallLaws

@@ -85,7 +85,7 @@ module _ (f : Filter) (work bodies : Bytes) (map-room : List ℕ) (chunk out : B
   unfolding flatten
   refused-as e =
       let c = called-refused e in
-      record { answer-is = rw c refl; counts-are = rw c refl; handed-is = rw c refl; written = rw c (wrote-none out 0); rooms = rw (c, e) (refl, refl, refl) }
+      record { answer-is = rw c refl; counts-are = rw c refl; handed-is = rw c refl; written = rw c (wrote-none out 0); rooms = rw (c, e) (refl, refl, refl); work-length = refl; bodies-length = refl }
 
   -- ---- not refused
 
@@ -128,10 +128,10 @@ module _ (f : Filter) (work bodies : Bytes) (map-room : List ℕ) (chunk out : B
     called-done = rw (sym (ap (λ (n : ℕ). eqb n 0) number-is) ∙ e)
 
     module _ (x : CarriedOut) (data-set packages map-heads map-room′ fragment-heads : List ℕ) (bodies′ work′ out′ : Bytes) where
-      ran-then : CarriedOutAs L after out x data-set packages map-heads map-room′ fragment-heads bodies′ work′ out′
+      ran-then : CarriedOutAs L after out x data-set packages map-heads map-room′ fragment-heads bodies′ work′ out′ → length work′ ≡ length work
           → PushedAs r work bodies map-room chunk out (record { answer = a; counts = x .counts; filter = handedOf (begunOf f) x data-set packages map-heads fragment-heads }) work′ bodies′ map-room′ out′
       unfolding recordIn
-      ran-then h =
+      ran-then h long =
           let c = called-done in
           let s = when-done .is-sound in
           let p = record-parts r (length work) (length bodies) (length map-room) s in
@@ -146,30 +146,35 @@ module _ (f : Filter) (work bodies : Bytes) (map-room : List ℕ) (chunk out : B
             handed-is = rw c same;
             written = rw (c, h .counts-are) (h .written);
             rooms = rw (c, same) (state-again L o (after .state) (h .holding) work′ holds front);
+            work-length = long;
+            bodies-length = h .holding .fragments-kept .total ∙ p .total-is;
           }
 
       pub done-as : CarriesOut (λ L st. push L (f .options) st chunk) (f .most) (f .«held_count») (extentOf f) (f .«data_set») (cleared (f .«package_count») (f .packages)) (cleared (f .«map_count») (f .«map_heads»)) map-room
-          (cleared (f .«fragment_count») (f .«fragment_heads»)) bodies work out x data-set packages map-heads map-room′ fragment-heads bodies′ work′ out′
+          (cleared (f .«fragment_count») (f .«fragment_heads»)) bodies work out x data-set packages map-heads map-room′ fragment-heads bodies′ work′ out′ → length work′ ≡ length work
           → PushedAs r work bodies map-room chunk out (record { answer = a; counts = x .counts; filter = handedOf (begunOf f) x data-set packages map-heads fragment-heads }) work′ bodies′ map-room′ out′
       unfolding recordIn stateOf
-      done-as h =
+      done-as h long =
           let p = record-parts r (length work) (length bodies) (length map-room) (when-done .is-sound) in
-          ran-then (h L (stateOf r work bodies map-room .known) refl (p .work-is) held-count)
+          ran-then (h L (stateOf r work bodies map-room .known) refl (p .work-is) held-count) long
 
 -- ---- the number of dropped identifiers
 
-module _ (r : Record) (work bodies : Bytes) (map-room : List ℕ) where
-  counted : (b : Bool) → sound r (length work) (length bodies) (length map-room) ≡ b
-      → (soundRefusal r (length work) (length bodies) (length map-room) ≡ cond b 0 4) × (droppedNow r work bodies map-room ≡ cond b (dropped (r .options) (stateOf r work bodies map-room .known)) 0)
+module _ (f : Filter) (work bodies : Bytes) (map-room : List ℕ) where
+  abbrev asked : Record
+  asked = recordIn f
+
+  counted : (b : Bool) → sound asked (length work) (length bodies) (length map-room) ≡ b
+      → (soundRefusal asked (length work) (length bodies) (length map-room) ≡ cond b 0 4) × (droppedNow asked work bodies map-room ≡ cond b (dropped (asked .options) (stateOf asked work bodies map-room .known)) 0)
   unfolding soundRefusal droppedNow
-  counted true e = (ap (λ (b : Bool). cond b 0 4) e, ap (λ (b : Bool). cond (eqb (cond b 0 4) 0) (dropped (r .options) (stateOf r work bodies map-room .known)) 0) e)
-  counted false e = (ap (λ (b : Bool). cond b 0 4) e, ap (λ (b : Bool). cond (eqb (cond b 0 4) 0) (dropped (r .options) (stateOf r work bodies map-room .known)) 0) e)
+  counted true e = (ap (λ (b : Bool). cond b 0 4) e, ap (λ (b : Bool). cond (eqb (cond b 0 4) 0) (dropped (asked .options) (stateOf asked work bodies map-room .known)) 0) e)
+  counted false e = (ap (λ (b : Bool). cond b 0 4) e, ap (λ (b : Bool). cond (eqb (cond b 0 4) 0) (dropped (asked .options) (stateOf asked work bodies map-room .known)) 0) e)
 
-  pub not-counted : sound r (length work) (length bodies) (length map-room) ≡ false → DroppedAs r work bodies map-room (record { answer = Refused Unsound; count = 0 })
+  pub not-counted : sound asked (length work) (length bodies) (length map-room) ≡ false → DroppedAs asked work bodies map-room (record { answer = Refused Unsound; count = 0; filter = f })
   unfolding answerNumber numberOf
-  not-counted e = let h = counted false e in record { answer-is = sym (h .0); count-is = sym (h .1) }
+  not-counted e = let h = counted false e in record { answer-is = sym (h .0); count-is = sym (h .1); handed-is = refl }
 
-  pub counted-as : (n : ℕ) → sound r (length work) (length bodies) (length map-room) ≡ true → n ≡ dropped (r .options) (stateOf r work bodies map-room .known)
-      → DroppedAs r work bodies map-room (record { answer = Done; count = n })
+  pub counted-as : (n : ℕ) → sound asked (length work) (length bodies) (length map-room) ≡ true → n ≡ dropped (asked .options) (stateOf asked work bodies map-room .known)
+      → DroppedAs asked work bodies map-room (record { answer = Done; count = n; filter = f })
   unfolding answerNumber
-  counted-as n e q = let h = counted true e in record { answer-is = sym (h .0); count-is = q ∙ sym (h .1) }
+  counted-as n e q = let h = counted true e in record { answer-is = sym (h .0); count-is = q ∙ sym (h .1); handed-is = refl }

@@ -62,6 +62,9 @@ pub record PushedAs (r : Record) (work bodies : Bytes) (map-room : List ℕ) (ch
   pub written : Wrote (flatten (called r work bodies map-room chunk (length out) .out)) out 0 out′ (x .counts .bytes)
   pub rooms : RoomsAfter (eqb (called r work bodies map-room chunk (length out) .number) 0) (push (r .limits) (r .options) (stateOf r work bodies map-room) chunk .state)
       (recordIn (x .filter)) work bodies map-room work′ bodies′ map-room′
+  -- refused or not, so that the next call finds rooms of the start's lengths; the map room's is told by the state in it
+  pub work-length : length work′ ≡ length work
+  pub bodies-length : length bodies′ ≡ length bodies
 
 -- ---- a start, and the number of dropped identifiers
 
@@ -70,6 +73,8 @@ pub record StartedAs (L : Limits) (o : Options) (map-room : List ℕ) (x : code�
   pub answer-is : answerNumber (x .answer) ≡ started L o map-room .number
   pub handed-is : recordIn (x .filter) ≡ started L o map-room .handed
 
+-- It hands back the record that it was given, refused or not.
 pub record DroppedAs (r : Record) (work bodies : Bytes) (map-room : List ℕ) (x : code″.Dropped) : Type 0 where
   pub answer-is : answerNumber (x .answer) ≡ soundRefusal r (length work) (length bodies) (length map-room)
   pub count-is : x .count ≡ droppedNow r work bodies map-room
+  pub handed-is : recordIn (x .filter) ≡ r

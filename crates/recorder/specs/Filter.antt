@@ -45,15 +45,12 @@ freshRecord L o = record {
 
 -- ---- the struct taken apart
 
-abbrev pub limitsIn : Filter → Limits
-limitsIn f = record { work = f .work; total = f .total; most = f .most }
-
 -- How much is known as a call begins.
 abbrev pub extentOf : Filter → Extent
 extentOf f = record { seen = f .seen; «package_count» = f .«package_count»; «map_count» = f .«map_count»; «fragment_count» = f .«fragment_count»; lost = 0; changed = false }
 
 abbrev pub begunOf : Filter → Begun
-begunOf f = record { limits = limitsIn f; options = f .options; «held_count» = f .«held_count»; extent = extentOf f }
+begunOf f = record { limits = limitsOf (f .work) (f .total) (f .most); options = f .options; «held_count» = f .«held_count»; extent = extentOf f }
 
 -- The record after a call: its limits and options stay.
 abbrev pub handedOf : Begun → CarriedOut → List ℕ → List ℕ → List ℕ → List ℕ → Filter

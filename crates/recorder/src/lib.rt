@@ -10,7 +10,7 @@ ghost use Rattle.meaning.specs.Refusals.{numberOf, answerNumber};
 ghost use Rattle.meaning.specs.Calls.{countsOf};
 ghost use Rattle.meaning.specs.Start.{blank};
 ghost use Rattle.soundness.specs.Parts.{limitsOf};
-ghost use Rattle.recorder.specs.Filter.{recordIn, freshRecord, limitsIn, extentOf, begunOf, handedOf};
+ghost use Rattle.recorder.specs.Filter.{recordIn, freshRecord, extentOf, begunOf, handedOf};
 ghost use Rattle.recorder.specs.Slots.{cleared};
 ghost use Rattle.recorder.specs.Calls.{StartedAs, PushedAs, DroppedAs};
 use crate::call::Begun;
@@ -35,7 +35,8 @@ use soundness::good_fragment_room;
 use soundness::good_map_room;
 use soundness::good_work_room;
 
-// The record, as specs/Record.antt of `meaning` has it. In one that a call hands back unused slots are zero; in one handed in they may hold anything (D9).
+// The record, as specs/Record.antt of `meaning` has it. In one that a start or a push that is not refused hands back, unused slots are zero;
+// in one handed in they may hold anything (D9), and `dropped` leaves them as they are.
 pub struct Filter {
     // The start's limits: the lengths of the work room and of the fragment room, and the most bytes of one message.
     pub work: usize,
@@ -127,16 +128,17 @@ pub struct Pushed {
     pub filter: Filter,
 }
 
-// How many identifiers the rules drop; 0 where the record is refused.
+// How many identifiers the rules drop, 0 where the record is refused, and the record, which is the one given.
 pub struct Dropped {
     pub answer: Answer,
     pub count: u32,
+    pub filter: Filter,
 }
 
 // ---- a record taken apart
 
 fn limits_of(f: Filter) -> Limits
-    ensures { λ r. ⌜ r ≡ limitsIn f ⌝ }
+    ensures { λ r. ⌜ r ≡ limitsOf (f .work) (f .total) (f .most) ⌝ }
 {
     Limits {
         work: f.work,
@@ -314,6 +316,7 @@ impl Filter {
             return Dropped {
                 answer: Answer::Refused(Refusal::Unsound),
                 count: 0,
+                filter: self,
             };
         }
         let o = self.options;
@@ -326,6 +329,7 @@ impl Filter {
         Dropped {
             answer: Answer::Done,
             count: dropped(o, e, &data_set, &packages, &map_heads, map_room),
+            filter: self,
         }
     }
 }

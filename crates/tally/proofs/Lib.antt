@@ -1,3 +1,2 @@
--- Laws that the proofs of the tally and of answers cite.
-pub mod AnswerLaws
+-- Laws that the proofs of the tally cite.
 pub mod TallyLaws

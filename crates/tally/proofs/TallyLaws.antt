@@ -1,5 +1,5 @@
 -- The day tally: when a sum fits a count, that all fit, the refusal and the tally after it in both cases, and that a call has one result.
--- Rests on Push of `meaning` and on AnswerLaws.
+-- Rests on Tally and AnswerLaws of `meaning`.
 use Prim.Native.Nat.{ℕ, _+_, _-_, _^_, _<_, _≤_}
 use mathlib.Core.Path.{_≡_, refl, sym, _∙_}
 use mathlib.Core.Bool.{Bool, true, false}
@@ -11,7 +11,7 @@ use Rattle.meaning.specs.declared.Answer.{Answer}
 use Rattle.meaning.specs.Refusals.{answerNumber}
 use Rattle.meaning.specs.Tally.{addCounts, fits64, tallyRefusal, tallied}
 use Rattle.meaning.proofs.ListLaws.{and-both}
-use Rattle.tally.proofs.AnswerLaws.{answer-told}
+use Rattle.meaning.proofs.AnswerLaws.{answer-told}
 
 -- The room above a count says whether a sum fits.
 pub room-above : (a b : ℕ) → a < 2 ^ 64 → leb b (18446744073709551615 - a) ≡ ltb (a + b) (2 ^ 64)

@@ -5,6 +5,7 @@ ghost use Prim.Native.Nat.{_+_, _^_};
 ghost use lib.Dec.{ltb};
 ghost use Rattle.meaning.specs.Refusals.{answerNumber};
 ghost use Rattle.meaning.specs.Tally.{addCounts, fits64, tallyRefusal, tallied};
+ghost use Rattle.tally.specs.Answers.{TalliedAs};
 use meaning::Answer;
 use meaning::Counts;
 use meaning::Refusal;
@@ -67,7 +68,7 @@ pub fn sum_of(t: Counts, c: Counts) -> Counts
 
 // The lent tally gains the counts; refused, it stays as it was.
 pub fn tally(t: &mut Counts, c: Counts) -> Answer
-    ensures { λ r. ⌜ (now (t .exit) ≡ tallied (now (t .entry)) c) × (answerNumber r ≡ tallyRefusal (now (t .entry)) c) ⌝ }
+    ensures { λ r. ⌜ TalliedAs (now (t .entry)) c (now (t .exit)) r ⌝ }
 {
     let answer = tally_answer(*t, c);
     *t = sum_of(*t, c);

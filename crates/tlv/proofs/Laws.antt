@@ -1,11 +1,11 @@
 -- One law for each return of the readers: what the code's tests show is what the definition says. First finding packets, then the
--- offset of the MMTP, then its header.
+-- header of the MMTP, the parts that are handed back, and the MMTP of a packet.
 use Prim.Native.Nat.{ℕ, zero, suc, _+_, _-_, _*_, _/_, _%_, _≤_, _<_}
 use mathlib.Core.Path.{_≡_, refl, sym, ap, ap₂, _∙_}
 use mathlib.Core.Logic.{_⊎_, inl, inr}
 use mathlib.Core.Bool.{Bool, true, false, cond, _&&_, _||_}
 use mathlib.Core.List.{[]}
-use mathlib.Core.Option.{none, some}
+use mathlib.Core.Option.{Option, none, some, Option·map}
 use native.Mathlib.Decide.{decLt, decLe}
 use native.Mathlib.Omega.{arith}
 use lib.ListN.{length, take, drop, getD, length-drop}
@@ -18,9 +18,10 @@ use Rattle.meaning.specs.Packets.{sizeOf, isType, candidate, followed, stepOf}
 use Rattle.meaning.specs.Mmtp as meant
 use Rattle.meaning.specs.declared.Step.the-variants.{Packet, Skip, Keep}
 use Rattle.meaning.proofs.Reading.{u8-none, u8-some, u16-at, u16-none, u32-at, u32-none, bytes-at, bytes-none, counted16-at, counted16-none}
-use Rattle.tlv.specs.Answers.{asOffset, headerTo, extendedTo, HeaderIs}
+use Rattle.tlv.specs.Answers.{asOffset, headerTo, extendedTo, HeaderIs, Behind, PartIs, PlacedIs, MmtpIs}
 use Rattle.tlv.specs.declared.Header.{Header}
 use Rattle.tlv.specs.declared.Header.the-variants.{Cut}
+use Rattle.tlv.specs.declared.Mmtp as read
 use Rattle.tlv.specs.declared.Offset.{Offset}
 use Rattle.tlv.specs.declared.Offset.the-variants.{Unread, At}
 
@@ -162,10 +163,43 @@ module _ (s : Bytes) (at : ℕ) (long : 12 ≤ length s) (small : getD s 0 0 < 2
             )
           ]
 
--- ---- a part of a slice up to its end
+-- ---- a part of a slice up to its end, which is its rest
 
 pub to-end : (s : Bytes) (n : ℕ) → take (length s - n) (drop n s) ≡ drop n s
 to-end s n = take-all (length s - n) (drop n s) (omega (arith, length-drop n s))
+
+pub rest-from : (s : Bytes) (n start : ℕ) → n ≤ start → start ≤ length s → Behind n s (take (length s - start) (drop start s))
+rest-from s n start l h = record { start = start; least = l; within = h; rest-is = to-end s start }
+
+-- it has at least n bytes less
+pub behind-short : {n : ℕ} {s r : Bytes} → Behind n s r → n + length r ≤ length s
+behind-short {n} {s} {r} b = omega (arith, b .least, b .within, ap length (b .rest-is), length-drop (b .start) s)
+
+-- the rest of a rest
+pub behind-behind : {m n : ℕ} {s t r : Bytes} → Behind m s t → Behind n t r → Behind (m + n) s r
+behind-behind {m} {n} {s} {t} {r} a b =
+    let l : length t ≡ length s - a .start = ap length (a .rest-is) ∙ length-drop (a .start) s in
+    record {
+      start = a .start + b .start;
+      least = omega (arith, a .least, b .least);
+      within = omega (arith, a .within, b .within, l);
+      rest-is = b .rest-is ∙ ap (drop (b .start)) (a .rest-is) ∙ drop-drop (b .start) (a .start) s;
+    }
+
+-- Any two parts that the promise allows are equal.
+pub part-one : (o : Option Bytes) (n : ℕ) (s r q : Bytes) → PartIs o n s r → PartIs o n s q → r ≡ q
+part-one none n s r q a b =
+    let e : a .start ≡ b .start = omega (arith, a .least, a .within, b .least, b .within) in
+    a .rest-is ∙ ap (λ (k : ℕ). drop k s) e ∙ sym (b .rest-is)
+part-one (some y) n s r q a b = a .0 ∙ sym (b .0)
+
+module _ (s : Bytes) where
+  pub part-cut : meant.mmtpHeader s ≡ none → PartIs (Option·map (λ x. x .1) (meant.mmtpHeader s)) 12 s (take (length s - length s) (drop (length s) s))
+  part-cut e = rw e (rest-from s (length s) (length s) (omega arith) (omega arith))
+
+  pub part-read : (start q k : ℕ) → HeaderIs (meant.mmtpHeader s) s (Header.Read start q k)
+      → PartIs (Option·map (λ x. x .1) (meant.mmtpHeader s)) 12 s (take (length s - start) (drop start s))
+  part-read start q k h = rw (h .2) (to-end s start, rest-from s 12 start (h .0) (h .1))
 
 -- ---- an offset out of what the code has
 
@@ -180,6 +214,9 @@ placed-at (some x) at w e = let a : at ≡ x .0 = cc in let b : w ≡ x .1 = cc 
 -- ---- a packet: what is read of it
 
 module _ (p : Bytes) where
+  pub no-mmtp : meant.mmtpOf p ≡ none → PartIs (Option·map (λ m. m .payload) (meant.mmtpOf p)) 16 p (take (length p - length p) (drop (length p) p))
+  no-mmtp e = rw e (rest-from p (length p) (length p) (omega arith) (omega arith))
+
   pub unread-short : length p < 4 → meant.mmtpOf p ≡ none
   unfolding meant.mmtpOf
   unread-short h = rw (lt-leb 4 (length p) h)
@@ -194,18 +231,39 @@ module _ (p : Bytes) where
       unfolding meant.mmtpOf
       unread-past h = rw (le-leb 4 (length p) four, e, lt-leb at (length (drop 4 p)) (omega (arith, length-drop 4 p)))
 
-      pub unread-head : at ≤ length p - 4 → meant.mmtpHeader (drop (at + 4) p) ≡ none → meant.mmtpOf p ≡ none
+      pub placed : at ≤ length p - 4 → PlacedIs p (At (at + 4) w)
       unfolding meant.mmtpOf
-      unread-head h g =
+      placed h =
           let d : drop at (drop 4 p) ≡ drop (at + 4) p = (let q : 4 + at ≡ at + 4 = omega arith in drop-drop at 4 p ∙ ap (λ (n : ℕ). drop n p) q) in
-          rw (le-leb 4 (length p) four, e, le-leb at (length (drop 4 p)) (omega (arith, length-drop 4 p)), d, g)
+          (omega arith, omega arith, rw (le-leb 4 (length p) four, e, le-leb at (length (drop 4 p)) (omega (arith, length-drop 4 p)), d))
 
-      pub read-all : at ≤ length p - 4 → (start i k : ℕ) → meant.mmtpHeader (drop (at + 4) p) ≡ some (record { identifier = i; payload-type = k }, drop start (drop (at + 4) p))
-          → meant.mmtpOf p ≡ some (record { identifier = i; payload-type = k; rewritable = w; payload = drop (at + 4 + start) p })
-      unfolding meant.mmtpOf
-      read-all h start i k g =
-          let d : drop at (drop 4 p) ≡ drop (at + 4) p = (let q : 4 + at ≡ at + 4 = omega arith in drop-drop at 4 p ∙ ap (λ (n : ℕ). drop n p) q) in
-          rw (le-leb 4 (length p) four, e, le-leb at (length (drop 4 p)) (omega (arith, length-drop 4 p)), d, g, drop-drop start (at + 4) p)
+  module _ (at : ℕ) (w : Bool) (g : PlacedIs p (At at w)) where
+    -- the packet from its MMTP on
+    abbrev from-mmtp : Bytes
+    from-mmtp = take (length p - at) (drop at p)
+
+    read-as : meant.mmtpOf p ≡ meant.mmtpFrom w (meant.mmtpHeader from-mmtp)
+    read-as = g .2 ∙ ap (λ (s : Bytes). meant.mmtpFrom w (meant.mmtpHeader s)) (sym (to-end p at))
+
+    pub header-cut : meant.mmtpHeader from-mmtp ≡ none → meant.mmtpOf p ≡ none
+    header-cut e = read-as ∙ ap (meant.mmtpFrom w) e
+
+    pub header-read : (start q k : ℕ) → HeaderIs (meant.mmtpHeader from-mmtp) from-mmtp (Header.Read start q k) → MmtpIs (meant.mmtpOf p) p (read.Mmtp.Read q k w)
+    header-read start q k h = (
+      drop start from-mmtp,
+      behind-behind (rest-from p 4 at (g .0) (g .1)) (record { start = start; least = h .0; within = h .1; rest-is = refl }),
+      read-as ∙ ap (meant.mmtpFrom w) (h .2),
+    )
+
+    -- what is behind the header in that part is so in the packet
+    pub part-in : (r : Bytes) → PartIs (Option·map (λ x. x .1) (meant.mmtpHeader from-mmtp)) 12 from-mmtp r → PartIs (Option·map (λ m. m .payload) (meant.mmtpOf p)) 16 p r
+    part-in r h = rw read-as (go (meant.mmtpHeader from-mmtp) h)
+      where
+        go : (o : Out meant.MmtpHeader) → PartIs (Option·map (λ x. x .1) o) 12 from-mmtp r → PartIs (Option·map (λ m. m .payload) (meant.mmtpFrom w o)) 16 p r
+        go none h =
+            let l : at + length from-mmtp ≡ length p = omega (arith, g .1, ap length (to-end p at), length-drop at p) in
+            rw l at (behind-behind (rest-from p at at (omega arith) (g .1)) h)
+        go (some x) h = (h .0, behind-behind (rest-from p 4 at (g .0) (g .1)) (h .1))
 
 -- ---- a compressed header that is of no known type; a type that is no IP
 

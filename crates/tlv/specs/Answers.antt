@@ -34,8 +34,25 @@ abbrev pub HeaderIs : Out meant.MmtpHeader → Bytes → Header → Type 0
 HeaderIs o s Cut = o ≡ none
 HeaderIs o s (Header.Read start p k) = (12 ≤ start) × (start ≤ length s) × (o ≡ some (record { identifier = p; payload-type = k }, drop start s))
 
+-- r is the rest of s behind n bytes or more: s from `start` on.
+pub record Behind (n : ℕ) (s r : Bytes) : Type 0 where
+  pub start : ℕ
+  pub least : n ≤ start
+  pub within : start ≤ length s
+  pub rest-is : r ≡ drop start s
+
+-- The part that is handed back: what the definition leaves, which is the rest of s behind n bytes or more, or the empty end of s.
+abbrev pub PartIs : Option Bytes → ℕ → Bytes → Bytes → Type 0
+PartIs none n s r = Behind (length s) s r
+PartIs (some y) n s r = (r ≡ y) × Behind n s r
+
+-- Where the MMTP of a packet starts.
+abbrev pub PlacedIs : Bytes → Offset → Type 0
+PlacedIs p Unread = meant.mmtpOf p ≡ none
+PlacedIs p (At at w) = (4 ≤ at) × (at ≤ length p) × (meant.mmtpOf p ≡ meant.mmtpFrom w (meant.mmtpHeader (drop at p)))
+
 -- The MMTP that is read of a packet; its payload is the rest of the packet.
 abbrev pub MmtpIs : Option meant.Mmtp → Bytes → Mmtp → Type 0
 MmtpIs o p Mmtp.Unread = o ≡ none
-MmtpIs o p (Mmtp.Read body q k w) =
-    (16 ≤ body) × (body ≤ length p) × (o ≡ some (record { identifier = q; payload-type = k; rewritable = w; payload = drop body p }))
+MmtpIs o p (Mmtp.Read q k w) =
+    (y : Bytes) × Behind 16 p y × (o ≡ some (record { identifier = q; payload-type = k; rewritable = w; payload = y }))

@@ -1,11 +1,12 @@
 // From a run of bytes to the MMTP payload of a packet: the step that finds packets, the offset of the MMTP, its header.
 ghost use mathlib.Core.Path.{_≡_};
 ghost use mathlib.Core.Bool.{_&&_};
+ghost use mathlib.Core.Option.{Option·map};
 ghost use Prim.Native.Nat.{_+_, _*_, _%_, _≤_, _<_};
 ghost use lib.ListN.{length, drop, getD};
 ghost use Rattle.meaning.specs.Packets.{isType, sizeOf, candidate, followed, stepOf};
 ghost use Rattle.meaning.specs.Mmtp.{compressed, udp, offsetOf, mmtpHeader, mmtpOf};
-ghost use Rattle.tlv.specs.Answers.{asOffset, headerTo, extendedTo, HeaderIs, MmtpIs};
+ghost use Rattle.tlv.specs.Answers.{asOffset, headerTo, extendedTo, HeaderIs, PartIs, PlacedIs, MmtpIs};
 ghost use Rattle.tlv.specs.Gaps.{GapTo};
 use meaning::Step;
 use octets::be16;
@@ -28,11 +29,10 @@ pub enum Header {
     },
 }
 
-// What is read of a packet: where in it the payload starts, and what its header says.
+// What is read of a packet: what its header says, and whether the packet may be rewritten.
 pub enum Mmtp {
     Unread,
     Read {
-        body: usize,
         identifier: u16,
         payload_type: u8,
         rewritable: bool,
@@ -222,42 +222,67 @@ pub fn header_of(s: &[u8]) -> Header
     header_to(s, at)
 }
 
-// The payload: the rest of the caller's bytes.
-pub fn payload_of(s: &[u8], start: usize) -> &[u8]
-    ensures { λ r. ⌜ now r ≡ drop start (now (s .entry)) ⌝ }
+// The payload: what is behind that header, as the rest of the caller's bytes; where the header is cut, their empty end.
+pub fn payload_of(s: &[u8]) -> &[u8]
+    ensures { λ r. ⌜ PartIs (Option·map (λ x. x .1) (mmtpHeader (now (s .entry)))) 12 (now (s .entry)) (now r) ⌝ }
 {
-    if start <= s.len() {
-        return &s[start..];
+    let Header::Read {
+        start,
+        identifier: _,
+        payload_type: _,
+    } = header_of(s)
+    else {
+        let end = s.len();
+        return &s[end..];
+    };
+    &s[start..]
+}
+
+// Where in a packet its MMTP starts, and whether the packet may be rewritten.
+fn mmtp_at(p: &[u8]) -> Offset
+    ensures { λ r. ⌜ PlacedIs (now (p .entry)) r ⌝ }
+{
+    if p.len() < 4 {
+        return Offset::Unread;
     }
-    &s[..0]
+    let Offset::At(at, rewritable) = offset_of(p[1], &p[4..]) else {
+        return Offset::Unread;
+    };
+    if p.len() - 4 < at {
+        return Offset::Unread;
+    }
+    Offset::At(at + 4, rewritable)
 }
 
 // The MMTP of a packet, by its type and its TLV payload.
 pub fn mmtp_of(p: &[u8]) -> Mmtp
     ensures { λ r. ⌜ MmtpIs (mmtpOf (now (p .entry))) (now (p .entry)) r ⌝ }
 {
-    if p.len() < 4 {
-        return Mmtp::Unread;
-    }
-    let Offset::At(at, rewritable) = offset_of(p[1], &p[4..]) else {
+    let Offset::At(at, rewritable) = mmtp_at(p) else {
         return Mmtp::Unread;
     };
-    if p.len() - 4 < at {
-        return Mmtp::Unread;
-    }
-    let mmtp_at = at + 4;
     let Header::Read {
-        start,
+        start: _,
         identifier,
         payload_type,
-    } = header_of(&p[mmtp_at..])
+    } = header_of(&p[at..])
     else {
         return Mmtp::Unread;
     };
     Mmtp::Read {
-        body: mmtp_at + start,
         identifier,
         payload_type,
         rewritable,
     }
+}
+
+// Its payload, as the rest of the packet; where none is read, the packet's empty end.
+pub fn packet_payload(p: &[u8]) -> &[u8]
+    ensures { λ r. ⌜ PartIs (Option·map (λ m. m .payload) (mmtpOf (now (p .entry)))) 16 (now (p .entry)) (now r) ⌝ }
+{
+    let Offset::At(at, _) = mmtp_at(p) else {
+        let end = p.len();
+        return &p[end..];
+    };
+    payload_of(&p[at..])
 }

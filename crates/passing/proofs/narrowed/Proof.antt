@@ -23,7 +23,7 @@ same-length c = search needs
 
 returns : tie.Need-returns
 returns c =
-    let a = c .before .before .before .before .before .before .before .before .before .before .before .before .before .args in
+    let a = c .before .before .before .before .before .before .before .before .before .before .before .before .before .before .args in
     let h = rw (c .before .before .before .before .before .enum-told .given .1) at (c .before .before .before .before .before .before .before .before .before .rewrite .ensures) in
     sent-plain _ (a .p .now) (a .c) _ _ _ _ (h .0) (rw (h .1) at (c .before .before .before .copy .ensures)) (c .sent .ensures)
 
@@ -35,7 +35,7 @@ same-length-2 c = search needs
 
 returns-2 : tie.Need-returns-2
 returns-2 c =
-    let a = c .before .before .before .before .before .before .before .before .before .before .args in
+    let a = c .before .before .before .before .before .before .before .before .before .before .before .args in
     let h = rw (c .before .before .last .given .1) at (c .before .before .before .before .before .before .rewrite .ensures) in
     sent-narrowed _ (a .p .now) (a .c) _ _ _ _ (h .0) (h .1) (h .2) (c .sent2 .ensures)
 

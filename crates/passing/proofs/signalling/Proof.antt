@@ -1,6 +1,6 @@
 use lib.ListN.{length}
 use Rattle.meaning.specs.Push.{pass}
-use Rattle.passing.proofs.SignalLaws.{holding-anew, observer-fits, emitter-fits, signalled, fits-after}
+use Rattle.passing.proofs.SignalLaws.{part-is, holding-anew, observer-fits, emitter-fits, signalled, fits-after}
 use borrow.Author.Needs.{needs}
 use Rattle.passing.proofs.signalling.Statement.{statement}
 use Rattle.passing.proofs.signalling.Tie as tie
@@ -8,8 +8,8 @@ use Rattle.passing.proofs.signalling.Tie as tie
 unchanged-requires : tie.Need-unchanged-requires
 unchanged-requires c κs = search needs
 
-payload-of-requires : tie.Need-payload-of-requires
-payload-of-requires c κs = search needs
+packet-payload-requires : tie.Need-packet-payload-requires
+packet-payload-requires c κs = search needs
 
 observe-requires : tie.Need-observe-requires
 observe-requires c κs =
@@ -17,8 +17,8 @@ observe-requires c κs =
     let a = z .args in
     let x = z .pre .2 in
     let h = x .6 .holding in
-    rw (c .before .before .before .before .before .before .before .unchanged .ensures, c .before .before .before .before .before .before .payload-of .ensures) (
-      observer-fits (a .s .extent .lost) _ (z .pre .0) (z .pre .1 .lost-fit) (rw (h .fragments-kept .total) (h .fragments-kept .total-few)),
+    rw (c .before .before .before .before .before .before .before .unchanged .ensures, part-is _ (z .pre .0 .1) (c .before .before .before .before .before .before .packet-payload .ensures)) (
+      observer-fits (a .s .extent .lost) _ (z .pre .0 .1) (z .pre .1 .lost-fit) (rw (h .fragments-kept .total) (h .fragments-kept .total-few)),
       (x .0 .total, pass (x .0) (a .t .options) (x .1) (x .3) .known, holding-anew h),
     )
 
@@ -33,8 +33,9 @@ refreshed-requires c κs =
 emit-requires : tie.Need-emit-requires
 emit-requires c κs =
     let z = c .before .before .before .before .before .before .before .before .before .before .before .before .before .before .before .before .before .before .before .before .before .before .before .before .before .before .before in
-    let x = emitter-fits (z .args .s) _ (z .pre .0) (z .pre .1) in
-    (z .pre .0, x .0, x .1, x .2, x .3)
+    let h = z .pre .0 .1 in
+    let x = emitter-fits (z .args .s) _ h (z .pre .1) in
+    (rw (part-is _ h (c .before .before .before .before .before .before .before .before .before .before .before .before .before .before .before .before .before .before .before .packet-payload .ensures)) h, x .0, x .1, x .2, x .3)
 
 same-length : tie.Need-same-length
 same-length c = search needs
@@ -50,11 +51,11 @@ returns c =
     let z = c .before .before .before .before .before .before .before .before .before .before .before .before .before .before .before .before .before .before .before .before .before .before .before .before .before .before .before .before .before .before in
     let a = z .args in
     let h = z .pre .2 .6 .holding .fragments-kept in
-    let y = rw (c .before .before .before .before .before .before .before .before .before .before .before .before .before .before .before .before .before .before .before .before .before .before .before .unchanged .ensures, c .before .before .before .before .before .before .before .before .before .before .before .before .before .before .before .before .before .before .before .before .before .before .payload-of .ensures) at (c .before .before .before .before .before .before .before .before .before .before .before .before .before .before .before .observe .ensures) in (
+    let y = rw (c .before .before .before .before .before .before .before .before .before .before .before .before .before .before .before .before .before .before .before .before .before .before .before .unchanged .ensures, part-is _ (z .pre .0 .1) (c .before .before .before .before .before .before .before .before .before .before .before .before .before .before .before .before .before .before .before .before .before .before .packet-payload .ensures)) at (c .before .before .before .before .before .before .before .before .before .before .before .before .before .before .before .observe .ensures) in (
       (λ L k d ps n most f.
-          signalled L (a .t .options) k d ps n (a .s) _ (z .pre .0) f
+          signalled L (a .t .options) k d ps n (a .s) _ (z .pre .0 .1) f
           (y .0 L (pass L (a .t .options) k ps .known) most (holding-anew (f .holding))) (c .before .before .before .before .before .refreshed .ensures) (c .before .before .emit .ensures)),
-      (λ m f. fits-after (a .t .options) (z .pre .0) (a .s) _ _ (a .out .now) _ (length (a .bodies .now)) (c .before .before .emit .ensures) (y .1) (rw (h .total) (h .total-few)) (same-length-3 c) m f),
+      (λ m f. fits-after (a .t .options) (z .pre .0 .1) (a .s) _ _ (a .out .now) _ (length (a .bodies .now)) (c .before .before .emit .ensures) (y .1) (rw (h .total) (h .total-few)) (same-length-3 c) m f),
     )
 
 pub signalling-spec : {M : Type 1} → statement M
@@ -62,7 +63,7 @@ signalling-spec =
     tie.close
     (tie.spec
     unchanged-requires
-    payload-of-requires
+    packet-payload-requires
     observe-requires
     refreshed-requires
     emit-requires

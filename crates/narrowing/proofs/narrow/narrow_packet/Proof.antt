@@ -1,12 +1,9 @@
-use mathlib.Core.Path.{refl, ap, _∙_}
-use Prim.Native.Nat.{_-_}
-use lib.ListN.{length, drop, length-take, length-drop}
+use mathlib.Core.Path.{refl}
+use lib.ListN.{length}
 use native.Mathlib.Omega.{arith}
 use borrow.Author.Tests.{not-true, not-false}
-use Rattle.meaning.specs.Bytes.{Bytes}
-use Rattle.meaning.specs.Narrow.{paMessage, partsOfMessage, changePacket, narrowRefusal}
-use Rattle.narrowing.specs.Answers.{noRows, countedIn}
-use Rattle.narrowing.proofs.AnswerLaws.{not-refused, refused-answer, unchanged-answer, changed-answer, unread-stays, rest-whole, other-payload-type, not-rewritable, packet-stays, packet-changes}
+use Rattle.meaning.specs.Narrow.{changePacket, narrowRefusal}
+use Rattle.narrowing.proofs.AnswerLaws.{not-refused, refused-answer, unchanged-answer, changed-answer, unread-stays, other-payload-type, not-rewritable, payload-short, packet-stays, packet-changes}
 use borrow.Author.Needs.{needs}
 use Rattle.narrowing.proofs.narrow.narrow_packet.Statement.{statement}
 use Rattle.narrowing.proofs.narrow.narrow_packet.Tie as tie
@@ -30,8 +27,8 @@ returns c =
 mmtp-of-requires : tie.Need-mmtp-of-requires
 mmtp-of-requires c κs = search needs
 
-enum-known-body : tie.Need-enum-known-body
-enum-known-body c = search needs
+enum-known-identifier : tie.Need-enum-known-identifier
+enum-known-identifier c = search needs
 
 enum-told : tie.Need-enum-told
 enum-told c = search needs
@@ -55,9 +52,9 @@ returns-3 c =
     let a = c .before .before .before .before .before .before .before .before .before .before .before .args in
     let r = c .before .before .before .before .before .before .before .before .refusal in
     let f = not-refused (length (a .p .now)) (length (a .out .now)) (r .result) (r .ensures) (rw (c .before .before .before .before .before .before .before .is-refused .ensures) at (c .before .before .before .before .before .before .if1 .left)) in
-    let h = rw (c .before .before .before .body .given .1) at (c .before .before .before .before .before .mmtp-of .ensures) in
+    let h = rw (c .before .before .before .identifier .given .1) at (c .before .before .before .before .before .mmtp-of .ensures) in
     unchanged-answer (narrowRefusal (length (a .p .now)) (length (a .out .now))) (changePacket (a .o) (a .p .now)) (a .out .now) _ _ _ _ refl (f .0)
-    (other-payload-type (a .o) (a .p .now) _ _ _ _ h (c .before .if2 .taken)) (c .without-counts3 .ensures)
+    (other-payload-type (a .o) (a .p .now) _ _ _ h (c .before .if2 .taken)) (c .without-counts3 .ensures)
 
 without-counts-requires-4 : tie.Need-without-counts-requires-4
 without-counts-requires-4 c κs = search needs
@@ -67,17 +64,21 @@ returns-4 c =
     let a = c .before .before .before .before .before .before .before .before .before .before .before .before .args in
     let r = c .before .before .before .before .before .before .before .before .before .refusal in
     let f = not-refused (length (a .p .now)) (length (a .out .now)) (r .result) (r .ensures) (rw (c .before .before .before .before .before .before .before .before .is-refused .ensures) at (c .before .before .before .before .before .before .before .if1 .left)) in
-    let h = rw (c .before .before .before .before .body .given .1) at (c .before .before .before .before .before .before .mmtp-of .ensures) in
+    let h = rw (c .before .before .before .before .identifier .given .1) at (c .before .before .before .before .before .before .mmtp-of .ensures) in
     unchanged-answer (narrowRefusal (length (a .p .now)) (length (a .out .now))) (changePacket (a .o) (a .p .now)) (a .out .now) _ _ _ _ refl (f .0)
-    (not-rewritable (a .o) (a .p .now) _ _ _ _ h (not-true _ (c .before .if3 .taken))) (c .without-counts4 .ensures)
+    (not-rewritable (a .o) (a .p .now) _ _ _ h (not-true _ (c .before .if3 .taken))) (c .without-counts4 .ensures)
+
+packet-payload-requires : tie.Need-packet-payload-requires
+packet-payload-requires c κs = search needs
 
 narrowed-to-requires : tie.Need-narrowed-to-requires
 narrowed-to-requires c κs =
-    let a = c .before .before .before .before .before .before .before .before .before .before .before .before .args in
-    let r = c .before .before .before .before .before .before .before .before .before .refusal in
-    let f = not-refused (length (a .p .now)) (length (a .out .now)) (r .result) (r .ensures) (rw (c .before .before .before .before .before .before .before .before .is-refused .ensures) at (c .before .before .before .before .before .before .before .if1 .left)) in
-    let h = rw (c .before .before .before .before .body .given .1) at (c .before .before .before .before .before .before .mmtp-of .ensures) in
-    (omega (arith, h .0), h .1, omega (arith, f .2))
+    let a = c .before .before .before .before .before .before .before .before .before .before .before .before .before .args in
+    let r = c .before .before .before .before .before .before .before .before .before .before .refusal in
+    let f = not-refused (length (a .p .now)) (length (a .out .now)) (r .result) (r .ensures) (rw (c .before .before .before .before .before .before .before .before .before .is-refused .ensures) at (c .before .before .before .before .before .before .before .before .if1 .left)) in
+    let h = rw (c .before .before .before .before .before .identifier .given .1) at (c .before .before .before .before .before .before .before .mmtp-of .ensures) in
+    let s = payload-short (a .o) (a .p .now) _ _ _ h _ (c .before .packet-payload .ensures) in
+    (omega (arith, s), omega (arith, f .2))
 
 enum-known-n : tie.Need-enum-known-n
 enum-known-n c = search needs
@@ -93,30 +94,21 @@ same-length c = search needs
 
 returns-5 : tie.Need-returns-5
 returns-5 c =
-    let a = c .before .before .before .before .before .before .before .before .before .before .before .before .before .before .before .before .before .before .args in
-    let r = c .before .before .before .before .before .before .before .before .before .before .before .before .before .before .before .refusal in
-    let f = not-refused (length (a .p .now)) (length (a .out .now)) (r .result) (r .ensures) (rw (c .before .before .before .before .before .before .before .before .before .before .before .before .before .before .is-refused .ensures) at (c .before .before .before .before .before .before .before .before .before .before .before .before .before .if1 .left)) in
-    let h = rw (c .before .before .before .before .before .before .before .before .before .before .body .given .1) at (c .before .before .before .before .before .before .before .before .before .before .before .before .mmtp-of .ensures) in
+    let a = c .before .before .before .before .before .before .before .before .before .before .before .before .before .before .before .before .before .before .before .args in
+    let r = c .before .before .before .before .before .before .before .before .before .before .before .before .before .before .before .before .refusal in
+    let f = not-refused (length (a .p .now)) (length (a .out .now)) (r .result) (r .ensures) (rw (c .before .before .before .before .before .before .before .before .before .before .before .before .before .before .before .is-refused .ensures) at (c .before .before .before .before .before .before .before .before .before .before .before .before .before .before .if1 .left)) in
+    let h = rw (c .before .before .before .before .before .before .before .before .before .before .before .identifier .given .1) at (c .before .before .before .before .before .before .before .before .before .before .before .before .before .mmtp-of .ensures) in
     let k = rw (c .before .enum-told2 .given .1) at (c .before .before .before .before .before .narrowed-to .ensures) in
     unchanged-answer (narrowRefusal (length (a .p .now)) (length (a .out .now))) (changePacket (a .o) (a .p .now)) (a .out .now) _ _ _ _ (k .1) (f .0)
-    (packet-stays (a .o) (a .p .now) _ _ _ _ h (c .before .before .before .before .before .before .before .before .if2 .left) (not-false _ (c .before .before .before .before .before .before .before .if3 .left)) (k .0)) (c .without-counts5 .ensures)
-
-sub-count-payload : tie.Need-sub-count-payload
-sub-count-payload c = let h = rw (c .before .before .before .before .before .before .before .before .before .before .body .given .1) at (c .before .before .before .before .before .before .before .before .before .before .before .before .mmtp-of .ensures) in h .1
-
-part-count-payload-start : tie.Need-part-count-payload-start
-part-count-payload-start c = let h = rw (c .before .before .before .before .before .before .before .before .before .before .body .given .1) at (c .before .before .before .before .before .before .before .before .before .before .before .before .mmtp-of .ensures) in omega (arith, h .1)
-
-part-count-payload-end : tie.Need-part-count-payload-end
-part-count-payload-end c = search needs
+    (packet-stays (a .o) (a .p .now) _ _ _ h _ (c .before .before .before .before .before .before .before .packet-payload .ensures) (c .before .before .before .before .before .before .before .before .before .if2 .left) (not-false _ (c .before .before .before .before .before .before .before .before .if3 .left)) (k .0)) (c .without-counts5 .ensures)
 
 count-payload-requires : tie.Need-count-payload-requires
 count-payload-requires c κs =
     let a = c .before .before .before .before .before .before .before .before .before .before .before .before .before .before .before .before .before .before .before .args in
     let r = c .before .before .before .before .before .before .before .before .before .before .before .before .before .before .before .before .refusal in
     let f = not-refused (length (a .p .now)) (length (a .out .now)) (r .result) (r .ensures) (rw (c .before .before .before .before .before .before .before .before .before .before .before .before .before .before .before .is-refused .ensures) at (c .before .before .before .before .before .before .before .before .before .before .before .before .before .before .if1 .left)) in
-    let b = c .before .before .before .before .before .before .before .before .before .before .before .body .given .0 .0 in
-    omega (arith, length-take (length (a .p .now) - b) (drop b (a .p .now)), length-drop b (a .p .now), f .1)
+    let h = rw (c .before .before .before .before .before .before .before .before .before .before .before .identifier .given .1) at (c .before .before .before .before .before .before .before .before .before .before .before .before .before .mmtp-of .ensures) in
+    omega (arith, payload-short (a .o) (a .p .now) _ _ _ h _ (c .before .before .before .before .before .before .before .packet-payload .ensures), f .1)
 
 answer-of-requires : tie.Need-answer-of-requires
 answer-of-requires c κs = search needs
@@ -129,12 +121,11 @@ returns-6 c =
     let a = c .before .before .before .before .before .before .before .before .before .before .before .before .before .before .before .before .before .before .before .before .before .args in
     let r = c .before .before .before .before .before .before .before .before .before .before .before .before .before .before .before .before .before .before .refusal in
     let f = not-refused (length (a .p .now)) (length (a .out .now)) (r .result) (r .ensures) (rw (c .before .before .before .before .before .before .before .before .before .before .before .before .before .before .before .before .before .is-refused .ensures) at (c .before .before .before .before .before .before .before .before .before .before .before .before .before .before .before .before .if1 .left)) in
-    let h = rw (c .before .before .before .before .before .before .before .before .before .before .before .before .before .body .given .1) at (c .before .before .before .before .before .before .before .before .before .before .before .before .before .before .before .mmtp-of .ensures) in
-    let k = rw (c .before .before .before .before .n .given .1) at (c .before .before .before .before .before .before .before .before .narrowed-to .ensures) in
+    let h = rw (c .before .before .before .before .before .before .before .before .before .before .before .before .before .identifier .given .1) at (c .before .before .before .before .before .before .before .before .before .before .before .before .before .before .before .mmtp-of .ensures) in
+    let k = rw (c .before .before .before .n .given .1) at (c .before .before .before .before .before .before .before .narrowed-to .ensures) in
     changed-answer (narrowRefusal (length (a .p .now)) (length (a .out .now))) (changePacket (a .o) (a .p .now)) (a .out .now) _ _ _ _ _ _ (a .o) _ (k .0) (f .0)
-    (packet-changes (a .o) (a .p .now) _ _ _ _ h (c .before .before .before .before .before .before .before .before .before .before .before .if2 .left) (not-false _ (c .before .before .before .before .before .before .before .before .before .before .if3 .left)) (k .0) (k .1)) (k .2)
-    (c .before .count-payload .ensures ∙ ap (λ (z : Bytes). countedIn (a .o) noRows (partsOfMessage (paMessage z))) (rest-whole (a .p .now) (c .before .before .before .before .before .before .before .before .before .before .before .before .before .body .given .0 .0)))
-    (c .answer-of .ensures)
+    (packet-changes (a .o) (a .p .now) _ _ _ h _ (c .before .before .before .before .before .before .before .before .before .packet-payload .ensures) (c .before .before .before .before .before .before .before .before .before .before .before .if2 .left) (not-false _ (c .before .before .before .before .before .before .before .before .before .before .if3 .left)) (k .0) (k .1)) (k .2)
+    (c .before .count-payload .ensures) (c .answer-of .ensures)
 
 pub narrow-packet-spec : {M : Type 1} → statement M
 narrow-packet-spec =
@@ -145,7 +136,7 @@ narrow-packet-spec =
     without-counts-requires
     returns
     mmtp-of-requires
-    enum-known-body
+    enum-known-identifier
     enum-told
     without-counts-requires-2
     returns-2
@@ -153,15 +144,13 @@ narrow-packet-spec =
     returns-3
     without-counts-requires-4
     returns-4
+    packet-payload-requires
     narrowed-to-requires
     enum-known-n
     enum-told-2
     without-counts-requires-5
     same-length
     returns-5
-    sub-count-payload
-    part-count-payload-start
-    part-count-payload-end
     count-payload-requires
     answer-of-requires
     same-length-2

@@ -1,18 +1,11 @@
+use Prim.Native.Nat.{_-_}
 use mathlib.Core.Path.{refl}
 use native.Mathlib.Omega.{arith}
+use lib.ListN.{length}
 use Rattle.narrowing.proofs.FoundLaws.{front-long, payload-room, packet-stays, packet-rewritten}
 use borrow.Author.Needs.{needs}
 use Rattle.narrowing.proofs.narrow.narrowed_to.Statement.{statement}
 use Rattle.narrowing.proofs.narrow.narrowed_to.Tie as tie
-
-sub-payload : tie.Need-sub-payload
-sub-payload c = search needs
-
-part-payload-start : tie.Need-part-payload-start
-part-payload-start c = search needs
-
-part-payload-end : tie.Need-part-payload-end
-part-payload-end c = search needs
 
 changed-pa-requires : tie.Need-changed-pa-requires
 changed-pa-requires c κs = search needs
@@ -26,7 +19,10 @@ enum-told c = search needs
 returns : tie.Need-returns
 returns c =
     let a = c .before .before .before .before .before .before .args in
-    (packet-stays (a .o) (a .pid) (a .p .now) (a .body) (rw (c .enum-told .given .1) at (c .before .before .changed-pa .ensures)), refl)
+    (packet-stays (a .o) (a .pid) (a .p .now) (a .payload .now) (rw (c .enum-told .given .1) at (c .before .before .changed-pa .ensures)), refl)
+
+sub-front : tie.Need-sub-front
+sub-front c = search needs
 
 sub-copy : tie.Need-sub-copy
 sub-copy c = search needs
@@ -46,7 +42,7 @@ payload-to-requires c κs =
     let a = z .args in
     let k = rw (c .before .before .before .before .before .before .before .end .given .1) at (c .before .before .before .before .before .before .before .before .before .changed-pa .ensures) in
     let u = c .before .before .before .copy in
-    (k .0, payload-room (a .p .now) (a .body) (z .pre .1) (u .ensures) _ _ (k .0) (z .pre .2) (u .kept .1 .0))
+    (k .0, payload-room (a .p .now) (a .payload .now) (z .pre .0) (u .ensures) _ _ (k .0) (z .pre .1) (u .kept .1 .0))
 
 add-put16 : tie.Need-add-put16
 add-put16 c = search needs
@@ -56,14 +52,14 @@ sub-put16 c =
     let z = c .before .before .before .before .before .before .before .before .before .before .before .before .before .before .before .before .before in
     let a = z .args in
     let k = rw (c .before .before .before .before .before .before .before .before .before .before .before .end .given .1) at (c .before .before .before .before .before .before .before .before .before .before .before .before .before .changed-pa .ensures) in
-    omega (arith, c .before .before .before .before .before .before .before .copy .ensures .end, c .before .before .before .payload-to .ensures (k .0) .end, front-long (a .p .now) (a .body) (z .pre .1))
+    omega (arith, c .before .before .before .before .before .before .before .copy .ensures .end, c .before .before .before .payload-to .ensures (k .0) .end, front-long (a .p .now) (length (a .p .now) - length (a .payload .now)) (omega (arith, z .pre .0)))
 
 sub-put16-2 : tie.Need-sub-put16-2
 sub-put16-2 c =
     let z = c .before .before .before .before .before .before .before .before .before .before .before .before .before .before .before .before .before in
     let a = z .args in
     let k = rw (c .before .before .before .before .before .before .before .before .before .before .before .end .given .1) at (c .before .before .before .before .before .before .before .before .before .before .before .before .before .changed-pa .ensures) in
-    omega (arith, z .pre .0, c .before .before .before .before .before .before .before .copy .ensures .end, c .before .before .before .payload-to .ensures (k .0) .end, front-long (a .p .now) (a .body) (z .pre .1))
+    omega (arith, z .pre .0, c .before .before .before .before .before .before .before .copy .ensures .end, c .before .before .before .payload-to .ensures (k .0) .end, front-long (a .p .now) (length (a .p .now) - length (a .payload .now)) (omega (arith, z .pre .0)))
 
 put16-requires : tie.Need-put16-requires
 put16-requires c κs = search needs
@@ -76,20 +72,18 @@ returns-2 c =
     let z = c .before .before .before .before .before .before .before .before .before .before .before .before .before .before .before .before .before .before .before .before in
     let a = z .args in
     let k = rw (c .before .before .before .before .before .before .before .before .before .before .before .before .before .before .end .given .1) at (c .before .before .before .before .before .before .before .before .before .before .before .before .before .before .before .before .changed-pa .ensures) in
-    packet-rewritten (a .o) (a .pid) (a .p .now) (a .body) (z .pre .0) (z .pre .1) _ _ k (omega (arith, z .pre .2)) (c .before .before .before .before .before .before .before .before .before .before .copy .ensures)
-    (c .before .before .before .before .before .before .payload-to .ensures (k .0)) (c .before .before .put16 .ensures)
+    packet-rewritten (a .o) (a .pid) (a .p .now) (a .payload .now) (z .pre .0) _ _ k (omega (arith, z .pre .1)) (c .before .before .before .before .before .before .before .before .before .before .copy .ensures) (c .before .before .before .before .before .before .payload-to .ensures (k .0))
+    (c .before .before .put16 .ensures)
 
 pub narrowed-to-spec : {M : Type 1} → statement M
 narrowed-to-spec =
     tie.close
     (tie.spec
-    sub-payload
-    part-payload-start
-    part-payload-end
     changed-pa-requires
     enum-known-end
     enum-told
     returns
+    sub-front
     sub-copy
     part-copy-start
     part-copy-end

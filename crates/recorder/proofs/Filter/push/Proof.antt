@@ -73,7 +73,8 @@ returns-2 c =
     let u = c .before .before .before .before .before .before .before .before .before .before .before .before .before .before .before .before .before .before .before .clear-unused .ensures in
     rw (c .hand-back .ensures, b)
     (done-as (a .self) (a .work .now) (a .bodies .now) (a .map-room .now) (a .chunk .now) (a .out .now) (c .before .before .before .before .before .before .before .before .before .before .before .before .before .before .before .before .before .before .before .before .before .before .before .before .before .before .call-answer .result) (rw (b, c .before .before .before .before .before .before .before .before .before .before .before .before .before .before .before .before .before .before .before .before .before .before .before .before .before .before .before .before .before .before .before .before .before .lengths .ensures) at (c .before .before .before .before .before .before .before .before .before .before .before .before .before .before .before .before .before .before .before .before .before .before .before .before .before .before .call-answer .ensures)) all
-    (sym (c .before .before .before .before .before .before .before .before .before .before .before .before .before .before .before .before .before .before .before .before .before .before .before .before .before .is-done .ensures) ∙ not-false _ (c .before .before .before .before .before .before .before .before .before .before .before .before .before .before .before .before .before .before .before .before .before .before .before .before .if1 .left)) (c .before .before .before .before .before .before .before .before .before .carry-out .result) _ _ _ _ _ _ _ _ (rw (u .0, u .1, u .2, b) at (c .before .before .before .before .before .before .before .before .before .carry-out .ensures)))
+    (sym (c .before .before .before .before .before .before .before .before .before .before .before .before .before .before .before .before .before .before .before .before .before .before .before .before .before .is-done .ensures) ∙ not-false _ (c .before .before .before .before .before .before .before .before .before .before .before .before .before .before .before .before .before .before .before .before .before .before .before .before .if1 .left)) (c .before .before .before .before .before .before .before .before .before .carry-out .result) _ _ _ _ _ _ _ _ (rw (u .0, u .1, u .2, b) at (c .before .before .before .before .before .before .before .before .before .carry-out .ensures))
+    (search needs))
 
 pub push-spec : {M : Type 1} → statement M
 push-spec = tie.close (tie.spec begun-requires lengths-requires call-answer-requires is-done-requires not-pushed-requires returns clear-unused-requires carry-out-requires hand-back-requires same-length same-length-2 same-length-3 same-length-4 returns-2)
