@@ -1,18 +1,21 @@
--- Numbers as text: how long they are, and that a digit stands alone or behind those of a tenth. Rests on what was written (Writes of
--- `meaning`).
+-- Numbers as text: how long they are, and that a digit stands alone or behind those of a tenth; which line is the last. Rests on what was
+-- written (Writes of `meaning`).
 use Prim.Native.Nat.{ℕ, zero, suc, _+_, _-_, _/_, _%_, _≤_, _<_}
 use mathlib.Core.Path.{_≡_, refl, ap}
 use mathlib.Core.Bool.{Bool, true, false, cond}
 use mathlib.Core.List.{[], _∷_, _++_}
 use native.Mathlib.Omega.{arith}
 use lib.ListN.{length, length-append}
-use lib.Dec.{ltb}
+use lib.Dec.{eqb, ltb}
 use borrow.Author.Tests.{lt-ltb, le-ltb}
 use Rattle.meaning.specs.Bytes.{Bytes}
 use Rattle.meaning.specs.Writing.{Wrote}
-use Rattle.meaning.specs.Programs.{digits, item, Sums, sumsLine}
+use Rattle.meaning.specs.Refusals.{answerNumber}
+use Rattle.meaning.specs.Programs.{digits, item, refusedLine, sumsLine}
 use Rattle.meaning.specs.declared.Counts.{Counts}
 use Rattle.meaning.proofs.Writes.{wrote-none, wrote-then}
+use Rattle.programs.specs.declared.lines.Ending.{Ending}
+use Rattle.programs.specs.Lines.{lastLine}
 pub use Rattle.meaning.proofs.Writes.{wrote-within}
 
 pub no-digits : (most n : ℕ) → most ≡ 0 → digits most n ≡ []
@@ -75,8 +78,25 @@ pub sums-put : (c : Counts) (held-count : ℕ) {d d₁ d₂ d₃ d₄ d₅ d₆ 
     → Wrote (0x20 ∷ item (0x68 ∷ 0x65 ∷ 0x6C ∷ 0x64 ∷ []) held-count) d₄ r₄ d₅ r₅
     → Wrote (0x20 ∷ item (0x6C ∷ 0x6F ∷ 0x73 ∷ 0x74 ∷ []) (c .lost)) d₅ r₅ d₆ r₆
     → Wrote (0x0A ∷ []) d₆ r₆ d₇ r₇
-    → (r₇ ≤ length d₇) × ((s : Sums) → s .counts ≡ c → length (s .state .held) ≡ held-count → Wrote (sumsLine s) d 0 d₇ r₇)
+    → Wrote (sumsLine c held-count) d 0 d₇ r₇
 unfolding sumsLine
-sums-put c held-count p w x k h l n =
-    let u = wrote-then (wrote-then (wrote-then (wrote-then (wrote-then (wrote-then p w) x) k) h) l) n in
-    (wrote-within u, λ s e q. rw (e, q) u)
+sums-put c held-count p w x k h l n = wrote-then (wrote-then (wrote-then (wrote-then (wrote-then (wrote-then p w) x) k) h) l) n
+
+-- ---- the last line
+
+module _ (e : Ending) (writes : Bool) where
+  pub last-failed : e .failed ≡ true → lastLine e writes ≡ []
+  unfolding lastLine
+  last-failed f = rw f
+
+  pub last-refused : e .failed ≡ false → eqb (answerNumber (e .answer)) 0 ≡ false → lastLine e writes ≡ refusedLine (answerNumber (e .answer))
+  unfolding lastLine
+  last-refused f a = rw (f, a)
+
+  pub last-written : e .failed ≡ false → eqb (answerNumber (e .answer)) 0 ≡ true → writes ≡ true → lastLine e writes ≡ []
+  unfolding lastLine
+  last-written f a w = rw (f, a, w)
+
+  pub last-sums : e .failed ≡ false → eqb (answerNumber (e .answer)) 0 ≡ true → writes ≡ false → lastLine e writes ≡ sumsLine (e .sums) (e .«held_count»)
+  unfolding lastLine
+  last-sums f a w = rw (f, a, w)

@@ -1,13 +1,16 @@
-// What the head of an input asks for, and the number of what is answered. Over `optionsOf` of `meaning`, specs/Programs.antt, and
-// `answerNumber` of its specs/Refusals.antt.
+// What the head of an input, its first three bytes, asks for, and the number of what is answered. Over `inputRefused` and `inputOptions`
+// of `meaning`, specs/Programs.antt, and `answerNumber` of its specs/Refusals.antt.
 ghost use mathlib.Core.Path.{_≡_};
 ghost use Prim.Native.Nat.{_/_, _%_};
+ghost use lib.Dec.{eqb};
 ghost use Rattle.meaning.specs.Refusals.{numberOf, answerNumber};
 ghost use Rattle.meaning.specs.Programs.{serviceIf, optionsOf};
+ghost use Rattle.programs.specs.Asked.{askedOf};
 use meaning::Answer;
 use meaning::Options;
 use meaning::Refusal;
 use meaning::Service;
+use octets::id16;
 
 fn service_of(flags: u8, service: u16) -> Service
     ensures { λ r. ⌜ r ≡ serviceIf (flags / 8 % 2) service ⌝ }
@@ -28,6 +31,25 @@ pub fn options_of(flags: u8, service: u16) -> Options
         carousel: flags / 2 % 2 == 1,
         eit: flags / 4 % 2 == 1,
     }
+}
+
+// What a head asks for; nothing where it is too short, or a flag is set that nothing is named by.
+pub enum Asked {
+    For(Options),
+    Nothing,
+}
+
+// A head, or any input: what comes behind the third byte does not matter.
+pub fn asked_of(head: &[u8]) -> Asked
+    ensures { λ r. ⌜ r ≡ askedOf (now (head .entry)) ⌝ }
+{
+    if head.len() < 3 {
+        return Asked::Nothing;
+    }
+    if 15 < head[0] {
+        return Asked::Nothing;
+    }
+    Asked::For(options_of(head[0], id16(head, 1)))
 }
 
 // The number of a refusal.
@@ -54,4 +76,11 @@ pub fn answer_number(a: Answer) -> u8
         Answer::Done => 0,
         Answer::Refused(r) => number_of(r),
     }
+}
+
+// Whether an answer is no refusal.
+pub fn is_done(a: Answer) -> bool
+    ensures { λ r. ⌜ r ≡ eqb (answerNumber a) 0 ⌝ }
+{
+    answer_number(a) == 0
 }

@@ -1,11 +1,15 @@
-// The lines that the programs print: a refusal's, and that of the sums. Over `refusedLine` and `sumsLine` of `meaning`,
-// specs/Programs.antt.
+// The lines that the programs print: a refusal's, and that of the sums; and which of them a program ends with. Over `refusedLine` and
+// `sumsLine` of `meaning`, specs/Programs.antt.
 ghost use mathlib.Core.Path.{_≡_};
 ghost use Prim.Native.Nat.{_+_, _≤_, _<_};
 ghost use mathlib.Core.List.{_∷_};
 ghost use lib.ListN.{length};
 ghost use Rattle.meaning.specs.Writing.{Wrote};
-ghost use Rattle.meaning.specs.Programs.{digits, item, refusedLine, Sums, sumsLine};
+ghost use Rattle.meaning.specs.Programs.{digits, item, refusedLine, sumsLine};
+ghost use Rattle.programs.specs.Lines.{lastLine};
+use crate::asked::answer_number;
+use crate::asked::is_done;
+use meaning::Answer;
 use meaning::Counts;
 use octets::copy;
 use octets::put8;
@@ -64,7 +68,7 @@ pub fn put_refused(number: u8, out: &mut [u8]) -> usize
 // Writes the line of the sums; answers its length.
 pub fn put_sums(c: Counts, held_count: usize, out: &mut [u8]) -> usize
     requires { ⌜ 170 ≤ length (now out) ⌝ }
-    ensures { λ r. ⌜ (r ≤ length (now (out .exit))) × ((s : Sums) → s .counts ≡ c → length (s .state .held) ≡ «held_count» → Wrote (sumsLine s) (now (out .entry)) 0 (now (out .exit)) r) ⌝ }
+    ensures { λ r. ⌜ Wrote (sumsLine c «held_count») (now (out .entry)) 0 (now (out .exit)) r ⌝ }
 {
     let a = put_item(b"packets", c.accepted, out, 0);
     let b = put_next(b"written", c.written, out, a);
@@ -73,4 +77,31 @@ pub fn put_sums(c: Counts, held_count: usize, out: &mut [u8]) -> usize
     let f = put_next(b"held", held_count, out, e);
     let g = put_next(b"lost", c.lost, out, f);
     put8(out, g, 10)
+}
+
+// What is left of an input to be told: whether a read or a write failed, the answer, the sums, and how many bytes are held.
+pub struct Ending {
+    pub failed: bool,
+    pub answer: Answer,
+    pub sums: Counts,
+    pub held_count: usize,
+}
+
+// Writes the last line of a program that writes the stream, or of one that does not; answers its length, 0 where there is none.
+pub fn put_last(e: Ending, writes: bool, out: &mut [u8]) -> usize
+    requires { ⌜ 170 ≤ length (now out) ⌝ }
+    ensures { λ r. ⌜ Wrote (lastLine e writes) (now (out .entry)) 0 (now (out .exit)) r ⌝ }
+{
+    if e.failed {
+        return 0;
+    }
+    let a = e.answer;
+    if !is_done(a) {
+        return put_refused(answer_number(a), out);
+    }
+    if writes {
+        return 0;
+    }
+    let sums = e.sums;
+    put_sums(sums, e.held_count, out)
 }

@@ -1,16 +1,22 @@
 // A whole input: 01, the paragraph after the examples. Standard input has a flag byte, a service and a stream; the filtered stream is
-// written, or a line of sums, or the line of a refusal. No contract can say which bytes are read or written: these functions are
-// proved safe and ending, and what they call keeps its promises. A read or a write that fails ends the program; `pipe` tells it.
+// written, or a line of sums, or the line of a refusal. No contract can say which bytes are read or written. All else is promised:
+// whatever was read, sums, record, rooms and last line are the definition's for it. A read or a write that fails ends the program.
 ghost use mathlib.Core.Path.{_≡_};
-ghost use Prim.Native.Nat.{_≤_};
+ghost use mathlib.Core.Bool.{false};
+ghost use mathlib.Core.List.{List};
 ghost use lib.ListN.{length};
-use crate::asked::answer_number;
-use crate::asked::options_of;
-use crate::lines::put_refused;
-use crate::lines::put_sums;
+ghost use Rattle.meaning.specs.Bytes.{Bytes};
+ghost use Rattle.meaning.specs.Refusals.{answerNumber};
+ghost use Rattle.meaning.specs.Calls.{countsOf};
+ghost use Rattle.recorder.specs.Filter.{recordIn};
+ghost use Rattle.programs.specs.Stream.{firstOf, TakenAs, goesOn, endedAs, MayPass, Goes, Rooms, Come, endingOf, unaskedAs, Ran};
+use crate::asked::Asked;
+use crate::asked::asked_of;
+use crate::asked::is_done;
+use crate::lines::Ending;
+use crate::lines::put_last;
 use crate::pipe::Filled;
 use crate::pipe::bytes_of;
-use crate::pipe::close_output;
 use crate::pipe::fill;
 use crate::pipe::write_all;
 use crate::pipe::write_last;
@@ -18,7 +24,6 @@ use meaning::Answer;
 use meaning::Counts;
 use meaning::Options;
 use meaning::Refusal;
-use octets::id16;
 use recorder::Filter;
 use recorder::start;
 use tally::sum_of;
@@ -31,69 +36,64 @@ const ROOM: usize = 65536;
 
 const MAP_ROOM: usize = 32768;
 
-// How far a stream has come: what was answered last, whether a read or a write failed, the sums, and the record to go on with.
+// ---- one chunk
+
+// How far a stream has come: what was answered last, whether a read or a write failed, how many bytes the last call wrote, the sums, and
+// the record to go on with.
 pub struct Standing {
     pub answer: Answer,
     pub failed: bool,
+    pub bytes: usize,
     pub sums: Counts,
     pub filter: Filter,
 }
 
-// What the head of the input asks for. Nothing: there is none, or none that can be asked for. Failed: a read failed.
-enum Head {
-    Asks(Options),
-    Nothing,
-    Failed,
-}
-
-fn read_head() -> Head {
-    let mut head = [0u8; 3];
-    let came = fill(&mut head);
-    let Filled::Bytes(n) = came else {
-        return Head::Failed;
-    };
-    if n != 3 {
-        return Head::Nothing;
-    }
-    if 15 < head[0] {
-        return Head::Nothing;
-    }
-    Head::Asks(options_of(head[0], id16(&head, 1)))
-}
-
-fn is_done(a: Answer) -> bool {
-    answer_number(a) == 0
-}
-
-fn print_refused(a: Answer) {
-    let mut line = [0u8; 29];
-    let n = put_refused(answer_number(a), &mut line);
-    write_last(&line[0..n]);
-}
-
-fn print_sums(sums: Counts, held_count: usize) {
-    let mut line = [0u8; 170];
-    let n = put_sums(sums, held_count, &mut line);
-    write_last(&line[0..n]);
-}
-
 // The first refusal of two answers.
-fn first_of(a: Answer, b: Answer) -> Answer {
+fn first_of(a: Answer, b: Answer) -> Answer
+    ensures { λ r. ⌜ answerNumber r ≡ firstOf (answerNumber a) (answerNumber b) ⌝ }
+{
     if is_done(a) {
         return b;
     }
     a
 }
 
+// One chunk, without writing what goes on: the call, and its counts added. A refused call has none.
+fn take_in(
+    f: Filter,
+    sums: Counts,
+    chunk: &[u8],
+    work: &mut [u8],
+    bodies: &mut [u8],
+    map_room: &mut [u16],
+    out: &mut [u8],
+) -> Standing
+    ensures { λ r. ⌜ TakenAs (recordIn f) sums (now (work .entry)) (now (bodies .entry)) (now («map_room» .entry)) (now (chunk .entry)) (now (out .entry)) r (now (work .exit)) (now (bodies .exit)) (now («map_room» .exit)) (now (out .exit)) ⌝ }
+{
+    let p = f.push(chunk, work, bodies, map_room, out);
+    let c = p.counts;
+    let a = p.answer;
+    let filter = p.filter;
+    Standing {
+        answer: first_of(a, tally_answer(sums, c)),
+        failed: false,
+        bytes: c.bytes,
+        sums: sum_of(sums, c),
+        filter,
+    }
+}
+
 // Writes the bytes where that is asked for; answers whether a write failed.
-fn unwritten(writes: bool, bytes: &[u8]) -> bool {
+fn unwritten(writes: bool, bytes: &[u8]) -> bool
+    ensures { λ r. ⌜ (writes ≡ false → r ≡ false) ⌝ }
+{
     if !writes {
         return false;
     }
     !write_all(bytes)
 }
 
-// One chunk: its bytes are written where that is asked for, and its counts are added. A refused call has neither.
+// One chunk; what goes on is written where that is asked for.
 fn one_chunk(
     f: Filter,
     sums: Counts,
@@ -103,24 +103,22 @@ fn one_chunk(
     bodies: &mut [u8],
     map_room: &mut [u16],
     out: &mut [u8],
-) -> Standing {
-    let p = f.push(chunk, work, bodies, map_room, out);
-    let c = p.counts;
-    let n = c.bytes;
+) -> Standing
+    ensures { λ r. ⌜ TakenAs (recordIn f) sums (now (work .entry)) (now (bodies .entry)) (now («map_room» .entry)) (now (chunk .entry)) (now (out .entry)) r (now (work .exit)) (now (bodies .exit)) (now («map_room» .exit)) (now (out .exit)) × (writes ≡ false → r .failed ≡ false) ⌝ }
+{
+    let mut x = take_in(f, sums, chunk, work, bodies, map_room, out);
+    let n = x.bytes;
     let failed = unwritten(writes, &out[0..n]);
-    let a = p.answer;
-    let answer = first_of(a, tally_answer(sums, c));
-    let filter = p.filter;
-    Standing {
-        answer,
-        failed,
-        sums: sum_of(sums, c),
-        filter,
-    }
+    x.failed = failed;
+    x
 }
 
+// ---- all chunks
+
 // Whether nothing was refused and nothing failed.
-fn goes_on(x: Standing) -> bool {
+fn goes_on(x: Standing) -> bool
+    ensures { λ r. ⌜ r ≡ goesOn x ⌝ }
+{
     if x.failed {
         return false;
     }
@@ -129,7 +127,9 @@ fn goes_on(x: Standing) -> bool {
 }
 
 // A stream whose input has no more to give: it ended, or a read failed.
-fn ended(x: Standing, came: Filled) -> Standing {
+fn ended(x: Standing, came: Filled) -> Standing
+    ensures { λ r. ⌜ r ≡ endedAs x came ⌝ }
+{
     let Filled::Failed = came else {
         return x;
     };
@@ -147,7 +147,10 @@ fn pass(
     bodies: &mut [u8],
     map_room: &mut [u16],
     out: &mut [u8],
-) -> Standing {
+) -> Standing
+    requires { ⌜ MayPass first (now chunk) (now out) ⌝ }
+    ensures { λ r. ⌜ Goes first (now (work .entry)) (now (bodies .entry)) (now («map_room» .entry)) r (now (work .exit)) (now (bodies .exit)) (now («map_room» .exit)) ⌝ }
+{
     let mut x = first;
     let mut turns = u64::MAX;
     while 0 < turns {
@@ -167,7 +170,20 @@ fn pass(
     x
 }
 
-// A start, then all chunks.
+fn no_counts() -> Counts
+    ensures { λ r. ⌜ r ≡ countsOf 0 ⌝ }
+{
+    Counts {
+        bytes: 0,
+        accepted: 0,
+        written: 0,
+        rewritten: 0,
+        skipped: 0,
+        lost: 0,
+    }
+}
+
+// A start, which these rooms allow, then all chunks.
 fn started(
     o: Options,
     writes: bool,
@@ -176,54 +192,85 @@ fn started(
     bodies: &mut [u8; ROOM],
     map_room: &mut [u16; MAP_ROOM],
     out: &mut [u8; ROOM],
-) -> Standing {
+) -> Standing
+    requires { ⌜ Rooms (now chunk) (now work) (now bodies) (now «map_room») (now out) ⌝ }
+    ensures { λ r. ⌜ ((cs : List Bytes) × Come o cs r (now (work .exit)) (now (bodies .exit)) (now («map_room» .exit))) ⌝ }
+{
     let s = start(work, bodies, map_room, ROOM, o);
     let answer = s.answer;
     let filter = s.filter;
     let x = Standing {
         answer,
         failed: false,
-        sums: Counts {
-            bytes: 0,
-            accepted: 0,
-            written: 0,
-            rewritten: 0,
-            skipped: 0,
-            lost: 0,
-        },
+        bytes: 0,
+        sums: no_counts(),
         filter,
     };
-    if !is_done(answer) {
-        return x;
-    }
     pass(x, writes, chunk, work, bodies, map_room, out)
 }
 
-// The end of a stream: the line of a refusal, or that of the sums where the stream was not written. Nothing more where something failed.
-fn finish(x: Standing, writes: bool) {
-    if x.failed {
-        return;
-    }
-    let a = x.answer;
-    let f = x.filter;
-    if !is_done(a) {
-        print_refused(a);
-        return;
-    }
-    if writes {
-        close_output();
-        return;
-    }
+// ---- an input
+
+// What a stream leaves to be told.
+fn ending(x: Standing) -> Ending
+    ensures { λ r. ⌜ r ≡ endingOf x ⌝ }
+{
+    let answer = x.answer;
     let sums = x.sums;
-    print_sums(sums, f.held_count);
+    let f = x.filter;
+    Ending {
+        failed: x.failed,
+        answer,
+        sums,
+        held_count: f.held_count,
+    }
 }
 
-// The end of a stream whose head asks for nothing that can be done.
-fn finish_unasked(h: Head) {
-    let Head::Nothing = h else {
-        return;
+// An input whose head asks for nothing that can be done, or could not be read.
+fn unasked(failed: bool) -> Ending
+    ensures { λ r. ⌜ r ≡ unaskedAs failed ⌝ }
+{
+    Ending {
+        failed,
+        answer: Answer::Refused(Refusal::Input),
+        sums: no_counts(),
+        held_count: 0,
+    }
+}
+
+// An input, head and stream.
+fn run(
+    writes: bool,
+    chunk: &mut [u8; CHUNK],
+    work: &mut [u8; ROOM],
+    bodies: &mut [u8; ROOM],
+    map_room: &mut [u16; MAP_ROOM],
+    out: &mut [u8; ROOM],
+) -> Ending
+    requires { ⌜ Rooms (now chunk) (now work) (now bodies) (now «map_room») (now out) ⌝ }
+    ensures { λ r. ⌜ ((head : Bytes) × (cs : List Bytes) × Ran head cs r) ⌝ }
+{
+    let mut head = [0u8; 3];
+    let came = fill(&mut head);
+    let Filled::Bytes(n) = came else {
+        return unasked(true);
     };
-    print_refused(Answer::Refused(Refusal::Input));
+    let asked = asked_of(&head[0..n]);
+    let Asked::For(o) = asked else {
+        return unasked(false);
+    };
+    let x = started(o, writes, chunk, work, bodies, map_room, out);
+    ending(x)
+}
+
+// The end of a program: its last line, and the output closed; nothing more where a read or a write failed.
+fn finish(e: Ending, writes: bool) {
+    let mut line = [0u8; 170];
+    let n = put_last(e, writes, &mut line);
+    if e.failed {
+        return;
+    }
+    write_last(&line[0..n]);
 }
 
 // A stream through a filter: it writes the filtered stream, or else a line of sums.
@@ -233,13 +280,7 @@ pub fn stream(writes: bool) {
     let mut bodies = [0u8; ROOM];
     let mut map_room = [0u16; MAP_ROOM];
     let mut out = [0u8; ROOM];
-    let asked = read_head();
-    let Head::Asks(o) = asked else {
-        finish_unasked(asked);
-        return;
-    };
-    let x = started(
-        o,
+    let e = run(
         writes,
         &mut chunk,
         &mut work,
@@ -247,5 +288,5 @@ pub fn stream(writes: bool) {
         &mut map_room,
         &mut out,
     );
-    finish(x, writes);
+    finish(e, writes);
 }

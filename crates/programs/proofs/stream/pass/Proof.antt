@@ -1,18 +1,19 @@
-use mathlib.Core.Path.{_≡_}
+use Rattle.programs.proofs.StreamLaws.{Passing, part-came, goes-none, goes-next, goes-ended, going}
+use borrow.Author.Tests.{not-false}
+use mathlib.Core.Path.{refl, sym, _∙_}
 use native.Mathlib.Omega.{arith}
-use lib.ListN.{length}
 use borrow.Author.Needs.{needs}
 use Rattle.programs.proofs.stream.pass.Statement.{statement}
 use Rattle.programs.proofs.stream.pass.Tie as tie
 
 abbrev Inv-loop : tie.InvT-loop
-Inv-loop writes chunk₀ work₀ bodies₀ map-room₀ out₀ x₀ turns₀ chunk work bodies map-room out x turns = (length chunk ≡ length chunk₀) × (length work ≡ length work₀) × (length bodies ≡ length bodies₀) × (length map-room ≡ length map-room₀) × (length out ≡ length out₀)
+Inv-loop writes chunk₀ work₀ bodies₀ map-room₀ out₀ x₀ turns₀ chunk work bodies map-room out x turns = Passing chunk₀ work₀ bodies₀ map-room₀ out₀ x₀ chunk work bodies map-room out x
 
 abbrev μ-loop : tie.MeasureT-loop
 μ-loop writes chunk₀ work₀ bodies₀ map-room₀ out₀ x₀ turns₀ chunk work bodies map-room out x turns = turns
 
 loop-holds : tie.Need-loop-holds Inv-loop μ-loop
-loop-holds c = search needs
+loop-holds c = record { chunk-same = refl; work-same = refl; bodies-same = refl; map-room-same = refl; out-same = refl; done = c .before .before .before .before .before .pre .not-refused; goes = goes-none }
 
 sub-turns : tie.Need-sub-turns Inv-loop μ-loop
 sub-turns c = search needs
@@ -42,7 +43,7 @@ same-length-5 : tie.Need-same-length-5 Inv-loop μ-loop
 same-length-5 c = search needs
 
 returns : tie.Need-returns Inv-loop μ-loop
-returns c = search needs
+returns c = rw (c .ended .ensures) (goes-ended (c .before .before .before .before .before .before .before .before .loop .inv .goes) (c .before .before .before .before .before .fill .result))
 
 sub-one-chunk : tie.Need-sub-one-chunk Inv-loop μ-loop
 sub-one-chunk c = search needs
@@ -60,34 +61,50 @@ goes-on-requires : tie.Need-goes-on-requires Inv-loop μ-loop
 goes-on-requires c κs = search needs
 
 same-length-6 : tie.Need-same-length-6 Inv-loop μ-loop
-same-length-6 c = omega (arith, c .before .before .before .before .before .before .before .before .before .before .before .before .before .before .before .before .before .before .before .before .before .before .before .before .before .before .loop .inv .0, c .before .before .before .before .before .before .before .before .before .before .before .before .before .before .before .before .before .before .before .before .before .before .before .fill .kept .0)
+same-length-6 c = omega (arith, c .before .before .before .before .before .before .before .before .before .before .before .before .before .before .before .before .before .before .before .before .before .before .before .before .before .before .loop .inv .chunk-same, c .before .before .before .before .before .before .before .before .before .before .before .before .before .before .before .before .before .before .before .before .before .before .before .fill .kept .0)
 
 same-length-7 : tie.Need-same-length-7 Inv-loop μ-loop
-same-length-7 c = omega (arith, c .before .before .before .before .before .before .before .before .before .before .before .before .before .before .before .before .before .before .before .before .before .before .before .before .before .before .loop .inv .1, c .before .before .before .before .before .before .before .before .before .before .one-chunk .kept .1 .1 .1 .1 .0)
+same-length-7 c = omega (arith, c .before .before .before .before .before .before .before .before .before .before .before .before .before .before .before .before .before .before .before .before .before .before .before .before .before .before .loop .inv .work-same, c .before .before .before .before .before .before .before .before .before .before .one-chunk .kept .1 .1 .1 .1 .0)
 
 same-length-8 : tie.Need-same-length-8 Inv-loop μ-loop
-same-length-8 c = omega (arith, c .before .before .before .before .before .before .before .before .before .before .before .before .before .before .before .before .before .before .before .before .before .before .before .before .before .before .loop .inv .2, c .before .before .before .before .before .before .before .before .before .before .one-chunk .kept .1 .1 .1 .1 .1 .0)
+same-length-8 c = omega (arith, c .before .before .before .before .before .before .before .before .before .before .before .before .before .before .before .before .before .before .before .before .before .before .before .before .before .before .loop .inv .bodies-same, c .before .before .before .before .before .before .before .before .before .before .one-chunk .kept .1 .1 .1 .1 .1 .0)
 
 same-length-9 : tie.Need-same-length-9 Inv-loop μ-loop
-same-length-9 c = omega (arith, c .before .before .before .before .before .before .before .before .before .before .before .before .before .before .before .before .before .before .before .before .before .before .before .before .before .before .loop .inv .3, c .before .before .before .before .before .before .before .before .before .before .one-chunk .kept .1 .1 .1 .1 .1 .1 .0)
+same-length-9 c = omega (arith, c .before .before .before .before .before .before .before .before .before .before .before .before .before .before .before .before .before .before .before .before .before .before .before .before .before .before .loop .inv .map-room-same, c .before .before .before .before .before .before .before .before .before .before .one-chunk .kept .1 .1 .1 .1 .1 .1 .0)
 
 same-length-10 : tie.Need-same-length-10 Inv-loop μ-loop
-same-length-10 c = omega (arith, c .before .before .before .before .before .before .before .before .before .before .before .before .before .before .before .before .before .before .before .before .before .before .before .before .before .before .loop .inv .4, c .before .before .before .before .before .before .before .before .before .before .one-chunk .kept .1 .1 .1 .1 .1 .1 .1 .0)
+same-length-10 c = omega (arith, c .before .before .before .before .before .before .before .before .before .before .before .before .before .before .before .before .before .before .before .before .before .before .before .before .before .before .loop .inv .out-same, c .before .before .before .before .before .before .before .before .before .before .one-chunk .kept .1 .1 .1 .1 .1 .1 .1 .0)
 
 returns-2 : tie.Need-returns-2 Inv-loop μ-loop
-returns-2 c = search needs
+returns-2 c =
+    let i = c .before .before .before .before .before .before .before .before .before .before .before .before .before .before .before .before .before .before .before .before .before .before .before .before .before .before .loop .inv in
+    let z = c .before .before .before .before .before .before .before .before .before .before .before .before .before .before .before .before .before .before .before .before .before .before .before .before .before .before .before .before .before .before .before .before .pre in
+    let f = c .before .before .before .before .before .before .before .before .before .before .before .before .before .before .before .before .before .before .before .before .before .before .before .fill in
+    let b = c .before .before .before .before .before .before .before .before .before .before .before .before .before .before .before .before .before .before .before .before .bytes-of in
+    let o = c .before .before .before .before .before .before .before .before .before .before .one-chunk in
+    let part = part-came (b .result) (f .last .0) (omega (arith, c .before .before .before .before .before .before .before .before .before .before .before .before .before .before .before .before .before .before .before .if1 .left)) (omega (arith, b .ensures, f .ensures)) (f .kept .0 ∙ i .chunk-same ∙ z .chunk-long) in
+    goes-next (i .goes) (i .done) (part .0) (part .1) (i .out-same ∙ z .out-long) (o .ensures .0) (o .kept .1 .1 .1 .1 .0) (o .kept .1 .1 .1 .1 .1 .0) (o .kept .1 .1 .1 .1 .1 .1 .0)
 
 loop-less : tie.Need-loop-less Inv-loop μ-loop
 loop-less c = omega (arith, c .before .before .before .before .before .before .before .before .before .before .before .before .before .before .before .before .before .before .before .before .before .before .before .before .before .loop-test .taken)
 
 loop-again : tie.Need-loop-again Inv-loop μ-loop
-loop-again c = (
-  omega (arith, c .before .before .before .before .before .before .before .before .before .before .before .before .before .before .before .before .before .before .before .before .before .before .before .before .before .before .loop .inv .0, c .before .before .before .before .before .before .before .before .before .before .before .before .before .before .before .before .before .before .before .before .before .before .before .fill .kept .0),
-  omega (arith, c .before .before .before .before .before .before .before .before .before .before .before .before .before .before .before .before .before .before .before .before .before .before .before .before .before .before .loop .inv .1, c .before .before .before .before .before .before .before .before .before .before .one-chunk .kept .1 .1 .1 .1 .0),
-  omega (arith, c .before .before .before .before .before .before .before .before .before .before .before .before .before .before .before .before .before .before .before .before .before .before .before .before .before .before .loop .inv .2, c .before .before .before .before .before .before .before .before .before .before .one-chunk .kept .1 .1 .1 .1 .1 .0),
-  omega (arith, c .before .before .before .before .before .before .before .before .before .before .before .before .before .before .before .before .before .before .before .before .before .before .before .before .before .before .loop .inv .3, c .before .before .before .before .before .before .before .before .before .before .one-chunk .kept .1 .1 .1 .1 .1 .1 .0),
-  omega (arith, c .before .before .before .before .before .before .before .before .before .before .before .before .before .before .before .before .before .before .before .before .before .before .before .before .before .before .loop .inv .4, c .before .before .before .before .before .before .before .before .before .before .one-chunk .kept .1 .1 .1 .1 .1 .1 .1 .0),
-)
+loop-again c =
+    let i = c .before .before .before .before .before .before .before .before .before .before .before .before .before .before .before .before .before .before .before .before .before .before .before .before .before .before .loop .inv in
+    let z = c .before .before .before .before .before .before .before .before .before .before .before .before .before .before .before .before .before .before .before .before .before .before .before .before .before .before .before .before .before .before .before .before .pre in
+    let f = c .before .before .before .before .before .before .before .before .before .before .before .before .before .before .before .before .before .before .before .before .before .before .before .fill in
+    let b = c .before .before .before .before .before .before .before .before .before .before .before .before .before .before .before .before .before .before .before .before .bytes-of in
+    let o = c .before .before .before .before .before .before .before .before .before .before .one-chunk in
+    let part = part-came (b .result) (f .last .0) (omega (arith, c .before .before .before .before .before .before .before .before .before .before .before .before .before .before .before .before .before .before .before .if1 .left)) (omega (arith, b .ensures, f .ensures)) (f .kept .0 ∙ i .chunk-same ∙ z .chunk-long) in
+    record {
+      chunk-same = f .kept .0 ∙ i .chunk-same;
+      work-same = o .kept .1 .1 .1 .1 .0 ∙ i .work-same;
+      bodies-same = o .kept .1 .1 .1 .1 .1 .0 ∙ i .bodies-same;
+      map-room-same = o .kept .1 .1 .1 .1 .1 .1 .0 ∙ i .map-room-same;
+      out-same = o .kept .1 .1 .1 .1 .1 .1 .1 .0 ∙ i .out-same;
+      done = going (o .result) (sym (c .before .goes-on .ensures) ∙ not-false _ (c .if2 .left));
+      goes = goes-next (i .goes) (i .done) (part .0) (part .1) (i .out-same ∙ z .out-long) (o .ensures .0) (o .kept .1 .1 .1 .1 .0) (o .kept .1 .1 .1 .1 .1 .0) (o .kept .1 .1 .1 .1 .1 .1 .0);
+    }
 
 same-length-11 : tie.Need-same-length-11 Inv-loop μ-loop
 same-length-11 c = search needs
@@ -105,7 +122,7 @@ same-length-15 : tie.Need-same-length-15 Inv-loop μ-loop
 same-length-15 c = search needs
 
 returns-3 : tie.Need-returns-3 Inv-loop μ-loop
-returns-3 c = search needs
+returns-3 c = c .before .loop .inv .goes
 
 pub pass-spec : {M : Type 1} → statement M
 pass-spec =

@@ -1,0 +1,290 @@
+-- A stream from its start over chunk after chunk to its end, and what is left to be told of an input. Rests on ProgramLaws and SeriesLaws
+-- of `meaning`: no call of a program is refused, and one chunk more is one call more.
+use Prim.Native.Nat.{ℕ, _-_, _≤_}
+use mathlib.Core.Path.{_≡_, refl, sym, ap, _∙_, subst}
+use mathlib.Core.Bool.{Bool, cond, true, false, false≢true}
+use mathlib.Core.List.{List, [], _∷_, _++_, flatten, append-assoc, append-nil}
+use native.Mathlib.Omega.{arith}
+use lib.ListN.{length, take, drop, replicate, length-replicate, length-take}
+use lib.Dec.{eqb}
+use borrow.Author.Tests.{eqb-true}
+use Rattle.meaning.specs.Bytes.{Bytes}
+use Rattle.meaning.specs.Refusals.{numberOf, answerNumber}
+use Rattle.meaning.specs.Rooms.{goodWorkRoom, goodFragmentRoom, goodMapRoom}
+use Rattle.meaning.specs.Record.{State, Record, recordOf, stateOf}
+use Rattle.meaning.specs.Calls.{countsOf, Called}
+use Rattle.meaning.specs.Start.{startRefusal, fresh, started}
+use Rattle.meaning.specs.Push.{push, called}
+use Rattle.meaning.specs.Tally.{addCounts, fits64, tallyRefusal, tallied}
+use Rattle.meaning.specs.Series.{Series}
+use Rattle.meaning.specs.Readers.{walk}
+use Rattle.meaning.specs.Programs.{inputRefused, inputOptions, chunk, programLimits, programCalls, sumsOf, refusedLine, sumsLine, filterWrites, sumsWrites}
+use Rattle.meaning.specs.declared.Limits.{Limits}
+use Rattle.meaning.specs.declared.Options.{Options}
+use Rattle.meaning.specs.declared.Counts.{Counts}
+use Rattle.meaning.proofs.SoundnessLaws.{HoldsState}
+use Rattle.meaning.proofs.SeriesLaws.{joined, alone, fresh-back, called-taken}
+use Rattle.meaning.proofs.ProgramLaws.{refused-by-three, options-by-three, chunks-append, limits-good, calls-hold, call-taken, calls-none, calls-one}
+use Rattle.recorder.specs.declared.Started.{Started}
+use Rattle.recorder.specs.Filter.{recordIn}
+use Rattle.recorder.specs.Calls.{StartedAs, RoomsAfter}
+use Rattle.programs.specs.declared.pipe.Filled.{Filled}
+use Rattle.programs.specs.declared.lines.Ending.{Ending}
+use Rattle.programs.specs.declared.stream.Standing.{Standing}
+use Rattle.programs.specs.Lines.{lastLine}
+use Rattle.programs.specs.Stream.{firstOf, TakenAs, goesOn, endedAs, sumsRefusal, Come, Goes, endingOf, unaskedAs, runRefusal, Ran}
+use Rattle.programs.proofs.LineLaws.{last-refused, last-written, last-sums}
+
+-- ---- a start
+
+program-start : (n : ℕ) → n ≡ 32768 → startRefusal (programLimits .work) (programLimits .total) (programLimits .most) n ≡ 0
+unfolding startRefusal goodWorkRoom goodFragmentRoom goodMapRoom programLimits
+program-start n e = rw e
+
+-- where a stream begins
+abbrev begun : Started → Counts → Standing
+begun s sums = record { answer = s .answer; failed = false; bytes = 0; sums = sums; filter = s .filter }
+
+module _ (o : Options) (map-room : List ℕ) (zero : map-room ≡ replicate 32768 0) where
+  map-room-long : length map-room ≡ 32768
+  map-room-long = ap length zero ∙ length-replicate {A = ℕ} 32768 0
+
+  start-done : started programLimits o map-room .number ≡ 0
+  unfolding started
+  start-done = program-start (length map-room) map-room-long
+
+  start-handed : started programLimits o map-room .handed ≡ recordOf programLimits o (fresh map-room)
+  unfolding started
+  start-handed = rw start-done
+
+  fresh-is : programCalls o [] .state ≡ fresh map-room
+  fresh-is = ap (λ (s : Series). s .state) (calls-none o) ∙ ap fresh (sym zero)
+
+  total-few : programLimits .total ≤ 16777216
+  unfolding programLimits
+  total-few = omega arith
+
+  none-summed : sumsRefusal (programCalls o [] .counts) ≡ 0
+  unfolding sumsRefusal fits64
+  none-summed = ap (λ (s : Series). sumsRefusal (s .counts)) (calls-none o)
+
+  limits-are : (work bodies : ℕ) → work ≡ 65536 → bodies ≡ 65536 → _≡_ {A = Limits} (record { work = work; total = bodies; most = 65536 }) programLimits
+  unfolding programLimits
+  limits-are work bodies e f = λ i. record { work = e i; total = f i; most = 65536 }
+
+  pub come-start : (work bodies : Bytes) (s : Started) (sums : Counts) → length work ≡ 65536 → length bodies ≡ 65536
+      → StartedAs (record { work = length work; total = length bodies; most = 65536 }) o map-room s → sums ≡ countsOf 0 → Come o [] (begun s sums) work bodies map-room
+  come-start work bodies s sums w b p e =
+      let q = subst (λ (L : Limits). StartedAs L o map-room s) (limits-are (length work) (length bodies) w b) p in
+      let r : recordIn (s .filter) ≡ recordOf programLimits o (fresh map-room) = q .handed-is ∙ start-handed in
+      record {
+        chunks-are = tt;
+        answer-is = q .answer-is ∙ start-done ∙ sym none-summed;
+        sums-are = λ done. e ∙ ap (λ (z : Series). z .counts) (sym (calls-none o));
+        record-is = r ∙ ap (recordOf programLimits o) (sym fresh-is);
+        state-is =
+            ap (λ (z : Record). stateOf z work bodies map-room) r
+            ∙ fresh-back programLimits o work bodies map-room total-few (subst (HoldsState programLimits o) fresh-is (calls-hold o []))
+            ∙ sym fresh-is;
+        work-long = w;
+        bodies-long = b;
+        map-room-long = map-room-long;
+      }
+
+  -- A start is not refused.
+  pub start-taken : {x : Standing} {work bodies : Bytes} → Come o [] x work bodies map-room → answerNumber (x .answer) ≡ 0
+  start-taken h = h .answer-is ∙ none-summed
+
+-- ---- one chunk more
+
+tally-sums : (a b : Counts) → tallyRefusal a b ≡ sumsRefusal (addCounts a b)
+unfolding tallyRefusal sumsRefusal
+tally-sums a b = refl
+
+tally-fits : (a b : Counts) → tallyRefusal a b ≡ 0 → tallied a b ≡ addCounts a b
+unfolding tallied
+tally-fits a b e = rw e
+
+-- The push of a record's limits and options on the state that the rooms hold.
+push-same : (L : Limits) (o : Options) (st : State) (r : Record) (now : State) (chunk : Bytes) → r ≡ recordOf L o st → now ≡ st
+    → push (r .limits) (r .options) now chunk .state ≡ push L o st chunk .state
+unfolding recordOf
+push-same L o st r now chunk e s = λ i. push (e i .limits) (e i .options) (s i) chunk .state
+
+room-long : (programLimits .work ≡ 65536) × (programLimits .total ≡ 65536)
+unfolding programLimits
+room-long = (refl, refl)
+
+module _ (o : Options) (cs : List Bytes) (x y : Standing) (work bodies : Bytes) (map-room : List ℕ) (chunk out work′ bodies′ : Bytes) (map-room′ : List ℕ) (out′ : Bytes)
+    (h : Come o cs x work bodies map-room) (done : answerNumber (x .answer) ≡ 0) (some-bytes : 1 ≤ length chunk) (few : length chunk ≤ 32768) (out-long : length out ≡ 65536)
+    (t : TakenAs (recordIn (x .filter)) (x .sums) work bodies map-room chunk out y work′ bodies′ map-room′ out′) where
+  abbrev st : State
+  st = programCalls o cs .state
+
+  one : programCalls o (cs ++ (chunk ∷ [])) ≡ joined (programCalls o cs) (alone (push programLimits o st chunk))
+  one = calls-one o cs chunk few
+
+  call-is : called (recordIn (x .filter)) work bodies map-room chunk (length out)
+      ≡ record { number = 0; out = push programLimits o st chunk .out; counts = push programLimits o st chunk .counts; handed = recordOf programLimits o (push programLimits o st chunk .state) }
+  call-is =
+      ap (λ (n : ℕ). called (recordIn (x .filter)) work bodies map-room chunk n) out-long
+      ∙ called-taken programLimits o st (limits-good .0) (limits-good .1) (calls-hold o cs) (recordIn (x .filter)) work bodies map-room (chunk, 65536)
+      (h .record-is) (h .state-is) (h .work-long ∙ sym (room-long .0)) (h .bodies-long ∙ sym (room-long .1)) (h .map-room-long) (call-taken o cs chunk few)
+
+  answered : answerNumber (t .call .answer) ≡ 0
+  answered = t .pushed .answer-is ∙ ap (λ (z : Called). z .number) call-is
+
+  counted : t .call .counts ≡ push programLimits o st chunk .counts
+  counted = t .pushed .counts-are ∙ ap (λ (z : Called). z .counts) call-is
+
+  -- the answer is that of the sums with this call's counts
+  told : answerNumber (y .answer) ≡ tallyRefusal (programCalls o cs .counts) (push programLimits o st chunk .counts)
+  told = t .answer-is ∙ (λ i. firstOf (answered i) (tallyRefusal (h .sums-are done i) (counted i)))
+
+  state-then : stateOf (recordIn (t .call .filter)) work′ bodies′ map-room′ ≡ push programLimits o st chunk .state
+  state-then =
+      subst (λ (z : Called). RoomsAfter (eqb (z .number) 0) (push (recordIn (x .filter) .limits) (recordIn (x .filter) .options) (stateOf (recordIn (x .filter)) work bodies map-room) chunk .state) (recordIn (t .call .filter)) work bodies map-room work′ bodies′ map-room′)
+      call-is (t .pushed .rooms)
+      ∙ push-same programLimits o st (recordIn (x .filter)) (stateOf (recordIn (x .filter)) work bodies map-room) chunk (h .record-is) (h .state-is)
+
+  pub come-next : length work′ ≡ length work → length bodies′ ≡ length bodies → length map-room′ ≡ length map-room → Come o (cs ++ (chunk ∷ [])) y work′ bodies′ map-room′
+  come-next w b m = record {
+    chunks-are = chunks-append cs (chunk ∷ []) (h .chunks-are) (some-bytes, few, tt);
+    answer-is = told ∙ tally-sums _ _ ∙ ap (λ (z : Series). sumsRefusal (z .counts)) (sym one);
+    sums-are = λ e.
+        t .sums-are
+        ∙ (λ i. tallied (h .sums-are done i) (counted i))
+        ∙ tally-fits _ _ (sym told ∙ e)
+        ∙ ap (λ (z : Series). z .counts) (sym one);
+    record-is = ap recordIn (t .filter-is) ∙ t .pushed .handed-is ∙ ap (λ (z : Called). z .handed) call-is ∙ ap (λ (z : Series). recordOf programLimits o (z .state)) (sym one);
+    state-is = ap (λ f. stateOf (recordIn f) work′ bodies′ map-room′) (t .filter-is) ∙ state-then ∙ ap (λ (z : Series). z .state) (sym one);
+    work-long = w ∙ h .work-long;
+    bodies-long = b ∙ h .bodies-long;
+    map-room-long = m ∙ h .map-room-long;
+  }
+
+-- ---- on and on
+
+pub goes-none : {x : Standing} {work bodies : Bytes} {map-room : List ℕ} → Goes x work bodies map-room x work bodies map-room
+goes-none {x} {work} {bodies} {map-room} = λ o cs h. ([], subst (λ (l : List Bytes). Come o l x work bodies map-room) (sym (append-nil cs)) h)
+
+module _ {x₀ x : Standing} {work₀ bodies₀ work bodies : Bytes} {map-room₀ map-room : List ℕ} (g : Goes x₀ work₀ bodies₀ map-room₀ x work bodies map-room) where
+  pub goes-next : {y : Standing} {chunk out work′ bodies′ : Bytes} {map-room′ : List ℕ} {out′ : Bytes} → answerNumber (x .answer) ≡ 0 → 1 ≤ length chunk → length chunk ≤ 32768
+      → length out ≡ 65536 → TakenAs (recordIn (x .filter)) (x .sums) work bodies map-room chunk out y work′ bodies′ map-room′ out′
+      → length work′ ≡ length work → length bodies′ ≡ length bodies → length map-room′ ≡ length map-room
+      → Goes x₀ work₀ bodies₀ map-room₀ y work′ bodies′ map-room′
+  goes-next {y} {chunk} {out} {work′} {bodies′} {map-room′} {out′} done some-bytes few long t w b m = λ o cs h.
+      let k = g o cs h in (
+        k .0 ++ (chunk ∷ []),
+        subst (λ (l : List Bytes). Come o l y work′ bodies′ map-room′) (append-assoc cs (k .0) (chunk ∷ []))
+            (come-next o (cs ++ k .0) x y work bodies map-room chunk out work′ bodies′ map-room′ out′ (k .1) done some-bytes few long t w b m),
+      )
+
+  pub goes-ended : (came : Filled) → Goes x₀ work₀ bodies₀ map-room₀ (endedAs x came) work bodies map-room
+  goes-ended (Filled.Bytes n) = g
+  goes-ended Filled.Failed = λ o cs h.
+      let k = g o cs h in
+      let z = k .1 in (
+        k .0,
+        record {
+          chunks-are = z .chunks-are;
+          answer-is = z .answer-is;
+          sums-are = z .sums-are;
+          record-is = z .record-is;
+          state-is = z .state-is;
+          work-long = z .work-long;
+          bodies-long = z .bodies-long;
+          map-room-long = z .map-room-long;
+        },
+      )
+
+pub going : (x : Standing) → goesOn x ≡ true → answerNumber (x .answer) ≡ 0
+going x e = go (x .failed) e
+  where
+    go : (b : Bool) → cond b false (eqb (answerNumber (x .answer)) 0) ≡ true → answerNumber (x .answer) ≡ 0
+    go true q = absurd (false≢true q)
+    go false q = eqb-true (answerNumber (x .answer)) 0 q
+
+-- The part of a chunk that came.
+pub part-came : (n : ℕ) (s : Bytes) → 1 ≤ n → n ≤ length s → length s ≡ 32768 → (1 ≤ length (take (n - 0) s)) × (length (take (n - 0) s) ≤ 32768)
+part-came n s h k e = (simp length-take (omega arith), simp length-take (omega arith))
+
+-- What holds at each turn of the loop: lengths, nothing refused, and how far the stream has come.
+pub record Passing (chunk₀ work₀ bodies₀ : Bytes) (map-room₀ : List ℕ) (out₀ : Bytes) (x₀ : Standing) (chunk work bodies : Bytes) (map-room : List ℕ) (out : Bytes) (x : Standing) : Type 0 where
+  pub chunk-same : length chunk ≡ length chunk₀
+  pub work-same : length work ≡ length work₀
+  pub bodies-same : length bodies ≡ length bodies₀
+  pub map-room-same : length map-room ≡ length map-room₀
+  pub out-same : length out ≡ length out₀
+  pub done : answerNumber (x .answer) ≡ 0
+  pub goes : Goes x₀ work₀ bodies₀ map-room₀ x work bodies map-room
+
+-- ---- an input
+
+pub refused-empty : inputRefused [] ≡ true
+unfolding inputRefused
+refused-empty = refl
+
+module _ (head : Bytes) where
+  pub ran-unasked : (failed : Bool) → inputRefused head ≡ true → length head ≤ 3 → Ran head [] (unaskedAs failed)
+  unfolding runRefusal answerNumber numberOf
+  ran-unasked failed e short = record {
+    head-short = short;
+    chunks-are = tt;
+    answer-is = rw e;
+    sums-are = λ z. absurd (omega (arith, z));
+    held-is = λ z. absurd (omega (arith, z));
+  }
+
+  held-by : (o : Options) (st : State) (x : Standing) → recordIn (x .filter) ≡ recordOf programLimits o st → x .filter .«held_count» ≡ length (st .held)
+  unfolding recordIn recordOf
+  held-by o st x e = ap (λ (r : Record). r .held-count) e
+
+  pub ran-stream : {cs : List Bytes} {x : Standing} {work bodies : Bytes} {map-room : List ℕ} → inputRefused head ≡ false → length head ≤ 3
+      → Come (inputOptions head) cs x work bodies map-room → Ran head cs (endingOf x)
+  unfolding runRefusal
+  ran-stream {cs} {x} e short h = record {
+    head-short = short;
+    chunks-are = h .chunks-are;
+    answer-is = rw e (h .answer-is);
+    sums-are = h .sums-are;
+    held-is = λ z. held-by (inputOptions head) (programCalls (inputOptions head) cs .state) x (h .record-is);
+  }
+
+-- ---- the last line, where head and chunks are those of an input whose sums fit
+
+module _ (s : Bytes) (e : Ending) (r : Ran (take 3 s) (walk chunk (drop 3 s) .found) e) (fits : fits64 (sumsOf s .counts) ≡ true) (well : e .failed ≡ false) where
+  calls-are : programCalls (inputOptions (take 3 s)) (walk chunk (drop 3 s) .found) ≡ sumsOf s
+  unfolding sumsOf
+  calls-are = ap (λ (o : Options). programCalls o (walk chunk (drop 3 s) .found)) (options-by-three s)
+
+  refused-as : inputRefused s ≡ true → answerNumber (e .answer) ≡ 8
+  unfolding runRefusal
+  refused-as q = r .answer-is ∙ rw (refused-by-three s, q)
+
+  done-as : inputRefused s ≡ false → answerNumber (e .answer) ≡ 0
+  unfolding runRefusal sumsRefusal
+  done-as q = r .answer-is ∙ rw (refused-by-three s, q, calls-are, fits)
+
+  -- `sums` writes no more than its last line.
+  pub sums-last : lastLine e false ≡ sumsWrites s
+  unfolding sumsWrites
+  sums-last = go (inputRefused s) refl
+    where
+      go : (b : Bool) → inputRefused s ≡ b → lastLine e false ≡ cond b (refusedLine 8) (sumsLine (sumsOf s .counts) (length (sumsOf s .state .held)))
+      go true q = let a = refused-as q in last-refused e false well (ap (λ (n : ℕ). eqb n 0) a) ∙ ap refusedLine a
+      go false q =
+          let a = done-as q in
+          last-sums e false well (ap (λ (n : ℕ). eqb n 0) a) refl
+          ∙ (λ i. sumsLine ((r .sums-are a ∙ ap (λ (z : Series). z .counts) calls-are) i) ((r .held-is a ∙ ap (λ (z : Series). length (z .state .held)) calls-are) i))
+
+  -- `filter` writes what each call wrote before it.
+  pub filter-last : cond (inputRefused s) [] (flatten (sumsOf s .out)) ++ lastLine e true ≡ filterWrites s
+  unfolding filterWrites
+  filter-last = go (inputRefused s) refl
+    where
+      go : (b : Bool) → inputRefused s ≡ b → cond b [] (flatten (sumsOf s .out)) ++ lastLine e true ≡ cond b (refusedLine 8) (flatten (sumsOf s .out))
+      go true q = let a = refused-as q in last-refused e true well (ap (λ (n : ℕ). eqb n 0) a) ∙ ap refusedLine a
+      go false q =
+          let a = done-as q in
+          ap (λ (l : Bytes). flatten (sumsOf s .out) ++ l) (last-written e true well (ap (λ (n : ℕ). eqb n 0) a) refl) ∙ append-nil (flatten (sumsOf s .out))

@@ -1,0 +1,18 @@
+use mathlib.Core.Bool.{false≢true}
+use borrow.Author.Tests.{not-false}
+use mathlib.Core.Path.{sym, _∙_}
+use borrow.Author.Needs.{needs}
+use Rattle.programs.proofs.stream.unwritten.Statement.{statement}
+use Rattle.programs.proofs.stream.unwritten.Tie as tie
+
+returns : tie.Need-returns
+returns c = search needs
+
+write-all-requires : tie.Need-write-all-requires
+write-all-requires c κs = search needs
+
+returns-2 : tie.Need-returns-2
+returns-2 c = λ e. absurd (false≢true (sym e ∙ not-false _ (c .before .if1 .left)))
+
+pub unwritten-spec : {M : Type 1} → statement M
+unwritten-spec = tie.close (tie.spec returns write-all-requires returns-2)

@@ -1,0 +1,103 @@
+-- What becomes of a chunk, how far a stream has come, and what an input leaves to be told: the definition's calls for chunks that were
+-- read. Which bytes they have no contract can say, so they are said to be there.
+use Prim.Native.Nat.{ℕ, _≤_}
+use mathlib.Core.Path.{_≡_}
+use mathlib.Core.Bool.{Bool, cond, true, false}
+use mathlib.Core.List.{List, _++_}
+use lib.ListN.{length, replicate}
+use lib.Dec.{eqb}
+use Rattle.meaning.specs.Bytes.{Bytes}
+use Rattle.meaning.specs.Refusals.{answerNumber}
+use Rattle.meaning.specs.Record.{Record, recordOf, stateOf}
+use Rattle.meaning.specs.Calls.{countsOf}
+use Rattle.meaning.specs.Tally.{fits64, tallyRefusal, tallied}
+use Rattle.meaning.specs.Programs.{inputRefused, inputOptions, programLimits, programCalls, Chunks}
+use Rattle.meaning.specs.declared.Options.{Options}
+use Rattle.meaning.specs.declared.Counts.{Counts}
+use Rattle.meaning.specs.declared.Answer.the-variants.{Refused}
+use Rattle.meaning.specs.declared.Refusal.the-variants.{Input}
+use Rattle.recorder.specs.declared.Pushed.{Pushed}
+use Rattle.recorder.specs.Filter.{recordIn}
+use Rattle.recorder.specs.Calls.{PushedAs}
+use Rattle.programs.specs.declared.pipe.Filled.{Filled}
+use Rattle.programs.specs.declared.lines.Ending.{Ending}
+use Rattle.programs.specs.declared.stream.Standing.{Standing}
+
+-- ---- one chunk
+
+-- Of two refusals' numbers the first that is none of 0.
+abbrev pub firstOf : ℕ → ℕ → ℕ
+firstOf a b = cond (eqb a 0) b a
+
+-- What a push promises, with its record, and its counts in the sums.
+pub record TakenAs (r : Record) (sums : Counts) (work bodies : Bytes) (map-room : List ℕ) (chunk out : Bytes) (x : Standing) (work′ bodies′ : Bytes) (map-room′ : List ℕ) (out′ : Bytes) : Type 0 where
+  pub call : Pushed
+  pub pushed : PushedAs r work bodies map-room chunk out call work′ bodies′ map-room′ out′
+  pub answer-is : answerNumber (x .answer) ≡ firstOf (answerNumber (call .answer)) (tallyRefusal sums (call .counts))
+  pub bytes-are : x .bytes ≡ call .counts .bytes
+  pub sums-are : x .sums ≡ tallied sums (call .counts)
+  pub filter-is : x .filter ≡ call .filter
+
+-- ---- all chunks
+
+abbrev pub goesOn : Standing → Bool
+goesOn x = cond (x .failed) false (eqb (answerNumber (x .answer)) 0)
+
+-- At the end of an input a stream stands as it stood; a read that failed is told.
+abbrev pub endedAs : Standing → Filled → Standing
+endedAs x (Filled.Bytes n) = x
+endedAs x Filled.Failed = record { answer = x .answer; failed = true; bytes = x .bytes; sums = x .sums; filter = x .filter }
+
+-- The refusal of sums: 7 where one passes 2^64 - 1.
+unfoldable pub sumsRefusal : Counts → ℕ
+unfolding fits64
+sumsRefusal c = cond (fits64 c) 0 7
+
+-- After the calls of these chunks: the answer, the sums where they fit, the record, and rooms that hold its state.
+pub record Come (o : Options) (cs : List Bytes) (x : Standing) (work bodies : Bytes) (map-room : List ℕ) : Type 0 where
+  pub chunks-are : Chunks cs
+  pub answer-is : answerNumber (x .answer) ≡ sumsRefusal (programCalls o cs .counts)
+  pub sums-are : answerNumber (x .answer) ≡ 0 → x .sums ≡ programCalls o cs .counts
+  pub record-is : recordIn (x .filter) ≡ recordOf programLimits o (programCalls o cs .state)
+  pub state-is : stateOf (recordIn (x .filter)) work bodies map-room ≡ programCalls o cs .state
+  pub work-long : length work ≡ 65536
+  pub bodies-long : length bodies ≡ 65536
+  pub map-room-long : length map-room ≡ 32768
+
+-- From wherever a stream has come to, it comes further, by more chunks or none.
+abbrev pub Goes : Standing → Bytes → Bytes → List ℕ → Standing → Bytes → Bytes → List ℕ → Type 0
+Goes x work bodies map-room y work′ bodies′ map-room′ =
+    (o : Options) (cs : List Bytes) → Come o cs x work bodies map-room → (more : List Bytes) × Come o (cs ++ more) y work′ bodies′ map-room′
+
+pub record MayPass (x : Standing) (chunk out : Bytes) : Type 0 where
+  pub not-refused : answerNumber (x .answer) ≡ 0
+  pub chunk-long : length chunk ≡ 32768
+  pub out-long : length out ≡ 65536
+
+-- The rooms that a program begins with.
+pub record Rooms (chunk work bodies : Bytes) (map-room : List ℕ) (out : Bytes) : Type 0 where
+  pub chunk-long : length chunk ≡ 32768
+  pub work-long : length work ≡ 65536
+  pub bodies-long : length bodies ≡ 65536
+  pub map-room-zero : map-room ≡ replicate 32768 0
+  pub out-long : length out ≡ 65536
+
+-- ---- an input
+
+abbrev pub endingOf : Standing → Ending
+endingOf x = record { failed = x .failed; answer = x .answer; sums = x .sums; «held_count» = x .filter .«held_count» }
+
+abbrev pub unaskedAs : Bool → Ending
+unaskedAs failed = record { failed = failed; answer = Refused Input; sums = countsOf 0; «held_count» = 0 }
+
+-- The refusal of an input with this head and these chunks: 8, or that of its sums.
+unfoldable pub runRefusal : Bytes → List Bytes → ℕ
+unfolding inputRefused inputOptions programCalls sumsRefusal
+runRefusal head cs = cond (inputRefused head) 8 (sumsRefusal (programCalls (inputOptions head) cs .counts))
+
+pub record Ran (head : Bytes) (cs : List Bytes) (e : Ending) : Type 0 where
+  pub head-short : length head ≤ 3
+  pub chunks-are : Chunks cs
+  pub answer-is : answerNumber (e .answer) ≡ runRefusal head cs
+  pub sums-are : answerNumber (e .answer) ≡ 0 → e .sums ≡ programCalls (inputOptions head) cs .counts
+  pub held-is : answerNumber (e .answer) ≡ 0 → e .«held_count» ≡ length (programCalls (inputOptions head) cs .state .held)
