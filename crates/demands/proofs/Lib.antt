@@ -1,0 +1,11 @@
+pub mod Tests
+pub mod Narrowings
+pub mod Between
+pub mod SeriesLaws
+pub mod Refusing
+pub mod Once
+pub mod Total
+pub mod Less
+pub mod Examples
+pub mod NotEmpty
+pub mod Face
