@@ -38,6 +38,8 @@ pub fn streams() -> Vec<NamedStream> {
         byte_by_byte(),
         fragments(),
         maps(),
+        cut_heads(),
+        packets_that_stay(),
         from_seeds(),
     ]
     .concat()
@@ -435,6 +437,65 @@ fn maps() -> Vec<NamedStream> {
     lost.counts.lost = 1;
     let chunks = [bytes(&few), bytes(&rest)];
     vec![plain("65 MPTs", &chunks, vec![Ok(packets(&few)), Ok(lost)])]
+}
+
+/// PA bodies cut in their count or in an entry, with a PLT where a reader past the cut would find one: nothing is
+/// learned, until a whole PLT comes.
+fn cut_heads() -> Vec<NamedStream> {
+    let (list, found) = (plt(&[]), tables(0, &[plt(&[])]));
+    let case = |name: &str, body: &[u8]| {
+        let message = [&long_message(0, body)[..], &[0], &list].concat();
+        let all = [
+            passes(&signalling(0, &whole(&message))),
+            (media(99), None),
+            passes(&found),
+            passes(&media(99)),
+        ];
+        plain(name, &[bytes(&all)], vec![Ok(packets(&all))])
+    };
+    vec![
+        case("a PA body with no count", &[]),
+        case("a PA body whose entry is cut", &[1, 0x80, 5, 0]),
+        case(
+            "a PA body whose second entry is cut",
+            &[2, 0x80, 5, 0, 1, 0x80],
+        ),
+        case(
+            "a PA body with a PLT where entries are announced",
+            &[&[2][..], &list].concat(),
+        ),
+        case("a PA body of a count of 255 alone", &[255]),
+    ]
+}
+
+/// Packets that narrowing leaves, each between two that it changes: they go out byte for byte.
+fn packets_that_stay() -> Vec<NamedStream> {
+    let assets = [video(1), caption(2)];
+    let changed = [&assets[..], &assets[..1]].map(|entries| tables(5, &[mpt(entries)]));
+    let message = pa(&[mpt(&assets)]);
+    let mut unreadable = mpt(&assets);
+    unreadable[10] += 1;
+    let cut = pa_with_tail(&[mpt(&assets)], &[0x20, 0, 0, 1]);
+    let left = [
+        tables(0, &[plt(&[service_at(0x0401, 0xf001)])]),
+        tables(5, &[mpt(&assets[..1])]),
+        tables(5, &[unreadable]),
+        signalling(5, &whole(&cut)),
+        signalling(5, &[&whole(&pa(&[]))[..], &[1, 2, 3]].concat()),
+        signalling(5, &aggregate(&[message.clone()])),
+        signalling(5, &fragment(1, &message)),
+        tlv(2, &[vec![0x60; 48], mmtp(2, 5, &whole(&message))].concat()),
+        tlv(0xfe, &message),
+        tlv(0xff, &[]),
+    ];
+    let between = || (changed[0].clone(), Some(changed[1].clone()));
+    let mut all = vec![between()];
+    all.extend(left.iter().flat_map(|packet| [passes(packet), between()]));
+    vec![plain(
+        "packets that stay between changed ones",
+        &[bytes(&all)],
+        vec![Ok(packets(&all))],
+    )]
 }
 
 /// Streams of at most this many bytes, of as many seeds.

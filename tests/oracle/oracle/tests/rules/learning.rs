@@ -174,6 +174,70 @@ fn r18_mpts_before_a_cut_table_are_learned_and_nothing_is_narrowed() {
     });
 }
 
+/// A PA body of a count and some bytes behind it, then an empty PLT: its message ends with it, or before the PLT.
+fn behind(count: u8, bytes: usize, inside: bool) -> Vec<u8> {
+    let head = [&[count][..], &vec![0xaa; bytes]].concat();
+    let body = [&head[..], &plt(&[])].concat();
+    let mut message = long_message(0, &body);
+    if !inside {
+        message[3..7].copy_from_slice(&(head.len() as u32).to_be_bytes());
+    }
+    signalling(0, &whole(&message))
+}
+
+/// No PLT, no media: an empty PLT makes the filter ready, where it is found.
+#[test]
+fn tables_behind_a_cut_count_or_entry_teach_nothing() {
+    let empty = [long_message(0, &[]), vec![0], plt(&[])].concat();
+    each(|filter| {
+        let ready = |packet: &[u8]| {
+            let mut run = filter.started(NO_CAPTIONS);
+            assert!(run.passes(packet), "signalling goes out as it is");
+            run.passes(&media(99))
+        };
+        for count in [0, 1, 2, 255] {
+            let wanted = 4 * usize::from(count);
+            assert!(ready(&behind(count, wanted, true)), "{count}: not cut");
+            assert!(!ready(&behind(count, wanted, false)), "{count}: no table");
+            for bytes in 0..wanted {
+                assert!(!ready(&behind(count, bytes, false)), "{count}, {bytes}");
+            }
+            for bytes in 0..wanted.saturating_sub(plt(&[]).len()) {
+                assert!(!ready(&behind(count, bytes, true)), "{count}, {bytes}");
+            }
+        }
+        assert!(!ready(&signalling(0, &whole(&empty))), "no count");
+    });
+}
+
+/// The same of an MPT, alone, in an aggregate and joined from fragments.
+#[test]
+fn an_mpt_behind_a_cut_entry_is_not_learned() {
+    let body = |count: u8| [&[count][..], &mpt(&[caption(1)])].concat();
+    let payloads = |count: u8| {
+        let message = long_message(0, &body(count));
+        let (first, last) = message.split_at(9);
+        [
+            vec![whole(&message)],
+            vec![aggregate(std::slice::from_ref(&message))],
+            vec![fragment(1, first), fragment(3, last)],
+        ]
+    };
+    each(|filter| {
+        for (count, dropped) in [(0, 1), (8, 0), (255, 0)] {
+            for payloads in payloads(count) {
+                let mut run = filter.started(NO_CAPTIONS);
+                know(&mut run, &[service_at(0x0401, 0xf000)]);
+                for payload in payloads {
+                    run.send(&signalling(0xf000, &payload));
+                }
+                assert_eq!(run.dropped(), dropped, "{count} entries are announced");
+                assert_eq!(run.passes(&media(99)), dropped == 1, "ready");
+            }
+        }
+    });
+}
+
 #[test]
 fn r19_a_repeated_services_earlier_identifier_is_forgotten() {
     each(|filter| {

@@ -1,11 +1,11 @@
 //! The readings that concern narrowing. Their inputs and answers are named cases (`named/readings.rs`); what a
 //! stream shows of them stands here.
 
-use face::Options;
+use face::{Kind, Narrowed, Options};
 use oracle::builders::*;
 use oracle::named::{Named, named};
 
-use crate::subject::each;
+use crate::subject::{LIMITS, each};
 
 /// Asserts that the named cases whose names start so have the answers that stand beside them.
 fn holds(start: &str) {
@@ -151,4 +151,46 @@ fn a_packet_is_read_by_its_type_and_its_payload_type() {
     holds("a packet of type ");
     holds("a packet of payload type ");
     holds("the first ");
+}
+
+/// Whether the bytes are one packet, of its head's length.
+fn is_packet(bytes: &[u8]) -> bool {
+    match bytes {
+        [0x7f, 1 | 2 | 3 | 0xfe | 0xff, high, low, rest @ ..] => {
+            rest.len() == usize::from(u16::from_be_bytes([*high, *low]))
+        }
+        _ => false,
+    }
+}
+
+/// Every named packet, pushed between two that narrowing changes: what narrowing leaves goes out byte for byte.
+#[test]
+fn a_packet_that_narrowing_leaves_goes_out_as_it_is() {
+    let [around, narrowed] =
+        [vec![video(1), caption(2)], vec![video(1)]].map(|entries| tables(9, &[mpt(&entries)]));
+    let cases = named();
+    let packets = cases
+        .iter()
+        .filter(|case| case.input.kind == Kind::Packet && is_packet(&case.input.bytes))
+        .filter(|case| case.input.bytes.len() + 2 * around.len() <= LIMITS.work / 2);
+    let packets: Vec<_> = packets.collect();
+    each(|filter| {
+        let (mut left, mut changed) = (0, 0);
+        for Named { name, input, .. } in &packets {
+            let packet = &input.bytes;
+            let out = match (filter.narrow)(Kind::Packet, NO_CAPTIONS, 0, packet, packet.len()) {
+                Narrowed::Changed { out, .. } => out,
+                _ => packet.clone(),
+            };
+            let mut run = filter.started(NO_CAPTIONS);
+            run.send(&tables(0, &[plt(&[])]));
+            let call = run.send(&[&around[..], packet, &around].concat());
+            let written = [&narrowed[..], &out, &narrowed].concat();
+            assert_eq!(call.out, written, "{name}");
+            let rewritten = call.counts.rewritten - 2;
+            left += 1 - rewritten;
+            changed += rewritten;
+        }
+        assert!(left > 50 && changed > 20, "{left} left, {changed} changed");
+    });
 }
