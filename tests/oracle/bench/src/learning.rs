@@ -84,5 +84,6 @@ fn row(name: &str, changes: usize, payloads: Vec<Payload>) -> Row {
             let learn = |(identifier, payload): &Payload| known.observe(*identifier, payload);
             given.iter().map(learn).map(usize::from).sum()
         }),
+        aside: None,
     }
 }

@@ -1,8 +1,13 @@
-//! The command `bench [WORD]`: the proved code, compiled for this machine, against the original, in one run. Prints for
-//! each row, or each whose name has the word, the time of both and their ratio. `tests/bench` builds and runs it.
+//! The command `bench [WORD..]`: the proved code, compiled for this machine, against the original, in one run. Prints for
+//! each row the time of both and their ratio, and for whole streams a table; given words, only what has them all. A row
+//! has the words of its name, and its group: narrowing, learning, rules or calls. A line of the table has `table`, its
+//! stream and `chunk SIZE`, as `table nulls of 188 chunk 32768`. The word `short` is for the lines with chunks of 32,768
+//! and the calls. `tests/bench` builds and runs it.
 
 #[cfg(driver)]
 mod broadcast;
+#[cfg(driver)]
+mod calls;
 #[cfg(driver)]
 mod known;
 #[cfg(driver)]
@@ -12,26 +17,45 @@ mod measure;
 #[cfg(driver)]
 mod narrowing;
 #[cfg(driver)]
+mod passage;
+#[cfg(driver)]
 mod proved;
 #[cfg(driver)]
 mod rules;
-#[cfg(driver)]
+#[cfg(any(driver, test))]
+#[cfg_attr(not(driver), allow(dead_code))]
 mod streams;
+#[cfg(driver)]
+mod table;
 
 use std::process::ExitCode;
 
-/// The rows. One for each thing that is measured; see `measure::Row`.
+/// The rows, one for each thing that is measured (`measure::Row`), then the table.
 #[cfg(driver)]
 fn main() -> ExitCode {
-    let word = std::env::args().nth(1).unwrap_or_default();
-    let rows = [
-        narrowing::rows(),
-        learning::rows(),
-        rules::rows(),
-        streams::rows(),
-    ];
-    let asked = |row: &measure::Row| row.name.contains(&word);
-    measure::table(rows.into_iter().flatten().filter(asked).collect());
+    let words: Vec<String> = std::env::args().skip(1).collect();
+    let asked = |name: &str| words.iter().all(|word| name.contains(word));
+    let group = |more: &str, mut rows: Vec<measure::Row>| {
+        rows.retain(|row| asked(&format!("{more} {}", row.name)));
+        rows
+    };
+    let rows: Vec<_> = [
+        group("narrowing", narrowing::rows()),
+        group("learning", learning::rows()),
+        group("rules", rules::rows()),
+        group("calls short", calls::rows()),
+    ]
+    .into_iter()
+    .flatten()
+    .collect();
+    let mut lines = table::lines();
+    lines.retain(|line| asked(&line.words()));
+    if rows.is_empty() && lines.is_empty() {
+        eprintln!("bench: nothing has all of these words: {}", words.join(" "));
+        return ExitCode::from(2);
+    }
+    measure::print(rows);
+    table::print(&lines);
     ExitCode::SUCCESS
 }
 

@@ -17,10 +17,15 @@ pub struct Row {
     pub times: usize,
     pub original: Turn,
     pub proved: Turn,
+    /// What a turn does that is not to count, if anything: the original's side, then the proved one.
+    pub aside: Option<[Turn; 2]>,
 }
 
-/// Measures the rows and prints them.
-pub fn table(rows: Vec<Row>) {
+/// Measures the rows, if there are any, and prints them.
+pub fn print(rows: Vec<Row>) {
+    if rows.is_empty() {
+        return;
+    }
     println!(
         "ns for each, median of {RUNS} runs (quickest to slowest); ratio: how many times faster the proved code is"
     );
@@ -36,22 +41,33 @@ pub fn table(rows: Vec<Row>) {
 impl Row {
     /// What both sides take for doing it once.
     fn measured(&mut self) -> [Times; 2] {
-        let mut sides = [&mut self.original, &mut self.proved];
-        let turns = sides.each_mut().map(|side| turns(side));
-        let mut runs = [Vec::new(), Vec::new()];
-        for _ in 0..RUNS {
-            for (nth, side) in sides.iter_mut().enumerate() {
-                let time = run(side, turns[nth]) / turns[nth] as f64;
-                runs[nth].push(time / self.times as f64);
-            }
-        }
-        runs.map(Times::of)
+        let mut sides = vec![&mut self.original, &mut self.proved];
+        sides.extend(self.aside.iter_mut().flatten());
+        let runs = by_turns(&mut sides, RUNS);
+        let once = |nth: usize, time: f64| {
+            let aside = runs.get(nth + 2).map_or(0.0, |aside| aside.median);
+            (time - aside) / self.times as f64
+        };
+        [0, 1].map(|nth| runs[nth].map(|time| once(nth, time)))
     }
 }
 
-struct Times {
+/// What a turn of each side takes. The sides take turns, run by run.
+pub fn by_turns(sides: &mut [&mut Turn], runs: usize) -> Vec<Times> {
+    let turns: Vec<_> = sides.iter_mut().map(|side| turns(side)).collect();
+    let mut times = vec![Vec::new(); sides.len()];
+    for _ in 0..runs {
+        for (nth, side) in sides.iter_mut().enumerate() {
+            times[nth].push(run(side, turns[nth]) / turns[nth] as f64);
+        }
+    }
+    times.into_iter().map(Times::of).collect()
+}
+
+/// Of some runs.
+pub struct Times {
     least: f64,
-    median: f64,
+    pub median: f64,
     most: f64,
 }
 
@@ -62,6 +78,14 @@ impl Times {
             least: runs[0],
             median: runs[runs.len() / 2],
             most: runs[runs.len() - 1],
+        }
+    }
+
+    fn map(&self, change: impl Fn(f64) -> f64) -> Self {
+        Self {
+            least: change(self.least),
+            median: change(self.median),
+            most: change(self.most),
         }
     }
 

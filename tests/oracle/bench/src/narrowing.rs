@@ -95,6 +95,7 @@ fn row(name: &str, options: Options, packets: Vec<Vec<u8>>, work: Work) -> Row {
         times,
         original,
         proved: Box::new(move || each(work, &given, size, options, &mut out)),
+        aside: None,
     }
 }
 

@@ -51,5 +51,6 @@ fn row(name: &str, services: u16, assets: u16) -> Row {
             known.decide(options);
             1
         }),
+        aside: None,
     }
 }

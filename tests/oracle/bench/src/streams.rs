@@ -1,147 +1,87 @@
-//! Rows on whole streams: each turn a fresh filter takes one in, chunk by chunk, and writes to an output that is there
-//! already. The proved filter has 01's limits at 000's sizes, and counts; the original has neither.
+//! The streams of the table: each has some 1 MiB, and what a filter is to take out of it.
 
-use face::Options;
+use std::rc::Rc;
+
+use face::{Options, Part};
 use oracle::builders::{ALL, NO_CAPTIONS, only};
-use original::Untouched;
 
-use crate::measure::Row;
+const SIZE: usize = 1 << 20;
+const SEED: u64 = 1;
+/// The greatest packet that a filter takes.
+pub const MAXIMUM: usize = 65_539;
+/// A media packet as it is on the air.
+const USUAL: usize = 1_400;
+/// The smallest packet: a header with nothing behind it.
+const SMALLEST: usize = 4;
 
-const KIB: usize = 1_024;
-const STREAM: usize = 1_024 * KIB;
-const SHORT: usize = 16 * KIB;
+/// Neither captions nor carousels.
+pub const NEITHER: Options = Options {
+    carousel: false,
+    ..NO_CAPTIONS
+};
 
-/// The rooms of 01 at their greatest, but for the fragments.
-const WORK: usize = 131_078;
-const BODIES: usize = 1_024 * KIB;
-const MAPS: usize = 32_768;
-
-unsafe extern "C" {
-    fn driver_stream(
-        stream: *const u8,
-        length: usize,
-        size: usize,
-        kept: bool,
-        flags: u8,
-        service: u16,
-        work: *mut u8,
-        work_length: usize,
-        bodies: *mut u8,
-        bodies_length: usize,
-        maps: *mut u16,
-        maps_length: usize,
-        out: *mut u8,
-        room: usize,
-    ) -> usize;
+pub struct Stream {
+    pub name: &'static str,
+    pub options: Options,
+    pub bytes: Rc<[u8]>,
 }
 
-pub fn rows() -> Vec<Row> {
-    let neither = Options {
-        carousel: false,
-        ..NO_CAPTIONS
+pub fn streams() -> Vec<Stream> {
+    let stream = |name, options, bytes: Vec<u8>| Stream {
+        name,
+        options,
+        bytes: bytes.into(),
     };
-    let air = |size| maker::air(1, size);
-    let dense = || maker::dense(1, STREAM);
-    let kib = |name, options, stream: Vec<u8>, size| {
-        let times = stream.len() / KIB;
-        row(name, options, stream, size, times)
-    };
+    let neither = |name, bytes| stream(name, NEITHER, bytes);
+    let air = || maker::air(SEED, SIZE);
+    let media = |part, packet| maker::media(SEED, part, packet, SIZE);
+    let fragments = |identifiers| maker::fragmented(SEED, identifiers, SIZE);
     vec![
-        kib(
-            "push, air, a KiB, chunks of 32,768",
-            neither,
-            air(STREAM),
-            32_768,
-        ),
-        kib(
-            "push, air, a KiB, chunks of 8,192",
-            neither,
-            air(STREAM),
-            8_192,
-        ),
-        kib(
-            "push, air, a KiB, a service of six",
-            only(0x0401),
-            air(STREAM),
-            32_768,
-        ),
-        kib(
-            "push, copy-all, a KiB, chunks of 32,768",
-            ALL,
-            air(STREAM),
-            32_768,
-        ),
-        kib(
-            "push, tables, a KiB, chunks of 32,768",
-            neither,
-            dense(),
-            32_768,
-        ),
-        kib(
-            "push, tables, a KiB, chunks of 8,192",
-            neither,
-            dense(),
-            8_192,
-        ),
-        row("push, a call with one byte", neither, air(SHORT), 1, SHORT),
+        neither("air, no captions or carousels", air()),
+        stream("air, one service of six", only(0x0401), air()),
+        neither("dense tables", maker::dense(SEED, SIZE)),
+        stream("copy-all", ALL, air()),
+        neither("nulls of 188", maker::nulls(188, SIZE)),
+        neither("garbage, random", maker::garbage(SEED, SIZE)),
+        neither("garbage, zeros", vec![0; SIZE]),
+        neither("tiny packets", maker::nulls(SMALLEST, SIZE)),
+        neither("maximum packets, pass", media(Part::Other, MAXIMUM)),
+        neither("maximum packets, dropped", media(Part::Carousel, MAXIMUM)),
+        neither("media, all pass", media(Part::Other, USUAL)),
+        neither("media, all dropped", media(Part::Carousel, USUAL)),
+        neither("fragments over 1", fragments(1)),
+        neither("fragments over 5", fragments(5)),
+        neither("fragments over 16", fragments(16)),
+        neither("fragments over 256", fragments(256)),
     ]
 }
 
-/// What the proved filter is lent.
-struct Rooms {
-    work: Vec<u8>,
-    bodies: Vec<u8>,
-    maps: Vec<u16>,
-    out: Vec<u8>,
-}
+#[cfg(test)]
+mod tests {
+    use original::Untouched;
 
-impl Rooms {
-    /// With an output for a stream of this length.
-    fn new(stream: usize) -> Self {
-        Self {
-            work: vec![0; WORK],
-            bodies: vec![0; BODIES],
-            maps: vec![0; MAPS],
-            out: vec![0; stream + WORK],
-        }
+    use super::{Stream, streams};
+
+    /// How much of a stream goes out, in percent.
+    fn share(stream: &Stream) -> usize {
+        let mut out = Vec::new();
+        Untouched::new(stream.options).stream(&stream.bytes, 0, 32_768, true, &mut out);
+        100 * out.len() / stream.bytes.len()
     }
 
-    /// The proved side of `Untouched::stream`, with a fresh filter.
-    fn stream(&mut self, options: Options, stream: &[u8], size: usize, kept: bool) -> usize {
-        // SAFETY: all are whole and apart, and the driver keeps none.
-        unsafe {
-            driver_stream(
-                stream.as_ptr(),
-                stream.len(),
-                size,
-                kept,
-                options.flags(),
-                options.service.unwrap_or(0),
-                self.work.as_mut_ptr(),
-                self.work.len(),
-                self.bodies.as_mut_ptr(),
-                self.bodies.len(),
-                self.maps.as_mut_ptr(),
-                self.maps.len(),
-                self.out.as_mut_ptr(),
-                self.out.len(),
-            )
+    #[test]
+    fn streams_pass_or_not_as_their_names_say() {
+        for stream in streams() {
+            let expected = match stream.name {
+                "air, no captions or carousels" => 85..=95,
+                "air, one service of six" => 15..=25,
+                "dense tables" => 60..=90,
+                "garbage, random" | "garbage, zeros" => 0..=20,
+                name if name.ends_with("dropped") => 0..=0,
+                _ => 99..=100,
+            };
+            let share = share(&stream);
+            assert!(expected.contains(&share), "{}: {share} %", stream.name);
         }
-    }
-}
-
-/// A row whose stream both sides filter alike.
-fn row(name: &str, options: Options, stream: Vec<u8>, size: usize, times: usize) -> Row {
-    let mut rooms = Rooms::new(stream.len());
-    let mut out = Vec::with_capacity(rooms.out.len());
-    Untouched::new(options).stream(&stream, size, true, &mut out);
-    let written = rooms.stream(options, &stream, size, true);
-    assert!(rooms.out[..written] == out, "{name}");
-    let given = stream.clone();
-    Row {
-        name: name.to_owned(),
-        times,
-        original: Box::new(move || Untouched::new(options).stream(&stream, size, false, &mut out)),
-        proved: Box::new(move || rooms.stream(options, &given, size, false)),
     }
 }

@@ -1,5 +1,7 @@
-//! Clean streams for benchmarks: one like a broadcast on the air, and one dense with tables.
-//! Their broadcast never changes, so that a seed decides only the order and the media.
+//! Clean streams for benchmarks: one like a broadcast on the air, one dense with tables, and streams of packets that are all
+//! alike. Their broadcast never changes, so that a seed decides only the order and the media.
+
+use face::Part;
 
 use crate::messages::{self, Pa};
 use crate::mmtp::{MEDIA, SIGNALLING};
@@ -11,6 +13,10 @@ const SERVICES: u16 = 6;
 /// Media packets between two bursts of tables.
 const BURST_EACH: usize = 60;
 const AIR_PACKET: usize = 1_400;
+/// The first identifier of messages in fragments. No table names any of them.
+const FRAGMENTED: u16 = 0x2000;
+/// The number of a message that is not looked into. Five bytes stand before its body.
+const UNREAD: u16 = 0x8000;
 /// What stands before a payload: the TLV, the compressed IP and the MMTP header.
 const HEADERS: usize = tlv::HEADER + 3 + 12;
 const KINDS: [&[u8; 4]; 6] = [b"hvc1", b"mp4a", b"mp4a", b"stpp", b"aapp", b"asgd"];
@@ -46,13 +52,31 @@ impl Stream {
         self.bytes.extend(tlv::packet(NULL, &rest));
     }
 
+    /// Whether another packet of this length fits in a stream that only whole packets make up.
+    fn takes(&self, packet: usize) -> bool {
+        self.bytes.len() + packet <= self.size
+    }
+
     fn send(&mut self, identifier: u16, kind: u8, payload: &[u8]) {
+        let packet = self.packet(identifier, kind, payload);
+        self.push(&packet);
+    }
+
+    fn packet(&mut self, identifier: u16, kind: u8, payload: &[u8]) -> Vec<u8> {
         let mut header = vec![0, kind];
         header.extend_from_slice(&identifier.to_be_bytes());
         header.extend(self.rng.bytes(8));
         header.extend_from_slice(payload);
-        let packet = tlv::carry(&mut self.rng, Carrier::Compressed(0x61), &header);
-        self.push(&packet);
+        tlv::carry(&mut self.rng, Carrier::Compressed(0x61), &header)
+    }
+
+    /// The PLT, and the MPT of each service.
+    fn burst(&mut self) {
+        self.send(0, SIGNALLING, &messages::whole(0, &plt()));
+        for service in 0..SERVICES {
+            let payload = messages::whole(0, &mpt(service, 1));
+            self.send(mpt_identifier(service), SIGNALLING, &payload);
+        }
     }
 }
 
@@ -91,11 +115,7 @@ fn mpt(service: u16, times: usize) -> Vec<u8> {
 pub(crate) fn air(seed: u64, size: usize) -> Vec<u8> {
     let mut stream = Stream::new(Rng::new(seed, 4), size);
     while !stream.full() {
-        stream.send(0, SIGNALLING, &messages::whole(0, &plt()));
-        for service in 0..SERVICES {
-            let payload = messages::whole(0, &mpt(service, 1));
-            stream.send(mpt_identifier(service), SIGNALLING, &payload);
-        }
+        stream.burst();
         for _ in 0..BURST_EACH {
             let service = stream.rng.below(usize::from(SERVICES)) as u16;
             let nth = stream
@@ -133,4 +153,51 @@ pub(crate) fn dense(seed: u64, size: usize) -> Vec<u8> {
         }
     }
     stream.bytes
+}
+
+pub(crate) fn nulls(packet: usize, size: usize) -> Vec<u8> {
+    tlv::packet(NULL, &vec![0; packet - tlv::HEADER]).repeat(size / packet)
+}
+
+pub(crate) fn media(seed: u64, part: Part, packet: usize, size: usize) -> Vec<u8> {
+    let mut stream = Stream::new(Rng::new(seed, 6), size);
+    stream.burst();
+    let nth = match part {
+        Part::Other => 0,
+        Part::Caption => 3,
+        Part::Carousel => 4,
+    };
+    while stream.takes(packet) {
+        let payload = stream.rng.bytes(packet - HEADERS);
+        let packet = stream.packet(asset_identifier(0, nth), MEDIA, &payload);
+        stream.bytes.extend(packet);
+    }
+    stream.bytes
+}
+
+pub(crate) fn fragmented(seed: u64, identifiers: u16, size: usize) -> Vec<u8> {
+    let mut stream = Stream::new(Rng::new(seed, 7), size);
+    stream.burst();
+    while stream.bytes.len() < size {
+        let messages: Vec<_> = (0..identifiers).map(|_| thirds(&mut stream.rng)).collect();
+        for nth in 0..3 {
+            for (identifier, thirds) in (FRAGMENTED..).zip(&messages) {
+                let packet = stream.packet(identifier, SIGNALLING, &thirds[nth]);
+                stream.bytes.extend(packet);
+            }
+        }
+    }
+    stream.bytes
+}
+
+/// The payloads of a message that fills three packets of a broadcast, and teaches nothing.
+fn thirds(rng: &mut Rng) -> Vec<Vec<u8>> {
+    let third = AIR_PACKET - HEADERS - 2;
+    let body = rng.bytes(3 * third - 5);
+    let message = messages::message(UNREAD, &body);
+    messages::fragments(0, &message, &[third, 2 * third])
+}
+
+pub(crate) fn garbage(seed: u64, size: usize) -> Vec<u8> {
+    Rng::new(seed, 8).bytes(size)
 }

@@ -23,7 +23,7 @@ mod tags;
 mod tests;
 mod tlv;
 
-use face::{Kind, Limits, Options};
+use face::{Kind, Limits, Options, Part};
 
 /// A stream, how it is cut into chunks, and what the filter is told at its start.
 #[derive(Debug, Clone, PartialEq, Eq)]
@@ -81,4 +81,26 @@ pub fn air(seed: u64, size: usize) -> Vec<u8> {
 /// A clean stream of `size` bytes (none where that is under four), most of it tables.
 pub fn dense(seed: u64, size: usize) -> Vec<u8> {
     bench::dense(seed, size)
+}
+
+/// Null packets of `packet` bytes each, header included (four at least), as many as fit in `size` bytes.
+pub fn nulls(packet: usize, size: usize) -> Vec<u8> {
+    bench::nulls(packet, size)
+}
+
+/// A clean stream of at most `size` bytes: the tables of `air` once, then media packets of `packet` bytes each, header
+/// included (65,539 at most), all of one identifier, which a table names as an asset of this kind.
+pub fn media(seed: u64, part: Part, packet: usize, size: usize) -> Vec<u8> {
+    bench::media(seed, part, packet, size)
+}
+
+/// A clean stream of at least `size` bytes: the tables of `air` once, then rounds of messages in three packets of 1,400
+/// bytes, a message for each of so many identifiers: all their firsts, then all their middles, then all their lasts.
+pub fn fragmented(seed: u64, identifiers: u16, size: usize) -> Vec<u8> {
+    bench::fragmented(seed, identifiers, size)
+}
+
+/// Random bytes. Some look like the start of a packet until the bytes behind them are there.
+pub fn garbage(seed: u64, size: usize) -> Vec<u8> {
+    bench::garbage(seed, size)
 }

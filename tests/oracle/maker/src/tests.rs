@@ -3,14 +3,17 @@
 
 use std::collections::{BTreeMap, BTreeSet};
 
-use face::{Limits, Options};
+use face::{Limits, Options, Part};
 
 use crate::cuts::{CUT_MOST, CUTS_MOST, ROOM_MOST};
 use crate::limits::{ORIGINAL, TOTAL_MOST};
 use crate::mmtp::SIGNALLING;
 use crate::tags::{FLOORS, Tag};
 use crate::tlv::{self, SYNC};
-use crate::{Case, air, case, cases, cuts, dense, examples, inputs, narrowing, plain_case};
+use crate::{
+    Case, air, case, cases, cuts, dense, examples, fragmented, inputs, media, narrowing, nulls,
+    plain_case,
+};
 
 const SEEDS: u64 = 2_000;
 const WORK_MOST: usize = 131_200;
@@ -181,6 +184,32 @@ fn benchmark_streams_are_clean_and_as_long_as_asked() {
         .into_iter()
         .filter(|packet| packet.get(8) == Some(&SIGNALLING));
     assert!(tables.map(<[u8]>::len).sum::<usize>() > 900_000);
+}
+
+#[test]
+fn benchmark_streams_are_of_packets_that_are_alike() {
+    assert!(packets(&nulls(4, 1_000)).iter().all(|null| null.len() == 4));
+    assert_eq!(packets(&nulls(188, 1_000)).len(), 5);
+    let parts = [Part::Caption, Part::Carousel, Part::Other];
+    for (part, size) in parts.into_iter().zip([1_400, 20, 65_539]) {
+        let stream = media(7, part, size, 300_000);
+        let all = packets(&stream);
+        assert!((300_000 - size..=300_000).contains(&stream.len()));
+        assert!(all[7..].iter().all(|packet| packet.len() == size));
+        assert!(all[7..].iter().all(|packet| packet[8..11] == all[7][8..11]));
+    }
+}
+
+#[test]
+fn fragments_take_turns() {
+    let stream = fragmented(7, 16, 100_000);
+    let fragments = &packets(&stream)[7..];
+    assert!(fragments.iter().all(|packet| packet.len() == 1_400));
+    assert_eq!(fragments.len(), 2 * 3 * 16);
+    for (nth, packet) in fragments.iter().enumerate() {
+        assert_eq!(usize::from(packet[10]), nth % 16);
+        assert_eq!(usize::from(packet[19] >> 6), nth / 16 % 3 + 1);
+    }
 }
 
 /// The table of an example input, in hexadecimal digits.

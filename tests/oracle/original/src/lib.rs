@@ -83,10 +83,18 @@ impl Untouched {
         Self(untouched::Filter::new(options))
     }
 
-    /// A stream in chunks of `size` bytes; answers how many bytes were written. They stand one behind the other in the
-    /// output or, not kept, each chunk's at its start.
-    pub fn stream(&mut self, stream: &[u8], size: usize, kept: bool, out: &mut Vec<u8>) -> usize {
+    /// A stream, `first` bytes at once and the others in chunks of `size`; answers how many bytes were written. They stand
+    /// one behind the other in the output or, not kept, each chunk's at its start.
+    pub fn stream(
+        &mut self,
+        stream: &[u8],
+        first: usize,
+        size: usize,
+        kept: bool,
+        out: &mut Vec<u8>,
+    ) -> usize {
         out.clear();
+        let (start, rest) = stream.split_at(first);
         let pass = |chunk| {
             if !kept {
                 out.clear();
@@ -95,7 +103,8 @@ impl Untouched {
             self.0.push(chunk, out);
             out.len() - before
         };
-        stream.chunks(size).map(pass).sum()
+        let start = (first > 0).then_some(start);
+        start.into_iter().chain(rest.chunks(size)).map(pass).sum()
     }
 
     /// The bytes that are written for a chunk.
