@@ -17,7 +17,8 @@ pub struct Row {
     pub times: usize,
     pub original: Turn,
     pub proved: Turn,
-    /// What a turn does that is not to count, if anything: the original's side, then the proved one.
+    /// What a turn does that is not to count, if anything, by the original and by the proved code. It is measured beside
+    /// them, and its median taken away.
     pub aside: Option<[Turn; 2]>,
 }
 
@@ -34,7 +35,7 @@ pub fn print(rows: Vec<Row>) {
         let [original, proved] = row.measured();
         let (name, ratio) = (row.name, original.median / proved.median);
         let (original, proved) = (original.told(), proved.told());
-        println!("{name:44}{original:>26}{proved:>26}{ratio:>8.2}");
+        println!("{name:44}{original:>26}{proved:>26}{:>8}", figure(ratio));
     }
 }
 
@@ -95,6 +96,19 @@ impl Times {
             [self.median, self.least, self.most].map(|time| format!("{time:.decimals$}"));
         format!("{median} ({least}-{most})")
     }
+}
+
+/// A number with three digits that count, and all of those before the point.
+pub fn figure(number: f64) -> String {
+    let decimals = match number {
+        100.0.. => 0,
+        10.0.. => 1,
+        1.0.. => 2,
+        0.1.. => 3,
+        0.01.. => 4,
+        _ => 5,
+    };
+    format!("{number:.decimals$}")
 }
 
 /// How many turns make a run long enough. To find out warms the side up.

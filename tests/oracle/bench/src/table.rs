@@ -1,7 +1,8 @@
 //! The table: each stream in chunks of each size, through both filters and copied. A turn is the whole stream with a fresh
-//! filter, so what a filter takes to start is in its time.
+//! filter, so what a filter takes to start is in its time. GB/s are bytes of the stream for each nanosecond, whatever of
+//! them goes out; ns a call are a turn's time by its calls, the last of which may have a shorter chunk.
 
-use crate::measure;
+use crate::measure::{by_turns, figure};
 use crate::passage::Passage;
 use crate::streams::{Stream, streams};
 
@@ -9,11 +10,11 @@ use crate::streams::{Stream, streams};
 const CHUNKS: [usize; 6] = [188, 1_316, 4_096, 8_192, 32_768, 65_536];
 /// The size of the short form.
 const SHORT: usize = 32_768;
-/// Fewer runs than a row's: there are many lines, and each turn is long.
-const RUNS: usize = 31;
+/// Fewer runs than of a row: there are many lines, and a turn is long.
+const RUNS: usize = 61;
 
 pub struct Line {
-    pub name: &'static str,
+    name: &'static str,
     passage: Passage,
 }
 
@@ -32,7 +33,7 @@ impl Line {
             self.passage.original(),
             self.passage.proved(),
         ];
-        let times = measure::by_turns(&mut sides.each_mut(), RUNS);
+        let times = by_turns(&mut sides.each_mut(), RUNS);
         let medians: Vec<_> = times.iter().map(|times| times.median).collect();
         let (bytes, calls) = (
             self.passage.stream.len() as f64,
@@ -87,15 +88,4 @@ pub fn print(lines: &[Line]) {
     for line in lines {
         line.print();
     }
-}
-
-/// A number with three digits that count, or all of those before the point.
-fn figure(number: f64) -> String {
-    let decimals = match number {
-        100.0.. => 0,
-        10.0.. => 1,
-        1.0.. => 2,
-        _ => 3,
-    };
-    format!("{number:.decimals$}")
 }
