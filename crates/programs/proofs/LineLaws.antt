@@ -1,7 +1,7 @@
 -- Numbers as text: how long they are, and that a digit stands alone or behind those of a tenth; which line is the last. Rests on what was
 -- written (Writes of `meaning`).
 use Prim.Native.Nat.{ℕ, zero, suc, _+_, _-_, _/_, _%_, _≤_, _<_}
-use mathlib.Core.Path.{_≡_, refl, ap}
+use mathlib.Core.Path.{_≡_, refl}
 use mathlib.Core.Bool.{Bool, true, false, cond}
 use mathlib.Core.List.{[], _∷_, _++_}
 use native.Mathlib.Omega.{arith}

@@ -1,6 +1,6 @@
 -- A stream from its start over chunk after chunk to its end, and what is left to be told of an input. Rests on ProgramLaws and SeriesLaws
 -- of `meaning`: no call of a program is refused, and one chunk more is one call more.
-use Prim.Native.Nat.{ℕ, _-_, _≤_}
+use Prim.Native.Nat.{ℕ, zero, suc, _-_, _≤_}
 use mathlib.Core.Path.{_≡_, refl, sym, ap, _∙_, subst}
 use mathlib.Core.Bool.{Bool, cond, true, false, false≢true}
 use mathlib.Core.List.{List, [], _∷_, _++_, flatten, append-assoc, append-nil}
@@ -9,10 +9,11 @@ use lib.ListN.{length, take, drop, replicate, length-replicate, length-take}
 use lib.Dec.{eqb}
 use borrow.Author.Tests.{eqb-true}
 use Rattle.meaning.specs.Bytes.{Bytes}
+use Rattle.meaning.specs.Writing.{Wrote}
 use Rattle.meaning.specs.Refusals.{numberOf, answerNumber}
 use Rattle.meaning.specs.Rooms.{goodWorkRoom, goodFragmentRoom, goodMapRoom}
 use Rattle.meaning.specs.Record.{State, Record, recordOf, stateOf}
-use Rattle.meaning.specs.Calls.{countsOf, Called}
+use Rattle.meaning.specs.Calls.{Called}
 use Rattle.meaning.specs.Start.{startRefusal, fresh, started}
 use Rattle.meaning.specs.Push.{push, called}
 use Rattle.meaning.specs.Tally.{addCounts, fits64, tallyRefusal, tallied}
@@ -29,11 +30,14 @@ use Rattle.recorder.specs.declared.Started.{Started}
 use Rattle.recorder.specs.Filter.{recordIn}
 use Rattle.recorder.specs.Calls.{StartedAs, RoomsAfter}
 use Rattle.programs.specs.declared.pipe.Filled.{Filled}
+use Rattle.programs.specs.declared.asked.Asked.{Asked}
 use Rattle.programs.specs.declared.lines.Ending.{Ending}
 use Rattle.programs.specs.declared.stream.Standing.{Standing}
-use Rattle.programs.specs.Lines.{lastLine}
-use Rattle.programs.specs.Stream.{firstOf, TakenAs, goesOn, endedAs, sumsRefusal, Come, Goes, endingOf, unaskedAs, runRefusal, Ran}
-use Rattle.programs.proofs.LineLaws.{last-refused, last-written, last-sums}
+use Rattle.programs.specs.Pipe.{cameOf}
+use Rattle.programs.specs.Asked.{askedOf}
+use Rattle.programs.specs.Lines.{lineBy, lastLine}
+use Rattle.programs.specs.Stream.{firstOf, toWrite, TakenAs, endedAs, NextAs, goesOn, sumsRefusal, Come, Goes, begunAs, endingOf, unaskedAs, runRefusal, Ran, RanBy, lineFor, Told}
+use Rattle.programs.proofs.AskedLaws.{nothing-asked, asked-options}
 
 -- ---- a start
 
@@ -41,13 +45,9 @@ program-start : (n : ℕ) → n ≡ 32768 → startRefusal (programLimits .work)
 unfolding startRefusal goodWorkRoom goodFragmentRoom goodMapRoom programLimits
 program-start n e = rw e
 
--- where a stream begins
-abbrev begun : Started → Counts → Standing
-begun s sums = record { answer = s .answer; failed = false; bytes = 0; sums = sums; filter = s .filter }
-
-module _ (o : Options) (map-room : List ℕ) (zero : map-room ≡ replicate 32768 0) where
+module _ (o : Options) (map-room : List ℕ) (zeros : map-room ≡ replicate 32768 0) where
   map-room-long : length map-room ≡ 32768
-  map-room-long = ap length zero ∙ length-replicate {A = ℕ} 32768 0
+  map-room-long = ap length zeros ∙ length-replicate {A = ℕ} 32768 0
 
   start-done : started programLimits o map-room .number ≡ 0
   unfolding started
@@ -58,7 +58,7 @@ module _ (o : Options) (map-room : List ℕ) (zero : map-room ≡ replicate 3276
   start-handed = rw start-done
 
   fresh-is : programCalls o [] .state ≡ fresh map-room
-  fresh-is = ap (λ (s : Series). s .state) (calls-none o) ∙ ap fresh (sym zero)
+  fresh-is = ap (λ (s : Series). s .state) (calls-none o) ∙ ap fresh (sym zeros)
 
   total-few : programLimits .total ≤ 16777216
   unfolding programLimits
@@ -72,15 +72,15 @@ module _ (o : Options) (map-room : List ℕ) (zero : map-room ≡ replicate 3276
   unfolding programLimits
   limits-are work bodies e f = λ i. record { work = e i; total = f i; most = 65536 }
 
-  pub come-start : (work bodies : Bytes) (s : Started) (sums : Counts) → length work ≡ 65536 → length bodies ≡ 65536
-      → StartedAs (record { work = length work; total = length bodies; most = 65536 }) o map-room s → sums ≡ countsOf 0 → Come o [] (begun s sums) work bodies map-room
-  come-start work bodies s sums w b p e =
+  pub come-start : (work bodies : Bytes) (s : Started) → length work ≡ 65536 → length bodies ≡ 65536
+      → StartedAs (record { work = length work; total = length bodies; most = 65536 }) o map-room s → Come o [] (begunAs s) work bodies map-room
+  come-start work bodies s w b p =
       let q = subst (λ (L : Limits). StartedAs L o map-room s) (limits-are (length work) (length bodies) w b) p in
       let r : recordIn (s .filter) ≡ recordOf programLimits o (fresh map-room) = q .handed-is ∙ start-handed in
       record {
         chunks-are = tt;
         answer-is = q .answer-is ∙ start-done ∙ sym none-summed;
-        sums-are = λ done. e ∙ ap (λ (z : Series). z .counts) (sym (calls-none o));
+        sums-are = λ done. ap (λ (z : Series). z .counts) (sym (calls-none o));
         record-is = r ∙ ap (recordOf programLimits o) (sym fresh-is);
         state-is =
             ap (λ (z : Record). stateOf z work bodies map-room) r
@@ -96,6 +96,11 @@ module _ (o : Options) (map-room : List ℕ) (zero : map-room ≡ replicate 3276
   start-taken h = h .answer-is ∙ none-summed
 
 -- ---- one chunk more
+
+-- Of nothing to be written no part is.
+pub none-to-write : (writes : Bool) (n : ℕ) (s : Bytes) → toWrite writes n ≡ 0 → toWrite writes (length (take (n - 0) s)) ≡ 0
+none-to-write true n s e = simp length-take (omega arith)
+none-to-write false n s e = refl
 
 tally-sums : (a b : Counts) → tallyRefusal a b ≡ sumsRefusal (addCounts a b)
 unfolding tallyRefusal sumsRefusal
@@ -117,7 +122,7 @@ room-long = (refl, refl)
 
 module _ (o : Options) (cs : List Bytes) (x y : Standing) (work bodies : Bytes) (map-room : List ℕ) (chunk out work′ bodies′ : Bytes) (map-room′ : List ℕ) (out′ : Bytes)
     (h : Come o cs x work bodies map-room) (done : answerNumber (x .answer) ≡ 0) (some-bytes : 1 ≤ length chunk) (few : length chunk ≤ 32768) (out-long : length out ≡ 65536)
-    (t : TakenAs (recordIn (x .filter)) (x .sums) work bodies map-room chunk out y work′ bodies′ map-room′ out′) where
+    {writes : Bool} (t : TakenAs writes (recordIn (x .filter)) (x .sums) work bodies map-room chunk out y work′ bodies′ map-room′ out′) where
   abbrev st : State
   st = programCalls o cs .state
 
@@ -169,18 +174,7 @@ pub goes-none : {x : Standing} {work bodies : Bytes} {map-room : List ℕ} → G
 goes-none {x} {work} {bodies} {map-room} = λ o cs h. ([], subst (λ (l : List Bytes). Come o l x work bodies map-room) (sym (append-nil cs)) h)
 
 module _ {x₀ x : Standing} {work₀ bodies₀ work bodies : Bytes} {map-room₀ map-room : List ℕ} (g : Goes x₀ work₀ bodies₀ map-room₀ x work bodies map-room) where
-  pub goes-next : {y : Standing} {chunk out work′ bodies′ : Bytes} {map-room′ : List ℕ} {out′ : Bytes} → answerNumber (x .answer) ≡ 0 → 1 ≤ length chunk → length chunk ≤ 32768
-      → length out ≡ 65536 → TakenAs (recordIn (x .filter)) (x .sums) work bodies map-room chunk out y work′ bodies′ map-room′ out′
-      → length work′ ≡ length work → length bodies′ ≡ length bodies → length map-room′ ≡ length map-room
-      → Goes x₀ work₀ bodies₀ map-room₀ y work′ bodies′ map-room′
-  goes-next {y} {chunk} {out} {work′} {bodies′} {map-room′} {out′} done some-bytes few long t w b m = λ o cs h.
-      let k = g o cs h in (
-        k .0 ++ (chunk ∷ []),
-        subst (λ (l : List Bytes). Come o l y work′ bodies′ map-room′) (append-assoc cs (k .0) (chunk ∷ []))
-            (come-next o (cs ++ k .0) x y work bodies map-room chunk out work′ bodies′ map-room′ out′ (k .1) done some-bytes few long t w b m),
-      )
-
-  pub goes-ended : (came : Filled) → Goes x₀ work₀ bodies₀ map-room₀ (endedAs x came) work bodies map-room
+  goes-ended : (came : Filled) → Goes x₀ work₀ bodies₀ map-room₀ (endedAs x came) work bodies map-room
   goes-ended (Filled.Bytes n) = g
   goes-ended Filled.Failed = λ o cs h.
       let k = g o cs h in
@@ -198,16 +192,32 @@ module _ {x₀ x : Standing} {work₀ bodies₀ work bodies : Bytes} {map-room�
         },
       )
 
-pub going : (x : Standing) → goesOn x ≡ true → answerNumber (x .answer) ≡ 0
-going x e = go (x .failed) e
-  where
-    go : (b : Bool) → cond b false (eqb (answerNumber (x .answer)) 0) ≡ true → answerNumber (x .answer) ≡ 0
-    go true q = absurd (false≢true q)
-    go false q = eqb-true (answerNumber (x .answer)) 0 q
+  module _ {writes : Bool} {y : Standing} {out work′ bodies′ : Bytes} {map-room′ : List ℕ} {out′ : Bytes} (done : answerNumber (x .answer) ≡ 0) (long : length out ≡ 65536)
+      (w : length work′ ≡ length work) (b : length bodies′ ≡ length bodies) (m : length map-room′ ≡ length map-room) where
+    goes-next : {chunk : Bytes} → 1 ≤ length chunk → length chunk ≤ 32768 → TakenAs writes (recordIn (x .filter)) (x .sums) work bodies map-room chunk out y work′ bodies′ map-room′ out′
+        → Goes x₀ work₀ bodies₀ map-room₀ y work′ bodies′ map-room′
+    goes-next {chunk} some-bytes few t = λ o cs h.
+        let k = g o cs h in (
+          k .0 ++ (chunk ∷ []),
+          subst (λ (l : List Bytes). Come o l y work′ bodies′ map-room′) (append-assoc cs (k .0) (chunk ∷ []))
+              (come-next o (cs ++ k .0) x y work bodies map-room chunk out work′ bodies′ map-room′ out′ (k .1) done some-bytes few long t w b m),
+        )
 
--- The part of a chunk that came.
-pub part-came : (n : ℕ) (s : Bytes) → 1 ≤ n → n ≤ length s → length s ≡ 32768 → (1 ≤ length (take (n - 0) s)) × (length (take (n - 0) s) ≤ 32768)
-part-came n s h k e = (simp length-take (omega arith), simp length-take (omega arith))
+    pub goes-read : {came : Filled} {chunk : Bytes} → cameOf came ≤ length chunk → length chunk ≡ 32768 → NextAs writes x came work bodies map-room chunk out y work′ bodies′ map-room′ out′
+        → Goes x₀ work₀ bodies₀ map-room₀ y work′ bodies′ map-room′
+    goes-read {came} {chunk} within full t = go (cameOf came) refl
+      where
+        go : (n : ℕ) → cameOf came ≡ n → Goes x₀ work₀ bodies₀ map-room₀ y work′ bodies′ map-room′
+        go zero e = let k = t .none-came e in rw (k .0, k .1, k .2, k .3) (goes-ended came)
+        go (suc n) e = goes-next (simp length-take (omega arith)) (simp length-take (omega arith)) (t .some-came (omega arith))
+
+pub going : (x : Standing) (came : Filled) → goesOn x came ≡ true → answerNumber (x .answer) ≡ 0
+going x came e = go (eqb (cameOf came) 0) (x .failed) e
+  where
+    go : (none failed : Bool) → cond none false (cond failed false (eqb (answerNumber (x .answer)) 0)) ≡ true → answerNumber (x .answer) ≡ 0
+    go true failed q = absurd (false≢true q)
+    go false true q = absurd (false≢true q)
+    go false false q = eqb-true (answerNumber (x .answer)) 0 q
 
 -- What holds at each turn of the loop: lengths, nothing refused, and how far the stream has come.
 pub record Passing (chunk₀ work₀ bodies₀ : Bytes) (map-room₀ : List ℕ) (out₀ : Bytes) (x₀ : Standing) (chunk work bodies : Bytes) (map-room : List ℕ) (out : Bytes) (x : Standing) : Type 0 where
@@ -221,12 +231,12 @@ pub record Passing (chunk₀ work₀ bodies₀ : Bytes) (map-room₀ : List ℕ)
 
 -- ---- an input
 
-pub refused-empty : inputRefused [] ≡ true
+refused-empty : inputRefused [] ≡ true
 unfolding inputRefused
 refused-empty = refl
 
 module _ (head : Bytes) where
-  pub ran-unasked : (failed : Bool) → inputRefused head ≡ true → length head ≤ 3 → Ran head [] (unaskedAs failed)
+  ran-unasked : (failed : Bool) → inputRefused head ≡ true → length head ≤ 3 → Ran head [] (unaskedAs failed)
   unfolding runRefusal answerNumber numberOf
   ran-unasked failed e short = record {
     head-short = short;
@@ -240,7 +250,7 @@ module _ (head : Bytes) where
   unfolding recordIn recordOf
   held-by o st x e = ap (λ (r : Record). r .held-count) e
 
-  pub ran-stream : {cs : List Bytes} {x : Standing} {work bodies : Bytes} {map-room : List ℕ} → inputRefused head ≡ false → length head ≤ 3
+  ran-stream : {cs : List Bytes} {x : Standing} {work bodies : Bytes} {map-room : List ℕ} → inputRefused head ≡ false → length head ≤ 3
       → Come (inputOptions head) cs x work bodies map-room → Ran head cs (endingOf x)
   unfolding runRefusal
   ran-stream {cs} {x} e short h = record {
@@ -251,40 +261,84 @@ module _ (head : Bytes) where
     held-is = λ z. held-by (inputOptions head) (programCalls (inputOptions head) cs .state) x (h .record-is);
   }
 
--- ---- the last line, where head and chunks are those of an input whose sums fit
+-- By what was read of a head.
+module _ {came : Filled} {n : ℕ} (s : Bytes) (is : came ≡ Filled.Bytes n) (short : length s ≤ 3) where
+  part-short : length (take n s) ≤ 3
+  part-short = simp length-take (omega arith)
 
-module _ (s : Bytes) (e : Ending) (r : Ran (take 3 s) (walk chunk (drop 3 s) .found) e) (fits : fits64 (sumsOf s .counts) ≡ true) (well : e .failed ≡ false) where
+  pub by-nothing : askedOf (take n s) ≡ Asked.Nothing → RanBy came s (unaskedAs false)
+  by-nothing e = rw is (([], ran-unasked (take n s) false (nothing-asked (take n s) e) part-short), λ z. refl)
+
+  pub by-stream : {o : Options} {x : Standing} {work bodies : Bytes} {map-room : List ℕ} → askedOf (take n s) ≡ Asked.For o → ((cs : List Bytes) × Come o cs x work bodies map-room)
+      → RanBy came s (endingOf x)
+  by-stream {o} e h =
+      let k = asked-options (take n s) e in
+      rw is ((h .0, ran-stream (take n s) (k .0) part-short (rw (k .1) at (h .1))), λ z. absurd (false≢true (sym (k .0) ∙ z)))
+
+-- There is a head.
+pub ran-some : (came : Filled) (s : Bytes) {e : Ending} → RanBy came s e → (head : Bytes) × (cs : List Bytes) × Ran head cs e
+ran-some (Filled.Bytes n) s r = (take n s, r .0 .0, r .0 .1)
+ran-some Filled.Failed s r = rw r ([], [], ran-unasked [] true refused-empty (omega arith))
+
+-- ---- the last line
+
+line-same : (n m : ℕ) (writes : Bool) (c d : Counts) (h k : ℕ) → n ≡ m → (n ≡ 0 → c ≡ d) → (n ≡ 0 → h ≡ k) → lineBy n writes c h ≡ lineBy m writes d k
+line-same n m writes c d h k e p q = go (eqb n 0) refl
+  where
+    go : (b : Bool) → eqb n 0 ≡ b → lineBy n writes c h ≡ lineBy m writes d k
+    go true z = let n-is = eqb-true n 0 z in λ i. lineBy (e i) writes (p n-is i) (q n-is i)
+    go false z =
+        ap (λ (b : Bool). cond b (cond writes [] (sumsLine c h)) (refusedLine n)) z
+        ∙ ap (λ (b : Bool). cond b (cond writes [] (sumsLine d k)) (refusedLine n)) (sym z)
+        ∙ ap (λ (l : ℕ). lineBy l writes d k) e
+
+-- An ending's is that of its input.
+line-is : (head : Bytes) (cs : List Bytes) (e : Ending) → Ran head cs e → (writes : Bool) → lastLine e writes ≡ cond (e .failed) [] (lineFor writes head cs)
+unfolding lastLine lineFor
+line-is head cs e r writes =
+    let x = programCalls (inputOptions head) cs in
+    ap (λ (l : Bytes). cond (e .failed) [] l)
+    (line-same (answerNumber (e .answer)) (runRefusal head cs) writes (e .sums) (x .counts) (e .«held_count») (length (x .state .held)) (r .answer-is) (r .sums-are) (r .held-is))
+
+pub told-as : {writes : Bool} {line line′ : Bytes} {e : Ending} {n : ℕ} → ((head : Bytes) × (cs : List Bytes) × Ran head cs e) → Wrote (lastLine e writes) line 0 line′ n
+    → Told writes line (record { failed = e .failed; bytes = n }) line′
+told-as {writes} {line} {line′} {e} {n} r w = record {
+  head = r .0;
+  chunks = r .1;
+  head-short = r .2 .head-short;
+  chunks-are = r .2 .chunks-are;
+  written = subst (λ (l : Bytes). Wrote l line 0 line′ n) (line-is (r .0) (r .1) e (r .2) writes) w;
+}
+
+-- Where head and chunks are those of an input whose sums fit, it is what the definitions of the programs say: `sums` writes no more, and
+-- `filter` writes what its calls wrote before it.
+module _ (s : Bytes) (fits : fits64 (sumsOf s .counts) ≡ true) where
   calls-are : programCalls (inputOptions (take 3 s)) (walk chunk (drop 3 s) .found) ≡ sumsOf s
   unfolding sumsOf
   calls-are = ap (λ (o : Options). programCalls o (walk chunk (drop 3 s) .found)) (options-by-three s)
 
-  refused-as : inputRefused s ≡ true → answerNumber (e .answer) ≡ 8
-  unfolding runRefusal
-  refused-as q = r .answer-is ∙ rw (refused-by-three s, q)
-
-  done-as : inputRefused s ≡ false → answerNumber (e .answer) ≡ 0
+  refusal-is : runRefusal (take 3 s) (walk chunk (drop 3 s) .found) ≡ cond (inputRefused s) 8 0
   unfolding runRefusal sumsRefusal
-  done-as q = r .answer-is ∙ rw (refused-by-three s, q, calls-are, fits)
+  refusal-is = rw (refused-by-three s, calls-are, fits)
 
-  -- `sums` writes no more than its last line.
-  pub sums-last : lastLine e false ≡ sumsWrites s
+  line-by : (writes : Bool) → lineFor writes (take 3 s) (walk chunk (drop 3 s) .found)
+      ≡ cond (inputRefused s) (refusedLine 8) (cond writes [] (sumsLine (sumsOf s .counts) (length (sumsOf s .state .held))))
+  unfolding lineFor
+  line-by writes = rw (refusal-is, calls-are) (go (inputRefused s))
+    where
+      go : (b : Bool) → cond (eqb (cond b 8 0) 0) (cond writes [] (sumsLine (sumsOf s .counts) (length (sumsOf s .state .held)))) (refusedLine (cond b 8 0))
+          ≡ cond b (refusedLine 8) (cond writes [] (sumsLine (sumsOf s .counts) (length (sumsOf s .state .held))))
+      go true = refl
+      go false = refl
+
+  pub sums-last : lineFor false (take 3 s) (walk chunk (drop 3 s) .found) ≡ sumsWrites s
   unfolding sumsWrites
-  sums-last = go (inputRefused s) refl
-    where
-      go : (b : Bool) → inputRefused s ≡ b → lastLine e false ≡ cond b (refusedLine 8) (sumsLine (sumsOf s .counts) (length (sumsOf s .state .held)))
-      go true q = let a = refused-as q in last-refused e false well (ap (λ (n : ℕ). eqb n 0) a) ∙ ap refusedLine a
-      go false q =
-          let a = done-as q in
-          last-sums e false well (ap (λ (n : ℕ). eqb n 0) a) refl
-          ∙ (λ i. sumsLine ((r .sums-are a ∙ ap (λ (z : Series). z .counts) calls-are) i) ((r .held-is a ∙ ap (λ (z : Series). length (z .state .held)) calls-are) i))
+  sums-last = line-by false
 
-  -- `filter` writes what each call wrote before it.
-  pub filter-last : cond (inputRefused s) [] (flatten (sumsOf s .out)) ++ lastLine e true ≡ filterWrites s
+  pub filter-last : cond (inputRefused s) [] (flatten (sumsOf s .out)) ++ lineFor true (take 3 s) (walk chunk (drop 3 s) .found) ≡ filterWrites s
   unfolding filterWrites
-  filter-last = go (inputRefused s) refl
+  filter-last = ap (λ (l : Bytes). cond (inputRefused s) [] (flatten (sumsOf s .out)) ++ l) (line-by true) ∙ go (inputRefused s)
     where
-      go : (b : Bool) → inputRefused s ≡ b → cond b [] (flatten (sumsOf s .out)) ++ lastLine e true ≡ cond b (refusedLine 8) (flatten (sumsOf s .out))
-      go true q = let a = refused-as q in last-refused e true well (ap (λ (n : ℕ). eqb n 0) a) ∙ ap refusedLine a
-      go false q =
-          let a = done-as q in
-          ap (λ (l : Bytes). flatten (sumsOf s .out) ++ l) (last-written e true well (ap (λ (n : ℕ). eqb n 0) a) refl) ∙ append-nil (flatten (sumsOf s .out))
+      go : (b : Bool) → cond b [] (flatten (sumsOf s .out)) ++ cond b (refusedLine 8) [] ≡ cond b (refusedLine 8) (flatten (sumsOf s .out))
+      go true = refl
+      go false = append-nil (flatten (sumsOf s .out))

@@ -3,50 +3,65 @@
 use Prim.Native.Nat.{ℕ, _≤_}
 use mathlib.Core.Path.{_≡_}
 use mathlib.Core.Bool.{Bool, cond, true, false}
-use mathlib.Core.List.{List, _++_}
-use lib.ListN.{length, replicate}
+use mathlib.Core.List.{List, [], _++_}
+use lib.ListN.{length, take, replicate}
 use lib.Dec.{eqb}
 use Rattle.meaning.specs.Bytes.{Bytes}
+use Rattle.meaning.specs.Writing.{Wrote}
 use Rattle.meaning.specs.Refusals.{answerNumber}
 use Rattle.meaning.specs.Record.{Record, recordOf, stateOf}
 use Rattle.meaning.specs.Calls.{countsOf}
 use Rattle.meaning.specs.Tally.{fits64, tallyRefusal, tallied}
-use Rattle.meaning.specs.Programs.{inputRefused, inputOptions, programLimits, programCalls, Chunks}
+use Rattle.meaning.specs.Programs.{inputRefused, inputOptions, programLimits, programCalls, Chunks, refusedLine, sumsLine}
 use Rattle.meaning.specs.declared.Options.{Options}
 use Rattle.meaning.specs.declared.Counts.{Counts}
 use Rattle.meaning.specs.declared.Answer.the-variants.{Refused}
 use Rattle.meaning.specs.declared.Refusal.the-variants.{Input}
 use Rattle.recorder.specs.declared.Pushed.{Pushed}
+use Rattle.recorder.specs.declared.Started.{Started}
 use Rattle.recorder.specs.Filter.{recordIn}
 use Rattle.recorder.specs.Calls.{PushedAs}
 use Rattle.programs.specs.declared.pipe.Filled.{Filled}
 use Rattle.programs.specs.declared.lines.Ending.{Ending}
 use Rattle.programs.specs.declared.stream.Standing.{Standing}
+use Rattle.programs.specs.declared.stream.Last.{Last}
+use Rattle.programs.specs.Pipe.{cameOf}
+use Rattle.programs.specs.Lines.{lineBy}
 
 -- ---- one chunk
 
--- Of two refusals' numbers the first that is none of 0.
+-- Of two refusals' numbers the first; 0 is none.
 abbrev pub firstOf : ℕ → ℕ → ℕ
 firstOf a b = cond (eqb a 0) b a
 
--- What a push promises, with its record, and its counts in the sums.
-pub record TakenAs (r : Record) (sums : Counts) (work bodies : Bytes) (map-room : List ℕ) (chunk out : Bytes) (x : Standing) (work′ bodies′ : Bytes) (map-room′ : List ℕ) (out′ : Bytes) : Type 0 where
+-- Of so many bytes of a call all are to be written, or none.
+abbrev pub toWrite : Bool → ℕ → ℕ
+toWrite writes n = cond writes n 0
+
+-- What a push promises, with its record, and its counts in the sums. Where nothing is to be written no write fails.
+pub record TakenAs (writes : Bool) (r : Record) (sums : Counts) (work bodies : Bytes) (map-room : List ℕ) (chunk out : Bytes) (x : Standing) (work′ bodies′ : Bytes) (map-room′ : List ℕ) (out′ : Bytes) : Type 0 where
   pub call : Pushed
   pub pushed : PushedAs r work bodies map-room chunk out call work′ bodies′ map-room′ out′
   pub answer-is : answerNumber (x .answer) ≡ firstOf (answerNumber (call .answer)) (tallyRefusal sums (call .counts))
   pub bytes-are : x .bytes ≡ call .counts .bytes
   pub sums-are : x .sums ≡ tallied sums (call .counts)
   pub filter-is : x .filter ≡ call .filter
+  pub well : toWrite writes (x .bytes) ≡ 0 → x .failed ≡ false
 
 -- ---- all chunks
-
-abbrev pub goesOn : Standing → Bool
-goesOn x = cond (x .failed) false (eqb (answerNumber (x .answer)) 0)
 
 -- At the end of an input a stream stands as it stood; a read that failed is told.
 abbrev pub endedAs : Standing → Filled → Standing
 endedAs x (Filled.Bytes n) = x
 endedAs x Filled.Failed = record { answer = x .answer; failed = true; bytes = x .bytes; sums = x .sums; filter = x .filter }
+
+-- By what was read to the room for a chunk: the bytes that came go through a call; where none came, no room changes.
+pub record NextAs (writes : Bool) (x : Standing) (came : Filled) (work bodies : Bytes) (map-room : List ℕ) (chunk out : Bytes) (y : Standing) (work′ bodies′ : Bytes) (map-room′ : List ℕ) (out′ : Bytes) : Type 0 where
+  pub some-came : 1 ≤ cameOf came → TakenAs writes (recordIn (x .filter)) (x .sums) work bodies map-room (take (cameOf came) chunk) out y work′ bodies′ map-room′ out′
+  pub none-came : cameOf came ≡ 0 → (y ≡ endedAs x came) × (work′ ≡ work) × (bodies′ ≡ bodies) × (map-room′ ≡ map-room) × (out′ ≡ out)
+
+abbrev pub goesOn : Standing → Filled → Bool
+goesOn x came = cond (eqb (cameOf came) 0) false (cond (x .failed) false (eqb (answerNumber (x .answer)) 0))
 
 -- The refusal of sums: 7 where one passes 2^64 - 1.
 unfoldable pub sumsRefusal : Counts → ℕ
@@ -73,6 +88,9 @@ pub record MayPass (x : Standing) (chunk out : Bytes) : Type 0 where
   pub not-refused : answerNumber (x .answer) ≡ 0
   pub chunk-long : length chunk ≡ 32768
   pub out-long : length out ≡ 65536
+
+abbrev pub begunAs : Started → Standing
+begunAs s = record { answer = s .answer; failed = false; bytes = 0; sums = countsOf 0; filter = s .filter }
 
 -- The rooms that a program begins with.
 pub record Rooms (chunk work bodies : Bytes) (map-room : List ℕ) (out : Bytes) : Type 0 where
@@ -101,3 +119,28 @@ pub record Ran (head : Bytes) (cs : List Bytes) (e : Ending) : Type 0 where
   pub answer-is : answerNumber (e .answer) ≡ runRefusal head cs
   pub sums-are : answerNumber (e .answer) ≡ 0 → e .sums ≡ programCalls (inputOptions head) cs .counts
   pub held-is : answerNumber (e .answer) ≡ 0 → e .«held_count» ≡ length (programCalls (inputOptions head) cs .state .held)
+
+-- The room for a head, with what came to it.
+pub record HeadIn (came : Filled) (head : Bytes) : Type 0 where
+  pub within : cameOf came ≤ length head
+  pub short : length head ≤ 3
+
+-- By what was read to it: the head is the bytes that came, and one that is refused did not fail; where a read failed, that is told.
+abbrev pub RanBy : Filled → Bytes → Ending → Type 0
+RanBy (Filled.Bytes n) s e = ((cs : List Bytes) × Ran (take n s) cs e) × (inputRefused (take n s) ≡ true → e .failed ≡ false)
+RanBy Filled.Failed s e = e ≡ unaskedAs true
+
+-- The last line of a program that writes the stream, or of one that does not, for an input with this head and these chunks.
+unfoldable pub lineFor : Bool → Bytes → List Bytes → Bytes
+unfolding runRefusal inputOptions programCalls refusedLine sumsLine
+lineFor writes head cs =
+    let r = programCalls (inputOptions head) cs in
+    lineBy (runRefusal head cs) writes (r .counts) (length (r .state .held))
+
+-- There are a head and chunks for which this is the last line; where a read or a write failed there is none.
+pub record Told (writes : Bool) (line : Bytes) (x : Last) (line′ : Bytes) : Type 0 where
+  pub head : Bytes
+  pub chunks : List Bytes
+  pub head-short : length head ≤ 3
+  pub chunks-are : Chunks chunks
+  pub written : Wrote (cond (x .failed) [] (lineFor writes head chunks)) line 0 line′ (x .bytes)

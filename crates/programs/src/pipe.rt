@@ -3,8 +3,9 @@
 // gets a part of the slice that was lent, every count lies within it, every loop ends. No contract can say which bytes are moved.
 ghost use mathlib.Core.Path.{_≡_};
 ghost use Prim.Native.Nat.{_≤_};
+ghost use mathlib.Core.Bool.{true};
 ghost use lib.ListN.{length};
-ghost use Rattle.programs.specs.Pipe.{cameOf};
+ghost use Rattle.programs.specs.Pipe.{cameOf, isFull};
 
 // How many bytes came to the front of a slice: fewer than it has where the input ended. A read that failed has been told.
 pub enum Filled {
@@ -66,13 +67,20 @@ pub fn bytes_of(came: Filled) -> usize
     }
 }
 
+// Whether so many bytes came as the slice has.
+fn is_full(came: Filled, buf: &[u8]) -> bool
+    ensures { λ r. ⌜ r ≡ isFull came (length (now (buf .entry))) ⌝ }
+{
+    match came {
+        Filled::Bytes(n) => n == buf.len(),
+        Filled::Failed => false,
+    }
+}
+
 // Fills a slice; answers whether the input had so many bytes and no read failed.
 pub fn fill_all(buf: &mut [u8]) -> bool {
     let came = fill(buf);
-    let Filled::Bytes(n) = came else {
-        return false;
-    };
-    n == buf.len()
+    is_full(came, buf)
 }
 
 // Tells that the last write failed, and why.
@@ -130,8 +138,10 @@ fn taken(bytes: &[u8]) -> usize
     done
 }
 
-// Writes all bytes; answers whether all were taken. A write that failed has been told.
-pub fn write_all(bytes: &[u8]) -> bool {
+// Writes all bytes; answers whether all were taken, as nothing always is. A write that failed has been told.
+pub fn write_all(bytes: &[u8]) -> bool
+    ensures { λ r. ⌜ (length (now (bytes .entry)) ≡ 0 → r ≡ true) ⌝ }
+{
     taken(bytes) == bytes.len()
 }
 

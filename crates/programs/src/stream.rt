@@ -2,6 +2,7 @@
 // written, or a line of sums, or the line of a refusal. No contract can say which bytes are read or written. All else is promised:
 // whatever was read, sums, record, rooms and last line are the definition's for it. A read or a write that fails ends the program.
 ghost use mathlib.Core.Path.{_≡_};
+ghost use Prim.Native.Nat.{_≤_};
 ghost use mathlib.Core.Bool.{false};
 ghost use mathlib.Core.List.{List};
 ghost use lib.ListN.{length};
@@ -9,7 +10,8 @@ ghost use Rattle.meaning.specs.Bytes.{Bytes};
 ghost use Rattle.meaning.specs.Refusals.{answerNumber};
 ghost use Rattle.meaning.specs.Calls.{countsOf};
 ghost use Rattle.recorder.specs.Filter.{recordIn};
-ghost use Rattle.programs.specs.Stream.{firstOf, TakenAs, goesOn, endedAs, MayPass, Goes, Rooms, Come, endingOf, unaskedAs, Ran};
+ghost use Rattle.programs.specs.Pipe.{cameOf};
+ghost use Rattle.programs.specs.Stream.{firstOf, toWrite, TakenAs, endedAs, NextAs, goesOn, MayPass, Goes, begunAs, Rooms, Come, endingOf, unaskedAs, Ran, HeadIn, RanBy, Told};
 use crate::asked::Asked;
 use crate::asked::asked_of;
 use crate::asked::is_done;
@@ -25,6 +27,7 @@ use meaning::Counts;
 use meaning::Options;
 use meaning::Refusal;
 use recorder::Filter;
+use recorder::Started;
 use recorder::start;
 use tally::sum_of;
 use tally::tally_answer;
@@ -35,6 +38,9 @@ const CHUNK: usize = 32768;
 const ROOM: usize = 65536;
 
 const MAP_ROOM: usize = 32768;
+
+// The longest line, that of the sums.
+const LINE: usize = 170;
 
 // ---- one chunk
 
@@ -68,7 +74,7 @@ fn take_in(
     map_room: &mut [u16],
     out: &mut [u8],
 ) -> Standing
-    ensures { λ r. ⌜ TakenAs (recordIn f) sums (now (work .entry)) (now (bodies .entry)) (now («map_room» .entry)) (now (chunk .entry)) (now (out .entry)) r (now (work .exit)) (now (bodies .exit)) (now («map_room» .exit)) (now (out .exit)) ⌝ }
+    ensures { λ r. ⌜ TakenAs false (recordIn f) sums (now (work .entry)) (now (bodies .entry)) (now («map_room» .entry)) (now (chunk .entry)) (now (out .entry)) r (now (work .exit)) (now (bodies .exit)) (now («map_room» .exit)) (now (out .exit)) ⌝ }
 {
     let p = f.push(chunk, work, bodies, map_room, out);
     let c = p.counts;
@@ -85,7 +91,7 @@ fn take_in(
 
 // Writes the bytes where that is asked for; answers whether a write failed.
 fn unwritten(writes: bool, bytes: &[u8]) -> bool
-    ensures { λ r. ⌜ (writes ≡ false → r ≡ false) ⌝ }
+    ensures { λ r. ⌜ (toWrite writes (length (now (bytes .entry))) ≡ 0 → r ≡ false) ⌝ }
 {
     if !writes {
         return false;
@@ -104,7 +110,7 @@ fn one_chunk(
     map_room: &mut [u16],
     out: &mut [u8],
 ) -> Standing
-    ensures { λ r. ⌜ TakenAs (recordIn f) sums (now (work .entry)) (now (bodies .entry)) (now («map_room» .entry)) (now (chunk .entry)) (now (out .entry)) r (now (work .exit)) (now (bodies .exit)) (now («map_room» .exit)) (now (out .exit)) × (writes ≡ false → r .failed ≡ false) ⌝ }
+    ensures { λ r. ⌜ TakenAs writes (recordIn f) sums (now (work .entry)) (now (bodies .entry)) (now («map_room» .entry)) (now (chunk .entry)) (now (out .entry)) r (now (work .exit)) (now (bodies .exit)) (now («map_room» .exit)) (now (out .exit)) ⌝ }
 {
     let mut x = take_in(f, sums, chunk, work, bodies, map_room, out);
     let n = x.bytes;
@@ -114,17 +120,6 @@ fn one_chunk(
 }
 
 // ---- all chunks
-
-// Whether nothing was refused and nothing failed.
-fn goes_on(x: Standing) -> bool
-    ensures { λ r. ⌜ r ≡ goesOn x ⌝ }
-{
-    if x.failed {
-        return false;
-    }
-    let a = x.answer;
-    is_done(a)
-}
 
 // A stream whose input has no more to give: it ended, or a read failed.
 fn ended(x: Standing, came: Filled) -> Standing
@@ -136,6 +131,43 @@ fn ended(x: Standing, came: Filled) -> Standing
     let mut y = x;
     y.failed = true;
     y
+}
+
+// A stream by what was read: the bytes that came are the next chunk, and where none came it has ended.
+fn next(
+    x: Standing,
+    came: Filled,
+    writes: bool,
+    chunk: &[u8],
+    work: &mut [u8],
+    bodies: &mut [u8],
+    map_room: &mut [u16],
+    out: &mut [u8],
+) -> Standing
+    requires { ⌜ cameOf came ≤ length (now chunk) ⌝ }
+    ensures { λ r. ⌜ NextAs writes x came (now (work .entry)) (now (bodies .entry)) (now («map_room» .entry)) (now (chunk .entry)) (now (out .entry)) r (now (work .exit)) (now (bodies .exit)) (now («map_room» .exit)) (now (out .exit)) ⌝ }
+{
+    let n = bytes_of(came);
+    if n == 0 {
+        return ended(x, came);
+    }
+    let f = x.filter;
+    let sums = x.sums;
+    one_chunk(f, sums, writes, &chunk[0..n], work, bodies, map_room, out)
+}
+
+// Whether bytes came, nothing was refused and nothing failed.
+fn goes_on(x: Standing, came: Filled) -> bool
+    ensures { λ r. ⌜ r ≡ goesOn x came ⌝ }
+{
+    if bytes_of(came) == 0 {
+        return false;
+    }
+    if x.failed {
+        return false;
+    }
+    let a = x.answer;
+    is_done(a)
 }
 
 // All chunks in turn, each with the record that the one before handed back. A refusal ends the program, and so does a failure.
@@ -156,14 +188,8 @@ fn pass(
     while 0 < turns {
         turns -= 1;
         let came = fill(chunk);
-        let n = bytes_of(came);
-        if n == 0 {
-            return ended(x, came);
-        }
-        let f = x.filter;
-        let sums = x.sums;
-        x = one_chunk(f, sums, writes, &chunk[0..n], work, bodies, map_room, out);
-        if !goes_on(x) {
+        x = next(x, came, writes, chunk, work, bodies, map_room, out);
+        if !goes_on(x, came) {
             return x;
         }
     }
@@ -183,6 +209,21 @@ fn no_counts() -> Counts
     }
 }
 
+// A stream whose start is done.
+fn begun(s: Started) -> Standing
+    ensures { λ r. ⌜ r ≡ begunAs s ⌝ }
+{
+    let answer = s.answer;
+    let filter = s.filter;
+    Standing {
+        answer,
+        failed: false,
+        bytes: 0,
+        sums: no_counts(),
+        filter,
+    }
+}
+
 // A start, which these rooms allow, then all chunks.
 fn started(
     o: Options,
@@ -197,16 +238,7 @@ fn started(
     ensures { λ r. ⌜ ((cs : List Bytes) × Come o cs r (now (work .exit)) (now (bodies .exit)) (now («map_room» .exit))) ⌝ }
 {
     let s = start(work, bodies, map_room, ROOM, o);
-    let answer = s.answer;
-    let filter = s.filter;
-    let x = Standing {
-        answer,
-        failed: false,
-        bytes: 0,
-        sums: no_counts(),
-        filter,
-    };
-    pass(x, writes, chunk, work, bodies, map_room, out)
+    pass(begun(s), writes, chunk, work, bodies, map_room, out)
 }
 
 // ---- an input
@@ -238,6 +270,31 @@ fn unasked(failed: bool) -> Ending
     }
 }
 
+// An input by what was read of its head, then its stream.
+fn by_head(
+    came: Filled,
+    head: &[u8],
+    writes: bool,
+    chunk: &mut [u8; CHUNK],
+    work: &mut [u8; ROOM],
+    bodies: &mut [u8; ROOM],
+    map_room: &mut [u16; MAP_ROOM],
+    out: &mut [u8; ROOM],
+) -> Ending
+    requires { ⌜ HeadIn came (now head) × Rooms (now chunk) (now work) (now bodies) (now «map_room») (now out) ⌝ }
+    ensures { λ r. ⌜ RanBy came (now (head .entry)) r ⌝ }
+{
+    let Filled::Bytes(n) = came else {
+        return unasked(true);
+    };
+    let asked = asked_of(&head[0..n]);
+    let Asked::For(o) = asked else {
+        return unasked(false);
+    };
+    let x = started(o, writes, chunk, work, bodies, map_room, out);
+    ending(x)
+}
+
 // An input, head and stream.
 fn run(
     writes: bool,
@@ -252,25 +309,33 @@ fn run(
 {
     let mut head = [0u8; 3];
     let came = fill(&mut head);
-    let Filled::Bytes(n) = came else {
-        return unasked(true);
-    };
-    let asked = asked_of(&head[0..n]);
-    let Asked::For(o) = asked else {
-        return unasked(false);
-    };
-    let x = started(o, writes, chunk, work, bodies, map_room, out);
-    ending(x)
+    by_head(came, &head, writes, chunk, work, bodies, map_room, out)
 }
 
-// The end of a program: its last line, and the output closed; nothing more where a read or a write failed.
-fn finish(e: Ending, writes: bool) {
-    let mut line = [0u8; 170];
-    let n = put_last(e, writes, &mut line);
-    if e.failed {
-        return;
+// What is left to be done for an input: nothing where a read or a write failed, else a line of so many bytes is to be written.
+pub struct Last {
+    pub failed: bool,
+    pub bytes: usize,
+}
+
+// An input, and its last line.
+fn told(
+    writes: bool,
+    chunk: &mut [u8; CHUNK],
+    work: &mut [u8; ROOM],
+    bodies: &mut [u8; ROOM],
+    map_room: &mut [u16; MAP_ROOM],
+    out: &mut [u8; ROOM],
+    line: &mut [u8; LINE],
+) -> Last
+    requires { ⌜ Rooms (now chunk) (now work) (now bodies) (now «map_room») (now out) × (length (now line) ≡ 170) ⌝ }
+    ensures { λ r. ⌜ Told writes (now (line .entry)) r (now (line .exit)) ⌝ }
+{
+    let e = run(writes, chunk, work, bodies, map_room, out);
+    Last {
+        failed: e.failed,
+        bytes: put_last(e, writes, line),
     }
-    write_last(&line[0..n]);
 }
 
 // A stream through a filter: it writes the filtered stream, or else a line of sums.
@@ -280,13 +345,19 @@ pub fn stream(writes: bool) {
     let mut bodies = [0u8; ROOM];
     let mut map_room = [0u16; MAP_ROOM];
     let mut out = [0u8; ROOM];
-    let e = run(
+    let mut line = [0u8; LINE];
+    let last = told(
         writes,
         &mut chunk,
         &mut work,
         &mut bodies,
         &mut map_room,
         &mut out,
+        &mut line,
     );
-    finish(e, writes);
+    if last.failed {
+        return;
+    }
+    let n = last.bytes;
+    write_last(&line[0..n]);
 }

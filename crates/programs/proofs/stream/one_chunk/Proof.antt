@@ -1,4 +1,5 @@
 use Rattle.programs.proofs.LineLaws.{wrote-within}
+use Rattle.programs.proofs.StreamLaws.{none-to-write}
 use borrow.Author.Needs.{needs}
 use Rattle.programs.proofs.stream.one_chunk.Statement.{statement}
 use Rattle.programs.proofs.stream.one_chunk.Tie as tie
@@ -32,10 +33,16 @@ same-length-4 c = search needs
 
 returns : tie.Need-returns
 returns c =
-    let t = c .before .before .before .before .before .before .before .before .before .before .before .take-in .ensures in (
-      record { call = t .call; pushed = t .pushed; answer-is = t .answer-is; bytes-are = t .bytes-are; sums-are = t .sums-are; filter-is = t .filter-is },
-      c .unwritten .ensures,
-    )
+    let t = c .before .before .before .before .before .before .before .before .before .before .before .take-in .ensures in
+    record {
+      call = t .call;
+      pushed = t .pushed;
+      answer-is = t .answer-is;
+      bytes-are = t .bytes-are;
+      sums-are = t .sums-are;
+      filter-is = t .filter-is;
+      well = λ e. c .unwritten .ensures (none-to-write (c .before .before .before .before .before .before .before .before .before .before .before .before .before .before .before .before .before .before .before .before .before .args .writes) (c .before .before .before .before .before .before .before .before .before .before .before .take-in .result .bytes) (c .before .before .before .before .before .before .before .before .before .before .before .take-in .last .1 .1 .1 .1 .1 .1 .0) e);
+    }
 
 pub one-chunk-spec : {M : Type 1} → statement M
 one-chunk-spec =

@@ -7,22 +7,22 @@ use Rattle.programs.proofs.stream.started.Tie as tie
 start-requires : tie.Need-start-requires
 start-requires c κs = search needs
 
-no-counts-requires : tie.Need-no-counts-requires
-no-counts-requires c κs = search needs
+begun-requires : tie.Need-begun-requires
+begun-requires c κs = search needs
 
 pass-requires : tie.Need-pass-requires
 pass-requires c κs =
-    let z = c .before .before .before .before .before .before .before .before .before .before .before .before .before .before .pre in
-    let a = c .before .before .before .before .before .before .before .before .before .before .before .before .before .before .args in
-    let h = come-start (a .o) (a .map-room .now) (z .map-room-zero) (a .work .now) (a .bodies .now) (c .before .before .before .before .before .before .before .start .result) (c .before .before .before .before .before .no-counts .result) (z .work-long) (z .bodies-long) (c .before .before .before .before .before .before .before .start .ensures) (c .before .before .before .before .before .no-counts .ensures) in
-    record { not-refused = start-taken (a .o) (a .map-room .now) (z .map-room-zero) h; chunk-long = z .chunk-long; out-long = z .out-long }
+    let z = c .before .before .before .before .before .before .before .before .before .before .before .before .before .pre in
+    let a = c .before .before .before .before .before .before .before .before .before .before .before .before .before .args in
+    let h = come-start (a .o) (a .map-room .now) (z .map-room-zero) (a .work .now) (a .bodies .now) (c .before .before .before .before .before .before .start .result) (z .work-long) (z .bodies-long) (c .before .before .before .before .before .before .start .ensures) in
+    rw (c .before .before .before .before .before .begun .ensures) (record { not-refused = start-taken (a .o) (a .map-room .now) (z .map-room-zero) h; chunk-long = z .chunk-long; out-long = z .out-long })
 
 returns : tie.Need-returns
 returns c =
-    let z = c .before .before .before .before .before .before .before .before .before .before .before .before .before .before .before .pre in
-    let a = c .before .before .before .before .before .before .before .before .before .before .before .before .before .before .before .args in
-    c .pass .ensures (a .o) []
-    (come-start (a .o) (a .map-room .now) (z .map-room-zero) (a .work .now) (a .bodies .now) (c .before .before .before .before .before .before .before .before .start .result) (c .before .before .before .before .before .before .no-counts .result) (z .work-long) (z .bodies-long) (c .before .before .before .before .before .before .before .before .start .ensures) (c .before .before .before .before .before .before .no-counts .ensures))
+    let z = c .before .before .before .before .before .before .before .before .before .before .before .before .before .before .pre in
+    let a = c .before .before .before .before .before .before .before .before .before .before .before .before .before .before .args in
+    let h = come-start (a .o) (a .map-room .now) (z .map-room-zero) (a .work .now) (a .bodies .now) (c .before .before .before .before .before .before .before .start .result) (z .work-long) (z .bodies-long) (c .before .before .before .before .before .before .before .start .ensures) in
+    c .pass .ensures (a .o) [] (rw (c .before .before .before .before .before .before .begun .ensures) h)
 
 pub started-spec : {M : Type 1} → statement M
-started-spec = tie.close (tie.spec start-requires no-counts-requires pass-requires returns)
+started-spec = tie.close (tie.spec start-requires begun-requires pass-requires returns)

@@ -39,6 +39,7 @@ returns c =
       bytes-are = refl;
       sums-are = c .sum-of .ensures;
       filter-is = refl;
+      well = λ e. refl;
     }
 
 pub take-in-spec : {M : Type 1} → statement M

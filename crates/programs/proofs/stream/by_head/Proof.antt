@@ -1,0 +1,76 @@
+use mathlib.Core.Path.{sym, _∙_}
+use native.Mathlib.Nat.{sub-zero}
+use native.Mathlib.Omega.{arith}
+use Rattle.programs.proofs.StreamLaws.{by-nothing, by-stream}
+use borrow.Author.Needs.{needs}
+use Rattle.programs.proofs.stream.by_head.Statement.{statement}
+use Rattle.programs.proofs.stream.by_head.Tie as tie
+
+enum-known-came : tie.Need-enum-known-came
+enum-known-came c = search needs
+
+enum-told : tie.Need-enum-told
+enum-told c = search needs
+
+unasked-requires : tie.Need-unasked-requires
+unasked-requires c κs = search needs
+
+returns : tie.Need-returns
+returns c = rw (c .before .enum-told .given .1) (c .unasked .ensures)
+
+sub-asked-of : tie.Need-sub-asked-of
+sub-asked-of c = search needs
+
+part-asked-of-start : tie.Need-part-asked-of-start
+part-asked-of-start c = search needs
+
+part-asked-of-end : tie.Need-part-asked-of-end
+part-asked-of-end c = let k = rw (c .before .came .given .1) at (c .before .before .before .before .pre .0 .within) in omega (arith, k)
+
+asked-of-requires : tie.Need-asked-of-requires
+asked-of-requires c κs = search needs
+
+enum-known-asked : tie.Need-enum-known-asked
+enum-known-asked c = search needs
+
+enum-told-2 : tie.Need-enum-told-2
+enum-told-2 c = search needs
+
+unasked-requires-2 : tie.Need-unasked-requires-2
+unasked-requires-2 c κs = search needs
+
+returns-2 : tie.Need-returns-2
+returns-2 c =
+    let e = rw sub-zero at (c .before .before .before .asked-of .ensures) in
+    rw (c .unasked2 .ensures) (by-nothing (c .before .before .before .before .before .before .before .before .before .args .head .now) (c .before .before .before .before .before .before .came .given .1) (c .before .before .before .before .before .before .before .before .before .pre .0 .short) (sym e ∙ c .before .enum-told2 .given .1))
+
+started-requires : tie.Need-started-requires
+started-requires c κs = search needs
+
+ending-requires : tie.Need-ending-requires
+ending-requires c κs = search needs
+
+returns-3 : tie.Need-returns-3
+returns-3 c =
+    let e = rw sub-zero at (c .before .before .before .before .before .before .before .before .before .before .asked-of .ensures) in
+    rw (c .ending .ensures) (by-stream (c .before .before .before .before .before .before .before .before .before .before .before .before .before .before .before .before .args .head .now) (c .before .before .before .before .before .before .before .before .before .before .before .before .before .came .given .1) (c .before .before .before .before .before .before .before .before .before .before .before .before .before .before .before .before .pre .0 .short) (sym e ∙ c .before .before .before .before .before .before .before .before .asked .given .1) (c .before .started .ensures))
+
+pub by-head-spec : {M : Type 1} → statement M
+by-head-spec =
+    tie.close
+    (tie.spec
+    enum-known-came
+    enum-told
+    unasked-requires
+    returns
+    sub-asked-of
+    part-asked-of-start
+    part-asked-of-end
+    asked-of-requires
+    enum-known-asked
+    enum-told-2
+    unasked-requires-2
+    returns-2
+    started-requires
+    ending-requires
+    returns-3)
