@@ -1,2 +1,3 @@
+pub mod Across
 pub mod Answers
 pub mod Gaps

@@ -2,11 +2,14 @@
 ghost use mathlib.Core.Path.{_≡_};
 ghost use mathlib.Core.Bool.{_&&_};
 ghost use mathlib.Core.Option.{Option·map};
+ghost use mathlib.Core.List.{[], _∷_, _++_};
 ghost use Prim.Native.Nat.{_+_, _*_, _%_, _≤_, _<_};
 ghost use lib.ListN.{length, drop, getD};
+ghost use lib.Dec.{leb};
 ghost use Rattle.meaning.specs.Packets.{isType, sizeOf, candidate, followed, stepOf};
 ghost use Rattle.meaning.specs.Mmtp.{compressed, udp, offsetOf, mmtpHeader, mmtpOf};
 ghost use Rattle.tlv.specs.Answers.{asOffset, headerTo, extendedTo, HeaderIs, PartIs, PlacedIs, MmtpIs};
+ghost use Rattle.tlv.specs.Across.{headOf};
 ghost use Rattle.tlv.specs.Gaps.{GapTo};
 use meaning::Step;
 use octets::be16;
@@ -110,6 +113,67 @@ pub fn next(run: &[u8], at: usize, most: usize) -> Step
     let n = size_at(run, at);
     if len - at < n {
         return Step::Keep;
+    }
+    Step::Packet(n)
+}
+
+// Whether held bytes and the chunk behind them are `n` bytes or more. Their sum may be too large for a number.
+fn reaches(held: &[u8], chunk: &[u8], n: usize) -> bool
+    ensures { λ r. ⌜ r ≡ leb n (length (now (held .entry) ++ now (chunk .entry))) ⌝ }
+{
+    let k = held.len();
+    if n <= k {
+        return true;
+    }
+    n - k <= chunk.len()
+}
+
+// The byte at `at` of held bytes and the chunk behind them.
+fn byte_across(held: &[u8], chunk: &[u8], at: usize) -> u8
+    requires { ⌜ at < length (now held ++ now chunk) ⌝ }
+    ensures { λ r. ⌜ r ≡ getD (now (held .entry) ++ now (chunk .entry)) at 0 ⌝ }
+{
+    let k = held.len();
+    if at < k {
+        return held[at];
+    }
+    chunk[at - k]
+}
+
+// Their first four bytes.
+fn head_across(held: &[u8], chunk: &[u8]) -> [u8; 4]
+    requires { ⌜ 4 ≤ length (now held ++ now chunk) ⌝ }
+    ensures { λ r. ⌜ r ≡ headOf (now (held .entry) ++ now (chunk .entry)) ⌝ }
+{
+    [
+        byte_across(held, chunk, 0),
+        byte_across(held, chunk, 1),
+        byte_across(held, chunk, 2),
+        byte_across(held, chunk, 3),
+    ]
+}
+
+// What stands at the front of held bytes and the chunk behind them. Of a packet only its header and the byte behind it are looked at, so
+// that the two need not be put together.
+pub fn next_across(held: &[u8], chunk: &[u8], most: usize) -> Step
+    ensures { λ r. ⌜ r ≡ stepOf most (now (held .entry) ++ now (chunk .entry)) ⌝ }
+{
+    if !reaches(held, chunk, 4) {
+        return Step::Keep;
+    }
+    let head = head_across(held, chunk);
+    if !candidate(&head, 0, most) {
+        return Step::Skip;
+    }
+    let n = size_at(&head, 0);
+    if !reaches(held, chunk, n) {
+        return Step::Keep;
+    }
+    if !reaches(held, chunk, n + 1) {
+        return Step::Packet(n);
+    }
+    if byte_across(held, chunk, n) != 0x7F {
+        return Step::Skip;
     }
     Step::Packet(n)
 }
