@@ -6,8 +6,8 @@ use mathlib.Core.List.{[], _∷_, _++_, append-assoc, append-nil}
 use native.Mathlib.Nat.{add-zero, add-assoc}
 use native.Mathlib.Numerals.{add-one}
 use native.Mathlib.Omega.{arith}
-use lib.ListN.{length, take, drop, getD, set, length-append, length-take, length-drop, take-append-drop, List·getD-append}
-use lib.Seq.{take-suc, take-suc-set, take-set-lt, drop-set-lt, set-append-left, drop-drop, drop-cons, getD-drop, getD-take, length-take-le, take-length, take-at, drop-at}
+use lib.ListN.{length, take, drop, getD, set, length-append, length-take, length-drop, take-append-drop, drop-of-length-le, List·getD-append}
+use lib.Seq.{take-suc, take-suc-set, take-set-lt, drop-set-lt, set-append-left, drop-drop, drop-cons, getD-drop, getD-take, length-take-le, take-length, take-at, drop-at, take-add}
 use Rattle.meaning.specs.Bytes.{Bytes}
 use Rattle.meaning.specs.Writing.{Wrote}
 
@@ -68,6 +68,32 @@ move-turn d₀ d from to i h k l u =
     let g : getD d (from + i) 0 ≡ getD (drop from d₀) i 0 = wrote-past _ d₀ d to (to + i) (from + i) u (omega arith) ∙ sym (getD-drop from d₀ i 0) in
     rw g (copy-turn (drop from d₀) d₀ d to i (omega (arith, length-drop from d₀)) (omega arith) u)
 
+-- A move that goes on behind what was moved: what is read was not written yet.
+pub move-on : (d₀ d d′ : Bytes) (from to k m r : ℕ) → to ≤ from → Wrote (take k (drop from d₀)) d₀ to d (to + k) → Wrote (take m (drop (from + k) d)) d (to + k) d′ r
+    → Wrote (take (k + m) (drop from d₀)) d₀ to d′ r
+move-on d₀ d d′ from to k m r h u v =
+    let z : to + k + (from - to) ≡ from + k = omega arith in
+    let s : drop (from + k) d ≡ drop (from + k) d₀ =
+    rw (← z) (sym (drop-drop (from - to) (to + k) d) ∙ ap (drop (from - to)) (u .back) ∙ drop-drop (from - to) (to + k) d₀) in
+    rw (take-add k m (drop from d₀), drop-drop k from d₀) (wrote-then u (rw s at v))
+
+-- The same, where it is known how much there is to go on with.
+pub move-block : (d₀ d d′ y : Bytes) (from to k m r : ℕ) → to ≤ from → from + (k + m) ≤ length d → y ≡ take m (drop (from + k) d)
+    → Wrote (take k (drop from d₀)) d₀ to d (to + k) → Wrote y d (to + k) d′ r → Wrote (take (k + m) (drop from d₀)) d₀ to d′ (to + (k + m))
+move-block d₀ d d′ y from to k m r h l e u v =
+    let q : r ≡ to + (k + m) = omega (arith, v .end, ap length e, length-take m (drop (from + k) d), length-drop (from + k) d) in
+    rw q at (move-on d₀ d d′ from to k m r h u (rw e at v))
+
+-- A move that goes nowhere.
+pub move-none : (d : Bytes) (from n to : ℕ) → from ≡ to → from + n ≤ length d → Wrote (take n (drop from d)) d to d (to + n)
+move-none d from n to e h =
+    let l : n ≤ length (drop from d) = omega (arith, length-drop from d) in
+    record {
+      end = ap (λ (k : ℕ). to + k) (sym (length-take-le n (drop from d) l));
+      front = take-add to n d ∙ ap (λ (k : ℕ). take to d ++ take n (drop k d)) (sym e);
+      back = refl;
+    }
+
 -- The end of such a loop: as much as was asked for, and all of s.
 pub wrote-upto : (s d d′ : Bytes) (to i n : ℕ) → i ≡ n → Wrote (take i s) d to d′ (to + i) → Wrote (take n s) d to d′ (to + i)
 wrote-upto s d d′ to i n e u = record { end = rw (← e) (u .end); front = rw (← e) (u .front); back = u .back }
@@ -88,6 +114,10 @@ is-wrote y d d′ to r h e q =
       front = ap (take r) q ∙ take-at (take to d ++ y) (drop r d) r l;
       back = ap (drop r) q ∙ drop-at (take to d ++ y) (drop r d) r l;
     }
+
+-- What fills a slice is all of it.
+pub wrote-whole : (y d d′ : Bytes) (r : ℕ) → length d ≤ r → Wrote y d 0 d′ r → d′ ≡ y
+wrote-whole y d d′ r h u = wrote-is y d d′ 0 r u ∙ ap (λ (l : Bytes). y ++ l) (drop-of-length-le d h) ∙ append-nil y
 
 -- A byte before what was written is still the old one.
 pub wrote-short : (y d d′ : Bytes) (to r j : ℕ) → to ≤ length d → j < to → Wrote y d to d′ r → getD d′ j 0 ≡ getD d j 0

@@ -1,6 +1,6 @@
 // Reading and moving bytes, and sets of packet identifiers: the leaves that every other crate calls.
 ghost use mathlib.Core.Path.{_≡_};
-ghost use Prim.Native.Nat.{_+_, _≤_, _<_, _^_};
+ghost use Prim.Native.Nat.{_+_, _-_, _%_, _≤_, _<_, _^_};
 ghost use mathlib.Core.List.{[], _∷_};
 ghost use lib.ListN.{length, take, drop, getD};
 ghost use Rattle.meaning.specs.Bytes.{be16, be16At, be32At, put16, put32};
@@ -86,8 +86,33 @@ pub fn copy(src: &[u8], out: &mut [u8], to: usize) -> usize
     to + i
 }
 
-// Moves `n` bytes of `lent` from `from` down to `to`; the two stretches may overlap. Answers the offset past them.
-pub fn move_down(lent: &mut [u8], from: usize, n: usize, to: usize) -> usize
+// The 64 bytes of `lent` from `from` on.
+fn lifted(lent: &[u8], from: usize) -> [u8; 64]
+    requires { ⌜ from + 64 ≤ length (now lent) ⌝ }
+    ensures { λ r. ⌜ r ≡ take 64 (drop from (now (lent .entry))) ⌝ }
+{
+    let mut block = [0u8; 64];
+    copy(&lent[from..from + 64], &mut block, 0);
+    block
+}
+
+// Moves whole blocks of 64 of the `n` bytes. Each block is read before it is written, so that it goes by vectors where the stretches
+// overlap. Answers how many bytes were moved.
+fn blocks_down(lent: &mut [u8], from: usize, n: usize, to: usize) -> usize
+    requires { ⌜ (to ≤ from) × (from + n ≤ length (now lent)) ⌝ }
+    ensures { λ r. ⌜ (r ≡ n - n % 64) × Wrote (take r (drop from (now (lent .entry)))) (now (lent .entry)) to (now (lent .exit)) (to + r) ⌝ }
+{
+    let mut i: usize = 0;
+    while 64 <= n - i {
+        let block = lifted(lent, from + i);
+        copy(&block, lent, to + i);
+        i += 64;
+    }
+    i
+}
+
+// Moves `n` bytes, one by one.
+fn bytes_down(lent: &mut [u8], from: usize, n: usize, to: usize) -> usize
     requires { ⌜ (to ≤ from) × (from + n ≤ length (now lent)) ⌝ }
     ensures { λ r. ⌜ Wrote (take n (drop from (now (lent .entry)))) (now (lent .entry)) to (now (lent .exit)) r ⌝ }
 {
@@ -97,6 +122,18 @@ pub fn move_down(lent: &mut [u8], from: usize, n: usize, to: usize) -> usize
         i += 1;
     }
     to + i
+}
+
+// Moves `n` bytes of `lent` from `from` down to `to`; the two stretches may overlap. Answers the offset past them.
+pub fn move_down(lent: &mut [u8], from: usize, n: usize, to: usize) -> usize
+    requires { ⌜ (to ≤ from) × (from + n ≤ length (now lent)) ⌝ }
+    ensures { λ r. ⌜ Wrote (take n (drop from (now (lent .entry)))) (now (lent .entry)) to (now (lent .exit)) r ⌝ }
+{
+    if from == to {
+        return to + n;
+    }
+    let k = blocks_down(lent, from, n, to);
+    bytes_down(lent, from + k, n - k, to + k)
 }
 
 // Moves `n` bytes of `lent` from `from` up to `to`; the two stretches may overlap. Answers the offset past them.

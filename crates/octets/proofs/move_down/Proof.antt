@@ -1,72 +1,57 @@
-use Rattle.meaning.proofs.Writes.{wrote-none, wrote-upto, move-turn}
-use Rattle.meaning.specs.Writing.{Wrote}
-use lib.ListN.{length, take, drop, length-set}
+use Rattle.meaning.proofs.Writes.{move-none, move-on}
 use native.Mathlib.Omega.{arith}
-use native.Mathlib.Nat.{add-zero}
-use mathlib.Core.Path.{_≡_, refl}
-use Prim.Native.Nat.{_+_, _-_, _≤_}
+use mathlib.Core.Path.{_≡_}
+use Prim.Native.Nat.{_+_, _-_}
+use borrow.Author.Needs.{needs}
 use Rattle.octets.proofs.move_down.Statement.{statement}
 use Rattle.octets.proofs.move_down.Tie as tie
 use Rattle.octets.proofs.move_down.Reads as reads
 use Rattle.octets.proofs.move_down.Lts as lts
+use Rattle.octets.proofs.blocks_down.Reads as blocks-down-reads
+use Rattle.octets.proofs.bytes_down.Reads as bytes-down-reads
 
-abbrev Inv-loop : tie.InvT-loop
-Inv-loop lent₀ from n to i₀ lent i = (i ≤ n) × (length lent ≡ length lent₀) × Wrote (take i (drop from lent₀)) lent₀ to lent (to + i)
+add-result : tie.Need-add-result
+add-result c = search needs
 
-abbrev μ-loop : tie.MeasureT-loop
-μ-loop lent₀ from n to i₀ lent i = n - i
+returns : tie.Need-returns
+returns c = let a = c .before .before .args in move-none (a .lent .now) (a .from) (a .n) (a .to) (omega arith) (omega arith)
 
-loop-holds : tie.Need-loop-holds Inv-loop μ-loop
-loop-holds c = (omega arith, refl, rw add-zero (wrote-none _ _))
+blocks-down-requires : tie.Need-blocks-down-requires
+blocks-down-requires c κs = search needs
 
-add-lent : tie.Need-add-lent Inv-loop μ-loop
-add-lent c = omega arith
+add-bytes-down : tie.Need-add-bytes-down
+add-bytes-down c = search needs
 
-slice-read-lent : tie.Need-slice-read-lent Inv-loop μ-loop
-slice-read-lent c = omega arith
+sub-bytes-down : tie.Need-sub-bytes-down
+sub-bytes-down c = search needs
 
-add-lent-2 : tie.Need-add-lent-2 Inv-loop μ-loop
-add-lent-2 c = omega arith
+add-bytes-down-2 : tie.Need-add-bytes-down-2
+add-bytes-down-2 c = search needs
 
-slice-write-lent : tie.Need-slice-write-lent Inv-loop μ-loop
-slice-write-lent c = omega arith
+bytes-down-requires : tie.Need-bytes-down-requires
+bytes-down-requires c κs = search needs
 
-add-i : tie.Need-add-i Inv-loop μ-loop
-add-i c = omega arith
+same-length : tie.Need-same-length
+same-length c = search needs
 
-loop-less : tie.Need-loop-less Inv-loop μ-loop
-loop-less c = omega arith
-
-loop-again : tie.Need-loop-again Inv-loop μ-loop
-loop-again c =
-    let l = c .before .before .loop in
-    let a = c .before .before .before .args in
-    (omega arith, simp length-set (l .inv .1), move-turn (a .lent .now) (l .lent) (a .from) (a .to) (l .i) (omega arith) (omega arith) (l .inv .1) (l .inv .2))
-
-add-result : tie.Need-add-result Inv-loop μ-loop
-add-result c = omega arith
-
-same-length : tie.Need-same-length Inv-loop μ-loop
-same-length c = c .before .loop .inv .1
-
-returns : tie.Need-returns Inv-loop μ-loop
-returns c =
-    wrote-upto _ _ _ _ (c .before .loop .i) (c .before .before .args .n) (omega arith) (c .before .loop .inv .2)
+returns-2 : tie.Need-returns-2
+returns-2 c =
+    let a = c .before .before .before .before .before .before .before .before .before .before .args in
+    let b = c .before .before .before .before .before .before .blocks-down in
+    let m = c .before .before .bytes-down in
+    let e : b .result + (a .n - b .result) ≡ a .n = omega arith in
+    rw e at (move-on (a .lent .now) (b .last .0) (m .last .0) (a .from) (a .to) (b .result) (a .n - b .result) (m .result) (omega arith) (b .ensures .1) (m .ensures))
 
 pub move-down-spec : {M : Type 1} → statement M
 move-down-spec =
     tie.close
     (tie.spec
-    Inv-loop
-    μ-loop
-    loop-holds
-    add-lent
-    slice-read-lent
-    add-lent-2
-    slice-write-lent
-    add-i
-    loop-less
-    loop-again
     add-result
+    returns
+    blocks-down-requires
+    add-bytes-down
+    sub-bytes-down
+    add-bytes-down-2
+    bytes-down-requires
     same-length
-    returns)
+    returns-2)
