@@ -1,16 +1,16 @@
 // From a run of bytes to the MMTP payload of a packet: the step that finds packets, the offset of the MMTP, its header.
 ghost use mathlib.Core.Path.{_≡_};
-ghost use mathlib.Core.Bool.{_&&_};
+ghost use mathlib.Core.Bool.{cond, _&&_};
 ghost use mathlib.Core.Option.{Option·map};
 ghost use mathlib.Core.List.{[], _∷_, _++_};
 ghost use Prim.Native.Nat.{_+_, _*_, _%_, _≤_, _<_};
 ghost use lib.ListN.{length, drop, getD};
-ghost use lib.Dec.{leb};
+ghost use lib.Dec.{eqb, leb};
 ghost use Rattle.meaning.specs.Packets.{isType, sizeOf, candidate, followed, stepOf};
 ghost use Rattle.meaning.specs.Mmtp.{compressed, udp, offsetOf, mmtpHeader, mmtpOf};
 ghost use Rattle.tlv.specs.Answers.{asOffset, headerTo, extendedTo, HeaderIs, PartIs, PlacedIs, MmtpIs};
 ghost use Rattle.tlv.specs.Across.{headOf};
-ghost use Rattle.tlv.specs.Gaps.{GapTo};
+ghost use Rattle.tlv.specs.Gaps.{LookedAt, FirstMark, NoStart, GapTo};
 use meaning::Step;
 use octets::be16;
 use octets::id16;
@@ -178,17 +178,87 @@ pub fn next_across(held: &[u8], chunk: &[u8], most: usize) -> Step
     Step::Packet(n)
 }
 
+// Whether none of the 64 bytes from `at` on is 0x7F. All are looked at, with no way out, so that they are compared by vectors.
+fn quiet(run: &[u8], at: usize) -> bool
+    requires { ⌜ at + 64 ≤ length (now run) ⌝ }
+    ensures { λ r. ⌜ LookedAt (now (run .entry)) at 64 r ⌝ }
+{
+    let mut none = true;
+    let mut i: usize = 0;
+    while i < 64 {
+        if run[at + i] == 0x7F {
+            none = false;
+        }
+        i += 1;
+    }
+    none
+}
+
+// From `at` on past blocks of 64 bytes, none of them 0x7F. Three bytes more are left, so that a header fits at each byte.
+fn quiet_end(run: &[u8], at: usize) -> usize
+    requires { ⌜ at ≤ length (now run) ⌝ }
+    ensures { λ r. ⌜ NoStart (now (run .entry)) at r ⌝ }
+{
+    let mut to = at;
+    while 67 <= run.len() - to {
+        if !quiet(run, to) {
+            return to;
+        }
+        to += 64;
+    }
+    to
+}
+
+// Where a byte stands in its block of 64, if it is 0x7F.
+fn mark_at(b: u8, i: u8) -> u8
+    ensures { λ r. ⌜ r ≡ cond (eqb b 0x7F) i 64 ⌝ }
+{
+    if b == 0x7F {
+        return i;
+    }
+    64
+}
+
+// The first 0x7F of the 64 bytes from `at` on, or 64: the least of their places, with no way out for the same reason.
+fn first_mark(run: &[u8], at: usize) -> u8
+    requires { ⌜ at + 64 ≤ length (now run) ⌝ }
+    ensures { λ r. ⌜ FirstMark (now (run .entry)) at 64 r ⌝ }
+{
+    let mut first: u8 = 64;
+    let mut i: u8 = 0;
+    while i < 64 {
+        let k = mark_at(run[at + (i as usize)], i);
+        if k < first {
+            first = k;
+        }
+        i += 1;
+    }
+    first
+}
+
+// From `at` on past bytes that are not 0x7F, to where a packet may start.
+fn mark_end(run: &[u8], at: usize) -> usize
+    requires { ⌜ at ≤ length (now run) ⌝ }
+    ensures { λ r. ⌜ NoStart (now (run .entry)) at r ⌝ }
+{
+    let to = quiet_end(run, at);
+    if run.len() - to < 67 {
+        return to;
+    }
+    to + wide(first_mark(run, to))
+}
+
 // Where the bytes that start no packet end, from `at` on.
 pub fn gap_end(run: &[u8], at: usize, most: usize) -> usize
     requires { ⌜ at ≤ length (now run) ⌝ }
     ensures { λ r. ⌜ GapTo most (now (run .entry)) at r ⌝ }
 {
-    let mut to = at;
+    let mut to = mark_end(run, at);
     while to < run.len() {
         let Step::Skip = next(run, to, most) else {
             return to;
         };
-        to += 1;
+        to = mark_end(run, to + 1);
     }
     to
 }
