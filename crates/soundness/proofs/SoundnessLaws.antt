@@ -1,5 +1,6 @@
 -- Walks over the first n slots of an array: what is still to be read, one element at a time; that all pass a test, that numbers rise, that
--- none stands twice (by a set of those passed), and their sum. Rests on Record and SetLaws of `meaning` and on MemberLaws of `rules`.
+-- none stands twice (by a set of those passed, or by pairs), and their sum. Rests on specs/Parts, Record and SetLaws of `meaning` and
+-- MemberLaws of `rules`.
 use Prim.Native.Nat.{ℕ, zero, suc, _+_, _-_, _*_, _/_, _≤_, _<_}
 use mathlib.Core.Path.{_≡_, refl, sym, ap, ap₂, _∙_}
 use mathlib.Core.Bool.{Bool, true, false, not, _&&_, _||_}
@@ -10,19 +11,16 @@ use native.Mathlib.Omega.{arith}
 use lib.ListN.{length, take, drop, getD, replicate, length-set}
 use lib.Seq.{drop-cons}
 use lib.Dec.{eqb}
-use borrow.Author.Tests.{eqb-true, eqb-false, lt-ltb, le-ltb}
+use borrow.Author.Tests.{eqb-true, eqb-false, eq-eqb, ne-eqb, lt-ltb, le-ltb}
 use Rattle.meaning.specs.Sets.{Words, inSet, withId}
 use Rattle.meaning.specs.Lists.{all, any, sum}
 use Rattle.meaning.specs.Record.{pairOf}
 use Rattle.meaning.specs.Soundness.{rising, distinct}
 use Rattle.meaning.proofs.SetLaws.{insert-same, insert-other}
 use Rattle.rules.proofs.MemberLaws.{and-true, and-false, empty}
+use Rattle.soundness.specs.Parts.{rest}
 
 -- ---- what is still to be read
-
--- Of the first n, those from i on.
-abbrev pub rest : ℕ → ℕ → List ℕ → List ℕ
-rest n i xs = take (n - i) (drop i xs)
 
 pub rest-next : (n i : ℕ) (xs : List ℕ) → i < n → n ≤ length xs → rest n i xs ≡ getD xs i 0 ∷ rest n (i + 1) xs
 rest-next n i xs h l =
@@ -186,6 +184,62 @@ module _ {f : ℕ → ℕ} {n : ℕ} {xs : List ℕ} {ws : Words} {i : ℕ} (k :
   pub once-done : n ≤ i → distinct (map f (take n xs)) ≡ true
   unfolding all distinct
   once-done h = k .are ∙ ap (λ (ys : List ℕ). avoids ws (map f ys) && distinct (map f ys)) (rest-none n i xs h)
+
+-- ---- none twice, by pairs
+
+-- An identifier is among those from i on exactly if it is among those from k on.
+pub record Among (f : ℕ → ℕ) (n : ℕ) (xs : List ℕ) (p i k : ℕ) : Type 0 where
+  pub within : k ≤ n
+  pub are : any (eqb p) (map f (rest n i xs)) ≡ any (eqb p) (map f (rest n k xs))
+
+pub among-begin : (f : ℕ → ℕ) (n : ℕ) (xs : List ℕ) (p i : ℕ) → i ≤ n → Among f n xs p i i
+among-begin f n xs p i h = record { within = h; are = refl }
+
+module _ {f : ℕ → ℕ} {n : ℕ} {xs : List ℕ} {p i k : ℕ} (m : Among f n xs p i k) where
+  -- q is the identifier at index k
+  module _ (h : k < n) (l : n ≤ length xs) {q : ℕ} (e : q ≡ f (getD xs k 0)) where
+    next : any (eqb p) (map f (rest n i xs)) ≡ (eqb p q || any (eqb p) (map f (rest n (k + 1) xs)))
+    unfolding any
+    next = m .are ∙ ap (λ (ys : List ℕ). any (eqb p) (map f ys)) (rest-next n k xs h l) ∙ ap (λ (z : ℕ). eqb p z || any (eqb p) (map f (rest n (k + 1) xs))) (sym e)
+
+    pub among-here : q ≡ p → any (eqb p) (map f (rest n i xs)) ≡ true
+    among-here s = next ∙ rw (eq-eqb p q (sym s))
+
+    pub among-next : (q ≡ p → ⊥) → Among f n xs p i (k + 1)
+    among-next s = record { within = omega arith; are = next ∙ rw (ne-eqb p q (λ z. s (sym z))) }
+
+  pub among-none : n ≤ k → any (eqb p) (map f (rest n i xs)) ≡ false
+  unfolding any
+  among-none h = m .are ∙ ap (λ (ys : List ℕ). any (eqb p) (map f ys)) (rest-none n k xs h)
+
+-- The identifiers stand once each exactly if those from i on do.
+pub record Apart (f : ℕ → ℕ) (n : ℕ) (xs : List ℕ) (i : ℕ) : Type 0 where
+  pub within : i ≤ n
+  pub are : distinct (map f (take n xs)) ≡ distinct (map f (rest n i xs))
+
+pub apart-begin : (f : ℕ → ℕ) (n : ℕ) (xs : List ℕ) → Apart f n xs 0
+apart-begin f n xs = record { within = omega arith; are = ap (λ (ys : List ℕ). distinct (map f ys)) (sym (rest-all n xs)) }
+
+module _ {f : ℕ → ℕ} {n : ℕ} {xs : List ℕ} {i : ℕ} (m : Apart f n xs i) where
+  -- p is the identifier at index i, and t tells whether it stands again behind it
+  module _ (h : i < n) (l : n ≤ length xs) {p : ℕ} (e : p ≡ f (getD xs i 0)) {t : Bool} (a : t ≡ any (eqb p) (map f (rest n (i + 1) xs))) where
+    first-of : distinct (map f (take n xs)) ≡ (not t && distinct (map f (rest n (i + 1) xs)))
+    unfolding distinct
+    first-of =
+        m .are
+        ∙ ap (λ (ys : List ℕ). distinct (map f ys)) (rest-next n i xs h l)
+        ∙ ap (λ (q : ℕ). distinct (q ∷ map f (rest n (i + 1) xs))) (sym e)
+        ∙ ap (λ (b : Bool). not b && distinct (map f (rest n (i + 1) xs))) (sym a)
+
+    pub apart-next : t ≡ false → Apart f n xs (i + 1)
+    apart-next s = record { within = omega arith; are = first-of ∙ rw s }
+
+    pub apart-twice : t ≡ true → distinct (map f (take n xs)) ≡ false
+    apart-twice s = first-of ∙ rw s
+
+  pub apart-done : n ≤ i → distinct (map f (take n xs)) ≡ true
+  unfolding distinct
+  apart-done h = m .are ∙ ap (λ (ys : List ℕ). distinct (map f ys)) (rest-none n i xs h)
 
 -- ---- the sum, as f reads the numbers
 

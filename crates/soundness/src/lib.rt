@@ -4,14 +4,14 @@ ghost use mathlib.Core.Path.{_≡_};
 ghost use Prim.Native.Nat.{ℕ, _≤_, _<_};
 ghost use mathlib.Core.List.{map};
 ghost use lib.ListN.{length, take};
-ghost use lib.Dec.{leb};
+ghost use lib.Dec.{eqb, leb};
 ghost use Rattle.meaning.specs.Sets.{inSet, withId};
-ghost use Rattle.meaning.specs.Lists.{all, sum};
+ghost use Rattle.meaning.specs.Lists.{all, any, sum};
 ghost use Rattle.meaning.specs.Wishes.{copiesAll};
 ghost use Rattle.meaning.specs.Rooms.{packetLimit, goodWorkRoom, goodFragmentRoom, goodMapRoom};
 ghost use Rattle.meaning.specs.Record.{pairOf, fragmentIdentifier, fragmentLength};
 ghost use Rattle.meaning.specs.Soundness.{rising, distinct, soundRooms, soundHeld, soundPackages, soundMaps, soundFragments};
-ghost use Rattle.soundness.specs.Parts.{limitsOf, partsSound};
+ghost use Rattle.soundness.specs.Parts.{rest, limitsOf, partsSound};
 use learning::Extent;
 use meaning::Limits;
 use meaning::Options;
@@ -177,7 +177,39 @@ fn map_identifier(head: u32) -> u16
     (head / 65536) as u16
 }
 
-fn maps_distinct(map_heads: &[u32; 64], n: usize) -> bool
+// Whether one of those from `i` on, up to `n`, has the identifier.
+fn map_among(map_heads: &[u32; 64], i: usize, n: usize, id: u16) -> bool
+    requires { ⌜ (i ≤ n) × (n ≤ 64) × (length (now «map_heads») ≡ 64) ⌝ }
+    ensures { λ r. ⌜ r ≡ any (eqb id) (map (λ x. pairOf x .0) (rest n i (now («map_heads» .entry)))) ⌝ }
+{
+    let mut k = i;
+    while k < n {
+        if map_identifier(map_heads[k]) == id {
+            return true;
+        }
+        k += 1;
+    }
+    false
+}
+
+// By pairs, which for a few is quicker than to clear a set.
+fn few_maps_distinct(map_heads: &[u32; 64], n: usize) -> bool
+    requires { ⌜ (n ≤ 64) × (length (now «map_heads») ≡ 64) ⌝ }
+    ensures { λ r. ⌜ r ≡ distinct (map (λ x. pairOf x .0) (take n (now («map_heads» .entry)))) ⌝ }
+{
+    let mut i: usize = 0;
+    while i < n {
+        let id = map_identifier(map_heads[i]);
+        if map_among(map_heads, i + 1, n, id) {
+            return false;
+        }
+        i += 1;
+    }
+    true
+}
+
+// By a set of those passed.
+fn many_maps_distinct(map_heads: &[u32; 64], n: usize) -> bool
     requires { ⌜ (n ≤ 64) × (length (now «map_heads») ≡ 64) ⌝ }
     ensures { λ r. ⌜ r ≡ distinct (map (λ x. pairOf x .0) (take n (now («map_heads» .entry)))) ⌝ }
 {
@@ -191,6 +223,16 @@ fn maps_distinct(map_heads: &[u32; 64], n: usize) -> bool
         i += 1;
     }
     true
+}
+
+fn maps_distinct(map_heads: &[u32; 64], n: usize) -> bool
+    requires { ⌜ (n ≤ 64) × (length (now «map_heads») ≡ 64) ⌝ }
+    ensures { λ r. ⌜ r ≡ distinct (map (λ x. pairOf x .0) (take n (now («map_heads» .entry)))) ⌝ }
+{
+    if n <= 16 {
+        return few_maps_distinct(map_heads, n);
+    }
+    many_maps_distinct(map_heads, n)
 }
 
 fn sound_maps(map_heads: &[u32; 64], n: usize) -> bool
@@ -215,7 +257,39 @@ fn fragment_identifier(head: u64) -> u16
     (head / 281474976710656) as u16
 }
 
-fn fragments_distinct(fragment_heads: &[u64; 256], n: usize) -> bool
+// Whether one of those from `i` on, up to `n`, has the identifier.
+fn fragment_among(fragment_heads: &[u64; 256], i: usize, n: usize, id: u16) -> bool
+    requires { ⌜ (i ≤ n) × (n ≤ 256) × (length (now «fragment_heads») ≡ 256) ⌝ }
+    ensures { λ r. ⌜ r ≡ any (eqb id) (map fragmentIdentifier (rest n i (now («fragment_heads» .entry)))) ⌝ }
+{
+    let mut k = i;
+    while k < n {
+        if fragment_identifier(fragment_heads[k]) == id {
+            return true;
+        }
+        k += 1;
+    }
+    false
+}
+
+// By pairs, which for a few is quicker than to clear a set.
+fn few_fragments_distinct(fragment_heads: &[u64; 256], n: usize) -> bool
+    requires { ⌜ (n ≤ 256) × (length (now «fragment_heads») ≡ 256) ⌝ }
+    ensures { λ r. ⌜ r ≡ distinct (map fragmentIdentifier (take n (now («fragment_heads» .entry)))) ⌝ }
+{
+    let mut i: usize = 0;
+    while i < n {
+        let id = fragment_identifier(fragment_heads[i]);
+        if fragment_among(fragment_heads, i + 1, n, id) {
+            return false;
+        }
+        i += 1;
+    }
+    true
+}
+
+// By a set of those passed.
+fn many_fragments_distinct(fragment_heads: &[u64; 256], n: usize) -> bool
     requires { ⌜ (n ≤ 256) × (length (now «fragment_heads») ≡ 256) ⌝ }
     ensures { λ r. ⌜ r ≡ distinct (map fragmentIdentifier (take n (now («fragment_heads» .entry)))) ⌝ }
 {
@@ -229,6 +303,16 @@ fn fragments_distinct(fragment_heads: &[u64; 256], n: usize) -> bool
         i += 1;
     }
     true
+}
+
+fn fragments_distinct(fragment_heads: &[u64; 256], n: usize) -> bool
+    requires { ⌜ (n ≤ 256) × (length (now «fragment_heads») ≡ 256) ⌝ }
+    ensures { λ r. ⌜ r ≡ distinct (map fragmentIdentifier (take n (now («fragment_heads» .entry)))) ⌝ }
+{
+    if n <= 16 {
+        return few_fragments_distinct(fragment_heads, n);
+    }
+    many_fragments_distinct(fragment_heads, n)
 }
 
 // The bytes of the first `n`.

@@ -1,4 +1,5 @@
-use Rattle.soundness.proofs.SoundnessLaws.{rest, rest-all, rest-none, lower, all-turn}
+use Rattle.soundness.proofs.SoundnessLaws.{rest-all, rest-none, lower, all-turn}
+use Rattle.soundness.specs.Parts.{rest}
 use Rattle.meaning.specs.Lists.{all}
 use Rattle.meaning.specs.Record.{pairOf}
 use borrow.Author.Needs.{needs}

@@ -4,8 +4,8 @@ use borrow.Author.Needs.{needs}
 use native.Mathlib.Omega.{arith}
 use mathlib.Core.Path.{sym, _∙_}
 use Prim.Native.Nat.{_-_}
-use Rattle.soundness.proofs.fragments_distinct.Statement.{statement}
-use Rattle.soundness.proofs.fragments_distinct.Tie as tie
+use Rattle.soundness.proofs.many_fragments_distinct.Statement.{statement}
+use Rattle.soundness.proofs.many_fragments_distinct.Tie as tie
 
 abbrev Inv-loop : tie.InvT-loop
 Inv-loop fragment-heads n set₀ i₀ set i = Once fragmentIdentifier n fragment-heads set i
@@ -48,5 +48,5 @@ loop-again c =
 returns-2 : tie.Need-returns-2 Inv-loop μ-loop
 returns-2 c = sym (once-done (c .before .loop .inv) (omega arith))
 
-pub fragments-distinct-spec : {M : Type 1} → statement M
-fragments-distinct-spec = tie.close (tie.spec Inv-loop μ-loop loop-holds mul-fragment-identifier element-copy-out-fragment-identifier fragment-identifier-requires seen-before-requires returns add-i loop-less loop-again returns-2)
+pub many-fragments-distinct-spec : {M : Type 1} → statement M
+many-fragments-distinct-spec = tie.close (tie.spec Inv-loop μ-loop loop-holds mul-fragment-identifier element-copy-out-fragment-identifier fragment-identifier-requires seen-before-requires returns add-i loop-less loop-again returns-2)

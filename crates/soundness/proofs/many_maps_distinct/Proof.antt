@@ -3,8 +3,8 @@ use borrow.Author.Needs.{needs}
 use native.Mathlib.Omega.{arith}
 use mathlib.Core.Path.{sym, _∙_}
 use Prim.Native.Nat.{_-_}
-use Rattle.soundness.proofs.maps_distinct.Statement.{statement}
-use Rattle.soundness.proofs.maps_distinct.Tie as tie
+use Rattle.soundness.proofs.many_maps_distinct.Statement.{statement}
+use Rattle.soundness.proofs.many_maps_distinct.Tie as tie
 
 abbrev Inv-loop : tie.InvT-loop
 Inv-loop map-heads n set₀ i₀ set i = Once upper n map-heads set i
@@ -46,5 +46,5 @@ loop-again c =
 returns-2 : tie.Need-returns-2 Inv-loop μ-loop
 returns-2 c = sym (once-done (c .before .loop .inv) (omega arith))
 
-pub maps-distinct-spec : {M : Type 1} → statement M
-maps-distinct-spec = tie.close (tie.spec Inv-loop μ-loop loop-holds mul-map-identifier element-copy-out-map-identifier map-identifier-requires seen-before-requires returns add-i loop-less loop-again returns-2)
+pub many-maps-distinct-spec : {M : Type 1} → statement M
+many-maps-distinct-spec = tie.close (tie.spec Inv-loop μ-loop loop-holds mul-map-identifier element-copy-out-map-identifier map-identifier-requires seen-before-requires returns add-i loop-less loop-again returns-2)
