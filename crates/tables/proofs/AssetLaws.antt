@@ -1,8 +1,8 @@
 -- Asset entries at an offset, as `assets` reads them: clock relation, what follows the flags, the kind, the whole entry with its
 -- bytes, and the front of an MPT. Rests on Reading of `meaning`; an entry's length rests on the locality of `asset`.
-use Prim.Native.Nat.{ℕ, suc, _+_, _-_, _%_, _≤_, _<_}
+use Prim.Native.Nat.{ℕ, suc, _+_, _-_, _*_, _%_, _≤_, _<_}
 use mathlib.Core.Path.{_≡_, refl, _∙_}
-use mathlib.Core.Bool.{Bool, true, false, _&&_}
+use mathlib.Core.Bool.{Bool, true, false, cond, _&&_}
 use mathlib.Core.List.{List, [], _∷_}
 use mathlib.Core.Option.{Option, none, some}
 use native.Mathlib.Decide.{decLt}
@@ -10,17 +10,19 @@ use native.Mathlib.Omega.{arith}
 use lib.ListN.{length, take, drop, getD, length-drop}
 use lib.Seq.{drop-cons}
 use lib.Dec.{eqb}
-use Rattle.meaning.specs.Bytes.{Bytes}
+use Rattle.meaning.specs.Bytes.{Bytes, be16, be16At, be32At}
 use Rattle.meaning.specs.Readers.{Out, Reader, bind, _>>=_, give, u8, bytes, counted8, counted16, announced, many, raw}
-use Rattle.meaning.specs.Tables.{clockRelation, location, asset, entry, sameBytes, partOf, mptFront, firstOf}
+use borrow.Author.Tests.{eq-eqb, eqb-true, leb-true}
+use Rattle.meaning.specs.Tables.{clockRelation, locationBody, location, asset, entry, sameBytes, partOf, mptFront, firstOf}
 use Rattle.meaning.specs.Tables as meant
 use Rattle.meaning.specs.declared.Part.{Part}
-use Rattle.meaning.proofs.ListLaws.{clash}
+use Rattle.meaning.specs.declared.Part.the-variants.{Caption, Carousel, Other}
+use Rattle.meaning.proofs.ListLaws.{clash, and-both, and-true}
 use Rattle.meaning.proofs.Local.{asset-local}
 use Rattle.meaning.proofs.Framed.{progress}
-use Rattle.meaning.proofs.Reading.{u8-none, bytes-at, bytes-none, counted8-none}
+use Rattle.meaning.proofs.Reading.{u8-none, u8-some, u16-at, bytes-at, bytes-none, counted8-none}
 use Rattle.octets.proofs.ByteLaws.{u8-at}
-use Rattle.tables.specs.Answers.{Ends, LocationsAre, assetTail, AssetIs}
+use Rattle.tables.specs.Answers.{Ends, LocationsAre, assetTail, isPlain, AssetIs}
 use Rattle.tables.specs.declared.fields.End.{End}
 use Rattle.tables.specs.declared.locations.Carrier.{Carrier}
 use Rattle.tables.specs.declared.locations.Located.{Located}
@@ -98,6 +100,44 @@ module _ (s : Bytes) (at flags : ℕ) where
         pub tail-whole : (e : ℕ) → Ends (counted16 (drop ds s)) s (End.At e) → LocationsAre Tail s (Located.To e c)
         tail-whole e d = (d .0, (l .1 .0, counted ∙ rw (l .1 .1, d .1 .1), l .1 .2))
 
+-- ---- the same, plain
+
+module _ (s : Bytes) (at flags : ℕ) (plain : isPlain flags s at ≡ true) where
+  pub record Plain : Type 0 where
+    pub clockless : flags % 2 ≡ 0
+    pub room : at + 4 ≤ length s
+    pub one : getD s at 0 ≡ 1
+    pub here : getD s (at + 1) 0 ≡ 0
+
+  pub plain-parts : Plain
+  unfolding isPlain
+  plain-parts =
+      let p = and-both _ _ plain in
+      let q = and-both _ _ (p .1) in
+      let r = and-both _ _ (q .1) in
+      record { clockless = eqb-true _ _ (p .0); room = leb-true _ _ (q .0); one = eqb-true _ _ (r .0); here = eqb-true _ _ (r .1) }
+
+  -- as far as the identifier
+  plain-front : Tail s at flags ≡ bind (counted16 (drop (at + 4) s)) (λ _. give (some (be16At s (at + 2)) ∷ []))
+  unfolding assetTail announced many location locationBody
+  plain-front =
+      let p = plain-parts in
+      rw (
+        p .clockless,
+        u8-some s at (at + 1) (omega (arith, p .room)) refl,
+        p .one,
+        u8-some s (at + 1) (at + 2) (omega (arith, p .room)) (omega arith),
+        p .here,
+        u16-at s (at + 2) (at + 4) (p .room) (omega arith),
+      )
+
+  pub plain-broken : counted16 (drop (at + 4) s) ≡ none → Tail s at flags ≡ none
+  plain-broken d = plain-front ∙ rw d
+
+  pub plain-whole : (e p : ℕ) → Ends (counted16 (drop (at + 4) s)) s (End.At e) → p ≡ be16At s (at + 2) → LocationsAre (Tail s at flags) s (Located.To e (Carrier.By p))
+  unfolding firstOf
+  plain-whole e p d is = (d .0, (some (be16At s (at + 2)) ∷ [], plain-front ∙ rw (d .1 .1), rw is))
+
 -- ---- the kind
 
 -- four bytes, as the code reads them
@@ -111,12 +151,49 @@ and-nothing : (a : Bool) → (a && true) ≡ a
 and-nothing true = refl
 and-nothing false = refl
 
--- the test of the four, one after the other
-pub asset-type-at : (s : Bytes) (at a b : ℕ) → at + 4 ≤ length s
-    → sameBytes (take 4 (drop at s)) (a ∷ b ∷ 0x70 ∷ 0x70 ∷ [])
-    ≡ (eqb (getD s at 0) a && (eqb (getD s (at + 1) 0) b && (eqb (getD s (at + 2) 0) 0x70 && eqb (getD s (at + 3) 0) 0x70)))
-unfolding sameBytes
-asset-type-at s at a b h = rw (four-at s at h, and-nothing (eqb (getD s (at + 3) 0) 0x70))
+-- the number that they make
+four-number : (s : Bytes) (at : ℕ) → ((i : ℕ) → getD s i 0 < 256)
+    → be32At s at ≡ getD s at 0 * 16777216 + getD s (at + 1) 0 * 65536 + getD s (at + 2) 0 * 256 + getD s (at + 3) 0
+unfolding be32At be16At be16
+four-number s at small =
+    let k : at + 2 + 1 ≡ at + 3 = omega arith in
+    rw k (omega (arith, small at, small (at + 1), small (at + 2), small (at + 3)))
+
+-- two tests are one where each follows from the other
+same-test : (a b : Bool) → (a ≡ true → b ≡ true) → (b ≡ true → a ≡ true) → a ≡ b
+same-test true b f g = cc (f refl)
+same-test false true f g = g refl
+same-test false false f g = refl
+
+-- four bytes are the same exactly where their numbers are
+four-same : (w x y z a b c d : ℕ) → w < 256 → x < 256 → y < 256 → z < 256 → a < 256 → b < 256 → c < 256 → d < 256
+    → (eqb w a && (eqb x b && (eqb y c && eqb z d))) ≡ eqb (w * 16777216 + x * 65536 + y * 256 + z) (a * 16777216 + b * 65536 + c * 256 + d)
+four-same w x y z a b c d hw hx hy hz ha hb hc hd =
+    same-test (eqb w a && (eqb x b && (eqb y c && eqb z d))) _
+    (λ t.
+    let p = and-both (eqb w a) _ t in
+    let q = and-both (eqb x b) _ (p .1) in
+    let r = and-both (eqb y c) (eqb z d) (q .1) in
+    eq-eqb (w * 16777216 + x * 65536 + y * 256 + z) (a * 16777216 + b * 65536 + c * 256 + d)
+    (omega (arith, eqb-true w a (p .0), eqb-true x b (q .0), eqb-true y c (r .0), eqb-true z d (r .1))))
+    (λ t.
+    let e : w * 16777216 + x * 65536 + y * 256 + z ≡ a * 16777216 + b * 65536 + c * 256 + d = eqb-true _ _ t in
+    and-true _ _ (eq-eqb w a (omega arith)) (and-true _ _ (eq-eqb x b (omega arith)) (and-true _ _ (eq-eqb y c (omega arith)) (eq-eqb z d (omega arith)))))
+
+module _ (s : Bytes) (at : ℕ) (h : at + 4 ≤ length s) (small : (i : ℕ) → getD s i 0 < 256) where
+  -- the test of the four by their number
+  same-number : (a b n : ℕ) → a < 256 → b < 256 → n ≡ a * 16777216 + b * 65536 + 0x70 * 256 + 0x70
+      → sameBytes (take 4 (drop at s)) (a ∷ b ∷ 0x70 ∷ 0x70 ∷ []) ≡ eqb (be32At s at) n
+  unfolding sameBytes
+  same-number a b n ha hb is =
+      rw (four-at s at h, four-number s at small, and-nothing, is)
+      (four-same _ _ _ _ a b 0x70 0x70 (small at) (small (at + 1)) (small (at + 2)) (small (at + 3)) ha hb (omega arith) (omega arith))
+
+  -- the kind by it
+  pub part-number : partOf (take 4 (drop at s)) ≡ cond (eqb (be32At s at) 0x73747070) Caption (cond (eqb (be32At s at) 0x61617070) Carousel Other)
+  unfolding partOf
+  part-number =
+      rw (same-number 0x73 0x74 0x73747070 (omega arith) (omega arith) (omega arith), same-number 0x61 0x61 0x61617070 (omega arith) (omega arith) (omega arith))
 
 -- ---- an entry
 

@@ -2,9 +2,11 @@
 -- definition reads nothing. Each determines the answer.
 use Prim.Native.Nat.{ℕ, _+_, _-_, _%_, _≤_, _<_}
 use mathlib.Core.Path.{_≡_}
+use mathlib.Core.Bool.{Bool, _&&_}
 use mathlib.Core.List.{List}
 use mathlib.Core.Option.{Option, none, some}
 use lib.ListN.{length, take, drop, getD}
+use lib.Dec.{eqb, leb}
 use Rattle.meaning.specs.Bytes.{Bytes}
 use Rattle.meaning.specs.Readers.{_>>=_, Out, Reader, give, u8, counted16, announced, many}
 use Rattle.meaning.specs.Messages as messages
@@ -60,6 +62,10 @@ assetTail flags = do
   locations ← many location-count meant.location
   asset-descriptors ← counted16
   give locations
+
+-- No clock relation is announced, and one location of type 0 follows, as far as its identifier.
+unfoldable pub isPlain : ℕ → Bytes → ℕ → Bool
+isPlain flags s at = eqb (flags % 2) 0 && (leb (at + 4) (length s) && (eqb (getD s at 0) 1 && eqb (getD s (at + 1) 0) 0))
 
 -- An asset entry from `at` to e.
 abbrev pub AssetIs : Bytes → ℕ → Asset → Type 0

@@ -2,10 +2,10 @@
 ghost use mathlib.Core.Path.{_≡_};
 ghost use Prim.Native.Nat.{_+_, _-_, _*_, _%_, _≤_, _<_};
 ghost use lib.ListN.{length, take, drop, getD};
-ghost use mathlib.Core.List.{[], _∷_};
+ghost use mathlib.Core.Bool.{true};
 ghost use Rattle.meaning.specs.Readers.{bytes, announced};
-ghost use Rattle.meaning.specs.Tables.{clockRelation, sameBytes, partOf, mptFront};
-ghost use Rattle.tables.specs.Answers.{Ends, LocationsAre, assetTail, AssetIs};
+ghost use Rattle.meaning.specs.Tables.{clockRelation, partOf, mptFront};
+ghost use Rattle.tables.specs.Answers.{Ends, LocationsAre, assetTail, isPlain, AssetIs};
 use crate::fields::End;
 use crate::fields::bytes_end;
 use crate::fields::counted_end;
@@ -14,6 +14,8 @@ use crate::locations::Carrier;
 use crate::locations::Located;
 use crate::locations::locations_at;
 use meaning::Part;
+use octets::be32;
+use octets::id16;
 use octets::wide;
 
 // An entry: where it ends, its kind, its identifier.
@@ -43,11 +45,42 @@ fn clock_end(s: &[u8], at: usize, flags: u8) -> End
     bytes_end(s, at + 2, 4)
 }
 
+// Whether what follows the flags is plain: no clock relation, and one location of type 0. Nearly every asset's is.
+fn is_plain(s: &[u8], at: usize, flags: u8) -> bool
+    requires { ⌜ at ≤ length (now s) ⌝ }
+    ensures { λ r. ⌜ r ≡ isPlain flags (now (s .entry)) at ⌝ }
+{
+    if flags % 2 != 0 {
+        return false;
+    }
+    if s.len() - at < 4 {
+        return false;
+    }
+    if s[at] != 1 {
+        return false;
+    }
+    s[at + 1] == 0
+}
+
+// The same as `tail_at` where it is plain: neither a loop nor a choice by type is gone through.
+fn plain_tail(s: &[u8], at: usize, flags: u8) -> Located
+    requires { ⌜ isPlain flags (now s) at ≡ true ⌝ }
+    ensures { λ r. ⌜ LocationsAre (assetTail flags (drop at (now (s .entry)))) (now (s .entry)) r ⌝ }
+{
+    let End::At(end) = descriptors_end(s, at + 4) else {
+        return Located::Broken;
+    };
+    Located::To(end, Carrier::By(id16(s, at + 2)))
+}
+
 // What follows the flags: clock relation, locations, descriptors.
 fn tail_at(s: &[u8], at: usize, flags: u8) -> Located
     requires { ⌜ at ≤ length (now s) ⌝ }
     ensures { λ r. ⌜ LocationsAre (assetTail flags (drop at (now (s .entry)))) (now (s .entry)) r ⌝ }
 {
+    if is_plain(s, at, flags) {
+        return plain_tail(s, at, flags);
+    }
     let End::At(counts) = clock_end(s, at, flags) else {
         return Located::Broken;
     };
@@ -63,32 +96,16 @@ fn tail_at(s: &[u8], at: usize, flags: u8) -> Located
     Located::To(end, carrier)
 }
 
-// Whether the four bytes at `at` are a, b, `p`, `p`.
-fn is_asset_type(s: &[u8], at: usize, a: u8, b: u8) -> bool
-    requires { ⌜ at + 4 ≤ length (now s) ⌝ }
-    ensures { λ r. ⌜ r ≡ sameBytes (take 4 (drop at (now (s .entry)))) (a ∷ b ∷ 0x70 ∷ 0x70 ∷ []) ⌝ }
-{
-    if s[at] != a {
-        return false;
-    }
-    if s[at + 1] != b {
-        return false;
-    }
-    if s[at + 2] != 0x70 {
-        return false;
-    }
-    s[at + 3] == 0x70
-}
-
-// The kind whose four bytes are at `at`: `stpp` is caption, `aapp` carousel.
+// The kind whose four bytes are at `at`, read as one number: `stpp` is caption, `aapp` carousel.
 fn part_of(s: &[u8], at: usize) -> Part
     requires { ⌜ at + 4 ≤ length (now s) ⌝ }
     ensures { λ r. ⌜ r ≡ partOf (take 4 (drop at (now (s .entry)))) ⌝ }
 {
-    if is_asset_type(s, at, 0x73, 0x74) {
+    let asset_type = be32(s, at);
+    if asset_type == 0x73747070 {
         return Part::Caption;
     }
-    if is_asset_type(s, at, 0x61, 0x61) {
+    if asset_type == 0x61617070 {
         return Part::Carousel;
     }
     Part::Other
