@@ -28,9 +28,9 @@ use Rattle.tables.specs.declared.assets.Asset.{Asset}
 use Rattle.tables.specs.declared.fields.End.{End}
 use Rattle.tables.specs.declared.pa.Table as code
 use Rattle.tables.specs.declared.locations.Carrier.{Carrier}
-use Rattle.narrowing.specs.Tables.{Exact, tablesIn}
+use Rattle.narrowing.specs.Tables.{bodyOf, Exact, tablesIn}
 use Rattle.tables.proofs.WalkLaws.{tableAt, part-table, walk-next, walk-stops}
-use Rattle.narrowing.proofs.ExactLaws.{bodyOf, exact-table}
+use Rattle.narrowing.proofs.ExactLaws.{exact-table}
 use Rattle.narrowing.specs.Answers.{Rows, rowNumber, bumped, countedIn, noRows, CountsBelow, partsRead}
 
 -- ---- what is counted

@@ -17,11 +17,7 @@ use Rattle.tables.specs.Answers.{TableIs}
 use Rattle.tables.specs.declared.pa.Table as code
 use Rattle.tables.proofs.PaLaws.{table-to}
 use Rattle.tables.proofs.WalkLaws.{tableAt, part-table}
-use Rattle.narrowing.specs.Tables.{Exact}
-
--- The body of t.
-abbrev pub bodyOf : Bytes → Bytes
-bodyOf t = take (length t - 4) (drop 4 t)
+use Rattle.narrowing.specs.Tables.{bodyOf, Exact}
 
 pub exact-table : (t : Bytes) → Exact t
     → table t ≡ some (record { number = getD t 0 0; version = getD t 1 0; body = bodyOf t }, [])

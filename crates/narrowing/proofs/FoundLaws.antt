@@ -1,6 +1,7 @@
 -- Where the PA message of a payload stands, and what the functions on a payload and a packet write of it. Rests on PayloadLaws.
 use Prim.Native.Nat.{ℕ, _+_, _-_, _≤_}
 use mathlib.Core.Path.{_≡_, refl, sym, ap, _∙_}
+use mathlib.Core.Bool.{true}
 use mathlib.Core.List.{_++_}
 use mathlib.Core.Option.{Option, none, some, Option·map, Option·some-injective}
 use native.Mathlib.Nat.{sub-zero}
@@ -19,9 +20,8 @@ use Rattle.meaning.proofs.Writes.{wrote-then}
 use Rattle.tables.specs.Answers.{MessageIs, PaHeadIs}
 use Rattle.tables.specs.declared.messages.Found.{Found}
 use Rattle.tables.specs.declared.fields.End.{End}
-use Rattle.narrowing.specs.Tables.{tablesIn}
-use Rattle.narrowing.specs.Answers.{PaFound, NoPa, ChangedPaIs, RewroteAs, bodyAfter, signalOf, countedIn, noRows}
-use Rattle.narrowing.specs.declared.narrow.Pa.{Pa}
+use Rattle.narrowing.specs.Tables.{tablesIn, tablesChange}
+use Rattle.narrowing.specs.Answers.{PaFound, NoPa, RewroteAs, bodyAfter, signalOf, countedIn, noRows}
 use Rattle.narrowing.proofs.PayloadLaws.{Starts, none-no-pa, one-message, message-number, number-at, pa-body, length-right, packet-right, pa-narrowed}
 
 -- all from n on
@@ -133,13 +133,13 @@ module _ (o : Options) (pid : ℕ) (p payload : Bytes) where
   pub packet-stays : narrowPayload o pid payload ≡ none → packetFor o p (some (signalOf pid payload)) ≡ none
   packet-stays e = packet-of none e
 
-  pub packet-rewritten : (short : 4 + length payload ≤ length p) (end tables : ℕ) (h : ChangedPaIs o pid payload (Pa.Found end tables))
-      {d d₁ d₂ d₃ : Bytes} {to c last q : ℕ} → to ≤ length d → Wrote (take (length p - length payload - 0) (drop 0 p)) d to d₁ c
-      → Wrote (payloadBytes payload (after o pid payload end tables (h .0))) d₁ c d₂ last → Wrote (put16 (last - to - 4)) d₂ (to + 2) d₃ q
+  pub packet-rewritten : (short : 4 + length payload ≤ length p) (end tables : ℕ) (h : PaFound payload end tables) → tablesChange o pid (drop tables (take (end - 9) (drop 9 payload))) ≡ true
+      → {d d₁ d₂ d₃ : Bytes} {to c last q : ℕ} → to ≤ length d → Wrote (take (length p - length payload - 0) (drop 0 p)) d to d₁ c
+      → Wrote (payloadBytes payload (after o pid payload end tables h)) d₁ c d₂ last → Wrote (put16 (last - to - 4)) d₂ (to + 2) d₃ q
       → RewroteAs (packetFor o p (some (signalOf pid payload))) d to d₃ (End.At last)
-  packet-rewritten short end tables h l u v w =
-      let y : Bytes = payloadBytes payload (after o pid payload end tables (h .0)) in
-      (packetBytes p (signalOf pid payload) y, packet-of (some y) (pa-narrowed o pid payload end tables (h .0) (h .1)), packet-written p payload short u pid v l w)
+  packet-rewritten short end tables h q l u v w =
+      let y : Bytes = payloadBytes payload (after o pid payload end tables h) in
+      (packetBytes p (signalOf pid payload) y, packet-of (some y) (pa-narrowed o pid payload end tables h q), packet-written p payload short u pid v l w)
 
 -- ---- what is counted of it
 

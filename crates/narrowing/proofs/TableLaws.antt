@@ -17,9 +17,9 @@ use Rattle.meaning.specs.declared.Options.{Options}
 use Rattle.meaning.proofs.ListLaws.{clash}
 use Rattle.meaning.proofs.Writes.{wrote-then}
 use Rattle.narrowing.specs.Bodies.{MptLess, oneEntry, PltBounds}
-use Rattle.narrowing.specs.Tables.{ChangeIs, isChange, Exact, afterTable}
+use Rattle.narrowing.specs.Tables.{bodyOf, ChangeIs, TableChangeIs, isChange, Exact, afterTable}
 use Rattle.narrowing.specs.declared.table.BodyChange.{BodyChange}
-use Rattle.narrowing.proofs.ExactLaws.{bodyOf, exact-table}
+use Rattle.narrowing.proofs.ExactLaws.{exact-table}
 
 -- ---- the body of a table with this number, on this identifier
 
@@ -101,7 +101,7 @@ module _ (o : Options) (p : ℕ) (t : Bytes) (x : Exact t) where
   unfolding afterTable newTable tableBytes
   after-some y e = rw (exact-table t x, e, two t (x .four))
 
-  module _ (change : BodyChange) (h : ChangeIs (anew o p t) o (bodyOf t) change) where
+  module _ (change : BodyChange) (h : TableChangeIs o p t change) where
     pub after-same : isChange change ≡ false → afterTable o p t ≡ t
     after-same q = after-none (stays (anew o p t) o (bodyOf t) change h q)
 

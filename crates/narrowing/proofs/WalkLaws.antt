@@ -4,7 +4,7 @@ use Prim.Native.Nat.{ℕ, _+_, _-_, _*_, _≤_, _<_}
 use mathlib.Core.Path.{_≡_, refl, sym, ap, ap₂, _∙_}
 use mathlib.Core.Bool.{Bool, true, false, _&&_, _||_}
 use mathlib.Core.List.{List, [], _∷_, _++_, map, flatten, append-assoc, append-nil}
-use mathlib.Core.Option.{Option, none, some, Option·map, Option·getD}
+use mathlib.Core.Option.{Option, none, some, Option·map, Option·getD, Option·some-injective}
 use native.Mathlib.Omega.{arith}
 use lib.ListN.{length, take, drop, getD, length-append, length-take, length-drop}
 use lib.Seq.{take-at, drop-at, drop-drop, length-take-le, take-take, take-add}
@@ -18,6 +18,7 @@ use Rattle.meaning.specs.Tables.{Table, table}
 use Rattle.meaning.specs.Narrow.{newBody, tableBytes, newTable, tableAfter, tableChanges, relength, paBytes}
 use Rattle.meaning.proofs.Statements.{same-wishes}
 use Rattle.meaning.specs.declared.Options.{Options}
+use Rattle.meaning.proofs.ListLaws.{clash}
 use Rattle.meaning.proofs.Local.{table-local}
 use Rattle.meaning.proofs.Framed.{raw-framed, walk-none}
 use Rattle.meaning.proofs.PaLaws.{Fours, head-split, relength-length, relength-fours, after-shorter}
@@ -28,7 +29,8 @@ use Rattle.tables.specs.Answers.{TableIs}
 use Rattle.tables.specs.declared.pa.Table.the-variants.{To}
 use Rattle.tables.proofs.WalkLaws.{tableAt, raw-at, part-table, walk-next}
 use Rattle.narrowing.specs.declared.table.BodyChange.{BodyChange}
-use Rattle.narrowing.specs.Tables.{ChangeIs, isChange, afterTable, tablesIn, tablesChange, tablesAfter, tablesBytes, HeadEntries}
+use Rattle.narrowing.proofs.ExactLaws.{exact-table, part-exact}
+use Rattle.narrowing.specs.Tables.{bodyAt, bodyOf, ChangeIs, ChangeAt, TableChangeIs, KnownIs, PaChangeIs, isChange, afterTable, tablesIn, tablesChange, tablesAfter, tablesBytes, HeadEntries}
 
 -- ---- the table at an offset, and the walk from there
 
@@ -65,12 +67,17 @@ raw-none r e = rw e
 table-stop : (r : Bytes) → table r ≡ none → tablesIn r ≡ stop r
 table-stop r e = walk-none (raw table) r (raw-none r e)
 
--- the body, as the code cuts it
-abbrev pub part : Bytes → ℕ → ℕ → Bytes
-part s at e = take (e - (at + 4)) (drop (at + 4) s)
+body-is : (s : Bytes) (at e : ℕ) → bodyAt s at e ≡ take (e - at - 4) (drop (at + 4) s)
+body-is s at e = let n : e - (at + 4) ≡ e - at - 4 = omega arith in ap (λ (k : ℕ). take k (drop (at + 4) s)) n
 
-part-is : (s : Bytes) (at e : ℕ) → part s at e ≡ take (e - at - 4) (drop (at + 4) s)
-part-is s at e = let n : e - (at + 4) ≡ e - at - 4 = omega arith in ap (λ (k : ℕ). take k (drop (at + 4) s)) n
+-- a table by itself has the number and the body that it has at its offset, so that what is made of it is the same
+module _ (s : Bytes) (at e : ℕ) (t : TableIs (table (drop at s)) s at (To e)) where
+  pub own-change : (o : Options) (p : ℕ) (change : BodyChange) → ChangeAt o p s at e change → TableChangeIs o p (take (e - at) (drop at s)) change
+  own-change o p change h =
+      let as-one = Option·some-injective _ _ (sym (exact-table (own s at e t) (part-exact s at e t)) ∙ part-table s at e t) in
+      let number : getD (own s at e t) 0 0 ≡ getD s at 0 = ap (λ x. x .0 .number) as-one in
+      let body : bodyOf (own s at e t) ≡ bodyAt s at e = ap (λ x. x .0 .body) as-one ∙ sym (body-is s at e) in
+      rw (number, body) h
 
 -- ---- whether any changes: what is asked from `at` on, with what was found before
 
@@ -84,7 +91,7 @@ is-some n o b (BodyChange.Mpt front end kept size) h = let e = h .0 ∙ h .1 .na
 is-some n o b (BodyChange.Plt start end past) h = rw (h .1)
 is-some n o b BodyChange.Same h = rw h
 
-pub change-start : (o : Options) (p : ℕ) (r : Bytes) → tablesChange o p r ≡ changeFrom o p false r
+change-start : (o : Options) (p : ℕ) (r : Bytes) → tablesChange o p r ≡ changeFrom o p false r
 unfolding tablesChange changeFrom
 change-start o p r = refl
 
@@ -101,17 +108,17 @@ change-turn o p changed s at e t n q =
     (or-assoc changed _ _ ∙ ap (λ (b : Bool). b || any (tableChanges o p) (tablesIn (drop e s) .found)) (ap (λ (b : Bool). changed || b) (changes-own s at e t o p) ∙ sym q)))
 
 -- found now, or found before
-pub change-new : (o : Options) (p : ℕ) (s : Bytes) (at e : ℕ) (t : TableIs (table (drop at s)) s at (To e)) (was found : Bool) (change : BodyChange) → was ≡ false
-    → ChangeIs (newBody o p (getD s at 0) (part s at e)) o (part s at e) change → found ≡ isChange change
+change-new : (o : Options) (p : ℕ) (s : Bytes) (at e : ℕ) (t : TableIs (table (drop at s)) s at (To e)) (was found : Bool) (change : BodyChange) → was ≡ false
+    → ChangeAt o p s at e change → found ≡ isChange change
     → changeFrom o p was (drop at s) ≡ changeFrom o p found (drop e s)
 change-new o p s at e t was found change f h q =
     change-turn o p was s at e t found
-    (q ∙ is-some (newBody o p (getD s at 0) (part s at e)) o (part s at e) change h ∙ ap (λ (b : Bytes). isSome (newBody o p (getD s at 0) b)) (part-is s at e) ∙ rw f refl)
+    (q ∙ is-some (newBody o p (getD s at 0) (bodyAt s at e)) o (bodyAt s at e) change h ∙ ap (λ (b : Bytes). isSome (newBody o p (getD s at 0) b)) (body-is s at e) ∙ rw f refl)
 
-pub change-kept : (o : Options) (p : ℕ) (s : Bytes) (at e : ℕ) (t : TableIs (table (drop at s)) s at (To e)) (was : Bool) → was ≡ true → changeFrom o p was (drop at s) ≡ changeFrom o p was (drop e s)
+change-kept : (o : Options) (p : ℕ) (s : Bytes) (at e : ℕ) (t : TableIs (table (drop at s)) s at (To e)) (was : Bool) → was ≡ true → changeFrom o p was (drop at s) ≡ changeFrom o p was (drop e s)
 change-kept o p s at e t was f = change-turn o p was s at e t was (rw f refl)
 
-pub change-cut : (o : Options) (p : ℕ) (changed : Bool) (r : Bytes) → table r ≡ none → 4 ≤ length r → changeFrom o p changed r ≡ false
+change-cut : (o : Options) (p : ℕ) (changed : Bool) (r : Bytes) → table r ≡ none → 4 ≤ length r → changeFrom o p changed r ≡ false
 unfolding changeFrom
 change-cut o p changed r e h = rw (table-stop r e, le-ltb (length r) 4 h)
 
@@ -119,9 +126,43 @@ or-false : (b : Bool) → (b || false) ≡ b
 or-false true = refl
 or-false false = refl
 
-pub change-done : (o : Options) (p : ℕ) (changed : Bool) (r : Bytes) → table r ≡ none → length r < 4 → changeFrom o p changed r ≡ changed
+change-done : (o : Options) (p : ℕ) (changed : Bool) (r : Bytes) → table r ≡ none → length r < 4 → changeFrom o p changed r ≡ changed
 unfolding changeFrom any
 change-done o p changed r e h = rw (table-stop r e, lt-ltb (length r) 4 h) (or-false changed)
+
+-- a table has one end
+one-end : (s : Bytes) (at e e′ : ℕ) → TableIs (table (drop at s)) s at (To e) → TableIs (table (drop at s)) s at (To e′) → e ≡ e′
+one-end s at e e′ t t′ =
+    let r : drop e s ≡ drop e′ s = ap (λ x. x .1) (Option·some-injective _ _ (sym (t .2) ∙ t′ .2)) in
+    omega (arith, ap length r, length-drop e s, length-drop e′ s, t .1, t′ .1)
+
+-- Of the tables before `at`: whether narrowing changes any, and what it makes of one, that at `found`, if so.
+pub record ChangeSofar (o : Options) (p : ℕ) (s : Bytes) (tables at found : ℕ) (change : BodyChange) : Type 0 where
+  pub within : at ≤ length s
+  pub asked : tablesChange o p (drop tables s) ≡ changeFrom o p (isChange change) (drop at s)
+  pub known : isChange change ≡ true → KnownIs o p s (record { at = found; change = change })
+
+module _ (o : Options) (p : ℕ) (s : Bytes) (tables : ℕ) where
+  pub sofar-start : tables ≤ length s → ChangeSofar o p s tables tables tables BodyChange.Same
+  sofar-start h = record { within = h; asked = change-start o p (drop tables s); known = λ q. clash (cc) }
+
+  module _ (at found : ℕ) (change : BodyChange) (i : ChangeSofar o p s tables at found change) where
+    module _ (e : ℕ) (t : TableIs (table (drop at s)) s at (To e)) where
+      pub sofar-new : (new : BodyChange) → isChange change ≡ false → ChangeAt o p s at e new → ChangeSofar o p s tables e at new
+      sofar-new new q h = record {
+        within = t .1;
+        asked = i .asked ∙ change-new o p s at e t (isChange change) (isChange new) new q h refl;
+        known = λ _ e′ t′. rw (one-end s at e e′ t t′) at h;
+      }
+
+      pub sofar-kept : isChange change ≡ true → ChangeSofar o p s tables e found change
+      sofar-kept q = record { within = t .1; asked = i .asked ∙ change-kept o p s at e t (isChange change) q; known = i .known }
+
+    pub sofar-cut : table (drop at s) ≡ none → 4 ≤ length (drop at s) → PaChangeIs o p s tables (record { at = tables; change = BodyChange.Same })
+    sofar-cut e h = record { changes-is = sym (i .asked ∙ change-cut o p (isChange change) (drop at s) e h); known-is = λ q. clash (cc) }
+
+    pub sofar-done : table (drop at s) ≡ none → length (drop at s) < 4 → PaChangeIs o p s tables (record { at = found; change = change })
+    sofar-done e h = record { changes-is = sym (i .asked ∙ change-done o p (isChange change) (drop at s) e h); known-is = i .known }
 
 -- ---- the tables as narrowing leaves them
 
@@ -348,14 +389,14 @@ module _ (o : Options) (p : ℕ) (s : Bytes) (tables : ℕ) (d₀ : Bytes) (to :
 
   -- two bytes and the new length
   pub heads-next : (es : List Bytes) → HeadEntries s tables es → (e n : ℕ) → TableIs (table (drop at s)) s at (To e) → entry < tables
-      → n ≡ length (Option·getD (newBody o p (getD s at 0) (part s at e)) (part s at e))
+      → n ≡ length (Option·getD (newBody o p (getD s at 0) (bodyAt s at e)) (bodyAt s at e))
       → (d₁ d₂ : Bytes) (a b : ℕ) → Wrote (take (entry + 2 - entry) (drop entry s)) d put d₁ a → Wrote (put16 n) d₁ a d₂ b → length d₂ ≡ length d
       → HeadsWritten o p s tables d₀ to d₂ e (entry + 4) b
   heads-next es x e n t l q d₁ d₂ a b u v k =
       let two : entry + 2 - entry ≡ 2 = omega arith in
       let w : Wrote (take 2 (drop entry s) ++ put16 n) d put d₂ b = wrote-then (rw two at u) v in
       let turn : (es : List Bytes) → HeadEntries s tables es → HeadsSofar o p s tables es (entry + 4) e (h .sofar ++ (take 2 (drop entry s) ++ put16 n)) =
-      λ es x. heads-turn o p s tables es entry at (h .sofar) (h .heads es x) (h .fits) e t n l (q ∙ ap (λ (b : Bytes). length (Option·getD (newBody o p (getD s at 0) b) b)) (part-is s at e)) in
+      λ es x. heads-turn o p s tables es entry at (h .sofar) (h .heads es x) (h .fits) e t n l (q ∙ ap (λ (b : Bytes). length (Option·getD (newBody o p (getD s at 0) b) b)) (body-is s at e)) in
       let two-long : length (take 2 (drop entry s)) ≡ 2 = length-take-le 2 (drop entry s) (omega (arith, length-drop entry s, h .fits, h .whole l)) in
       record {
         within = t .1;

@@ -21,8 +21,9 @@ use Rattle.meaning.specs.declared.Narrowing.{Narrowing}
 use Rattle.meaning.specs.declared.Part.{Part}
 use Rattle.meaning.specs.declared.Options.{Options}
 use Rattle.tables.specs.declared.fields.End.{End}
-use Rattle.narrowing.specs.Tables.{tablesIn, tablesAfter, tablesChange, HeadEntries}
+use Rattle.narrowing.specs.Tables.{KnownIs, tablesIn, tablesAfter, tablesChange, HeadEntries}
 use Rattle.narrowing.specs.declared.narrow.Pa.{Pa}
+use Rattle.narrowing.specs.declared.narrow.ChangedPa.{ChangedPa}
 
 -- By the refusal's number x and what the definition changes: what is told, what stands in the output d, which is d′ now, and the rows of
 -- those that stayed and went. Where nothing is written the output is as it was.
@@ -71,11 +72,11 @@ abbrev pub PaIs : Bytes → Pa → Type 0
 PaIs payload (Pa.Found end tables) = PaFound payload end tables
 PaIs payload Pa.Nothing = NoPa payload
 
--- The PA message of a payload that narrowing changes.
-abbrev pub ChangedPaIs : Options → ℕ → Bytes → Pa → Type 0
-ChangedPaIs o p payload (Pa.Found end tables) =
-    PaFound payload end tables × (tablesChange o p (drop tables (take (end - 9) (drop 9 payload))) ≡ true)
-ChangedPaIs o p payload Pa.Nothing = narrowPayload o p payload ≡ none
+-- The PA message of a payload that narrowing changes, and what is known of one of its tables.
+abbrev pub ChangedPaIs : Options → ℕ → Bytes → ChangedPa → Type 0
+ChangedPaIs o p payload (ChangedPa.Found end tables known) =
+    PaFound payload end tables × (tablesChange o p (drop tables (take (end - 9) (drop 9 payload))) ≡ true) × KnownIs o p (take (end - 9) (drop 9 payload)) known
+ChangedPaIs o p payload ChangedPa.Nothing = narrowPayload o p payload ≡ none
 
 -- The narrowed bytes at `to` of the output, or the output as it was.
 abbrev pub RewroteAs : Option Bytes → Bytes → ℕ → Bytes → End → Type 0

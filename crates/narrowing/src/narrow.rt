@@ -7,10 +7,12 @@ ghost use Rattle.meaning.specs.Writing.{Wrote};
 ghost use Rattle.meaning.specs.Narrow.{payloadBytes, packetFor, paMessage, partsOfMessage, changeTable, changePayload, changePacket, narrowRefusal, noneOfEach};
 ghost use mathlib.Core.List.{List, [], _∷_};
 ghost use mathlib.Core.Option.{some};
+ghost use Rattle.narrowing.specs.Tables.{KnownIs};
 ghost use Rattle.narrowing.specs.Answers.{startsPa, NarrowedAs, RefusedAs, isRefused, PaFound, PaIs, ChangedPaIs, RewroteAs, bodyAfter, signalOf, noRows, countedIn};
 use crate::counting::count_table;
 use crate::counting::count_tables;
-use crate::pa::pa_changes;
+use crate::pa::TableChange;
+use crate::pa::pa_change;
 use crate::pa::pa_to;
 use crate::table::change_of;
 use crate::table::changes;
@@ -42,6 +44,16 @@ pub struct Narrowed {
 // The PA message of a payload: where in the payload it ends, and where in its body the tables start.
 pub enum Pa {
     Found { end: usize, tables: usize },
+    Nothing,
+}
+
+// The same of one that narrowing changes, with what it makes of a table.
+pub enum ChangedPa {
+    Found {
+        end: usize,
+        tables: usize,
+        known: TableChange,
+    },
     Nothing,
 }
 
@@ -97,11 +109,12 @@ pub fn narrow_table(t: &[u8], o: Options, out: &mut [u8]) -> Narrowed
     let Table::To(end) = table_at(t, 0) else {
         return without_counts(Narrowing::Unchanged);
     };
-    if !changes(change_of(&t[4..end], t[0], 0, o)) {
+    let change = change_of(&t[4..end], t[0], 0, o);
+    if !changes(change) {
         return without_counts(Narrowing::Unchanged);
     }
     let u = &t[0..end];
-    let n = table_to(u, 0, o, out, 0);
+    let n = table_to(u, change, o, out, 0);
     answer_of(Narrowing::Changed(n), count_table(u, o, [[0u64; 3]; 2]))
 }
 
@@ -147,16 +160,18 @@ fn pa_of(payload: &[u8]) -> Pa
 }
 
 // The PA message of a payload that narrowing changes.
-fn changed_pa(payload: &[u8], pid: u16, o: Options) -> Pa
+fn changed_pa(payload: &[u8], pid: u16, o: Options) -> ChangedPa
     ensures { λ r. ⌜ ChangedPaIs o pid (now (payload .entry)) r ⌝ }
 {
     let Pa::Found { end, tables } = pa_of(payload) else {
-        return Pa::Nothing;
+        return ChangedPa::Nothing;
     };
-    if pa_changes(&payload[9..end], tables, pid, o) {
-        return Pa::Found { end, tables };
+    let known = pa_change(&payload[9..end], tables, pid, o);
+    let change = known.change;
+    if changes(change) {
+        return ChangedPa::Found { end, tables, known };
     }
-    Pa::Nothing
+    ChangedPa::Nothing
 }
 
 // The narrowed payload, written at `to`. Its message's length is put right at the end.
@@ -166,14 +181,15 @@ fn payload_to(
     tables: usize,
     pid: u16,
     o: Options,
+    known: TableChange,
     out: &mut [u8],
     to: usize,
 ) -> usize
-    requires { ⌜ PaFound (now payload) end tables × (to + end ≤ length (now out)) ⌝ }
+    requires { ⌜ PaFound (now payload) end tables × KnownIs o pid (take (end - 9) (drop 9 (now payload))) known × (to + end ≤ length (now out)) ⌝ }
     ensures { λ r. ⌜ ((h : PaFound (now (payload .entry)) end tables) → Wrote (payloadBytes (now (payload .entry)) (bodyAfter o pid (take (end - 9) (drop 9 (now (payload .entry)))) tables (h .entries))) (now (out .entry)) to (now (out .exit)) r) ⌝ }
 {
     let body = copy(&payload[0..9], out, to);
-    let last = pa_to(&payload[9..end], tables, pid, o, out, body);
+    let last = pa_to(&payload[9..end], tables, pid, o, known, out, body);
     put32(out, to + 5, last - body);
     last
 }
@@ -186,10 +202,10 @@ pub fn narrow_payload(payload: &[u8], pid: u16, o: Options, out: &mut [u8]) -> N
     if is_refused(refused) {
         return without_counts(refused);
     }
-    let Pa::Found { end, tables } = changed_pa(payload, pid, o) else {
+    let ChangedPa::Found { end, tables, known } = changed_pa(payload, pid, o) else {
         return without_counts(Narrowing::Unchanged);
     };
-    let n = payload_to(payload, end, tables, pid, o, out, 0);
+    let n = payload_to(payload, end, tables, pid, o, known, out, 0);
     answer_of(
         Narrowing::Changed(n),
         count_tables(&payload[9..end], tables, o),
@@ -201,12 +217,12 @@ fn narrowed_to(p: &[u8], payload: &[u8], pid: u16, o: Options, out: &mut [u8], t
     requires { ⌜ (4 + length (now payload) ≤ length (now p)) × (to + length (now p) ≤ length (now out)) ⌝ }
     ensures { λ r. ⌜ RewroteAs (packetFor o (now (p .entry)) (some (signalOf pid (now (payload .entry))))) (now (out .entry)) to (now (out .exit)) r ⌝ }
 {
-    let Pa::Found { end, tables } = changed_pa(payload, pid, o) else {
+    let ChangedPa::Found { end, tables, known } = changed_pa(payload, pid, o) else {
         return End::Nothing;
     };
     let front = p.len() - payload.len();
     let c = copy(&p[0..front], out, to);
-    let last = payload_to(payload, end, tables, pid, o, out, c);
+    let last = payload_to(payload, end, tables, pid, o, known, out, c);
     put16(out, to + 2, last - to - 4);
     End::At(last)
 }

@@ -7,7 +7,7 @@ ghost use Rattle.meaning.specs.Writing.{Wrote};
 ghost use Rattle.meaning.specs.Narrow.{mptWithout, pltFor, newBody};
 ghost use mathlib.Core.Option.{Option, Option·getD};
 ghost use Rattle.meaning.specs.declared.Options.{Options};
-ghost use Rattle.narrowing.specs.Tables.{ChangeIs, isChange, Exact, afterTable};
+ghost use Rattle.narrowing.specs.Tables.{ChangeIs, TableChangeIs, isChange, Exact, afterTable};
 use crate::mpt::MptChange;
 use crate::mpt::mpt_to;
 use crate::mpt::mpt_without;
@@ -137,16 +137,15 @@ fn body_to(b: &[u8], change: BodyChange, o: Options, out: &mut [u8], to: usize) 
     }
 }
 
-// The table `t` as narrowing leaves it, written at `to`.
-pub fn table_to(t: &[u8], pid: u16, o: Options, out: &mut [u8], to: usize) -> usize
-    requires { ⌜ Exact (now t) × (to + length (now t) ≤ length (now out)) ⌝ }
-    ensures { λ r. ⌜ Wrote (afterTable o pid (now (t .entry))) (now (out .entry)) to (now (out .exit)) r ⌝ }
+// The table `t` as narrowing leaves it, by what it makes of its body, written at `to`.
+pub fn table_to(t: &[u8], change: BodyChange, o: Options, out: &mut [u8], to: usize) -> usize
+    requires { ⌜ Exact (now t) × ((pid : ℕ) × TableChangeIs o pid (now t) change) × (to + length (now t) ≤ length (now out)) ⌝ }
+    ensures { λ r. ⌜ ((pid : ℕ) → TableChangeIs o pid (now (t .entry)) change → Wrote (afterTable o pid (now (t .entry))) (now (out .entry)) to (now (out .exit)) r) ⌝ }
 {
-    let b = &t[4..];
-    let change = change_of(b, t[0], pid, o);
     if !changes(change) {
         return copy(t, out, to);
     }
+    let b = &t[4..];
     let c = copy(&t[0..2], out, to);
     let d = put16(out, c, length_after(b, change));
     body_to(b, change, o, out, d)

@@ -50,7 +50,7 @@ payload-to-requires c κs =
     let r = c .before .before .before .before .before .before .before .refusal in
     let f = not-refused (length (a .payload .now)) (length (a .out .now)) (r .result) (r .ensures) (rw (c .before .before .before .before .before .before .is-refused .ensures) at (c .before .before .before .before .before .if1 .left)) in
     let h = rw (c .before .before .end .given .1) at (c .before .before .before .before .changed-pa .ensures) in
-    (h .0, omega (arith, h .0 .within, f .2))
+    (h .0, h .2, omega (arith, h .0 .within, f .2))
 
 sub-count-tables : tie.Need-sub-count-tables
 sub-count-tables c = let h = rw (c .before .before .before .before .before .end .given .1) at (c .before .before .before .before .before .before .before .changed-pa .ensures) in omega (arith, h .0 .nine)

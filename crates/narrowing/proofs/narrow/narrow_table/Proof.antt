@@ -6,6 +6,7 @@ use borrow.Author.Tests.{not-true, not-false}
 use Rattle.meaning.specs.Narrow.{changeTable, narrowRefusal}
 use Rattle.tables.proofs.WalkLaws.{no-table}
 use Rattle.narrowing.proofs.ExactLaws.{part-exact}
+use Rattle.narrowing.proofs.WalkLaws.{own-change}
 use Rattle.narrowing.proofs.AnswerLaws.{not-refused, refused-answer, unchanged-answer, changed-answer, rows-low, part-short, no-table-stays, table-stays, table-changes}
 use borrow.Author.Needs.{needs}
 use Rattle.narrowing.proofs.narrow.narrow_table.Statement.{statement}
@@ -41,8 +42,9 @@ returns-2 c =
     let a = c .before .before .before .before .before .before .before .before .args in
     let r = c .before .before .before .before .before .refusal in
     let f = not-refused (length (a .t .now)) (length (a .out .now)) (r .result) (r .ensures) (rw (c .before .before .before .before .is-refused .ensures) at (c .before .before .before .if1 .left)) in
+    let k = c .before .before .table-at in
     unchanged-answer (narrowRefusal (length (a .t .now)) (length (a .out .now))) (changeTable (a .o) (a .t .now)) (a .out .now) _ _ _ _ refl (f .0)
-    (no-table-stays (a .o) (a .t .now) (no-table (a .t .now) 0 (c .before .before .table-at .result) (c .before .match .keys2) (c .before .before .table-at .ensures))) (c .without-counts2 .ensures)
+    (no-table-stays (a .o) (a .t .now) (no-table (a .t .now) 0 (k .result) (c .before .match .keys2) (k .ensures))) (c .without-counts2 .ensures)
 
 sub-change-of : tie.Need-sub-change-of
 sub-change-of c = let h = rw (c .before .end .given .1) at (c .before .before .before .table-at .ensures) in omega (arith, h .0)
@@ -90,8 +92,11 @@ table-to-requires c κs =
     let a = c .before .before .before .before .before .before .before .before .before .before .before .before .before .before .before .before .args in
     let r = c .before .before .before .before .before .before .before .before .before .before .before .before .before .refusal in
     let f = not-refused (length (a .t .now)) (length (a .out .now)) (r .result) (r .ensures) (rw (c .before .before .before .before .before .before .before .before .before .before .before .before .is-refused .ensures) at (c .before .before .before .before .before .before .before .before .before .before .before .if1 .left)) in
-    let h = rw (c .before .before .before .before .before .before .before .before .end .given .1) at (c .before .before .before .before .before .before .before .before .before .before .table-at .ensures) in
-    (part-exact (a .t .now) 0 _ h, omega (arith, part-short (c .before .before .before .before .before .before .before .before .end .given .0 .0 - 0) (a .t .now), f .2))
+    let h = rw (c .before .before .before .before .before .before .before .before .end .given .1) at (c .before .before .before .before .before .before .before .before .before .before .table-at .ensures) in (
+      part-exact (a .t .now) 0 _ h,
+      (0, own-change (a .t .now) 0 _ h (a .o) 0 (c .before .before .before .before .change-of .result) (c .before .before .before .before .change-of .ensures)),
+      omega (arith, part-short (c .before .before .before .before .before .before .before .before .end .given .0 .0 - 0) (a .t .now), f .2),
+    )
 
 count-table-requires : tie.Need-count-table-requires
 count-table-requires c κs =
@@ -115,7 +120,7 @@ returns-4 c =
     let s = c .before .before .before .before .before .before .before .before .changes in
     changed-answer (narrowRefusal (length (a .t .now)) (length (a .out .now))) (changeTable (a .o) (a .t .now)) (a .out .now) _ _ _ _ _ _ (a .o) _ _ (f .0)
     (table-changes (a .o) (a .t .now) _ h (k .result) (k .ensures) (rw (s .ensures) at (not-false (s .result) (c .before .before .before .before .before .before .before .if2 .left))))
-    (c .before .before .before .before .table-to .ensures) (c .before .count-table .ensures) (c .answer-of .ensures)
+    (c .before .before .before .before .table-to .ensures 0 (own-change (a .t .now) 0 _ h (a .o) 0 (k .result) (k .ensures))) (c .before .count-table .ensures) (c .answer-of .ensures)
 
 pub narrow-table-spec : {M : Type 1} → statement M
 narrow-table-spec =

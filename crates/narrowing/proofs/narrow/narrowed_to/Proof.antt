@@ -38,28 +38,28 @@ copy-requires c κs = search needs
 
 payload-to-requires : tie.Need-payload-to-requires
 payload-to-requires c κs =
-    let z = c .before .before .before .before .before .before .before .before .before .before .before .before .before in
-    let a = z .args in
+    let a = c .before .before .before .before .before .before .before .before .before .before .before .before .before .args in
+    let h = c .before .before .before .before .before .before .before .before .before .before .before .before .before .pre in
     let k = rw (c .before .before .before .before .before .before .before .end .given .1) at (c .before .before .before .before .before .before .before .before .before .changed-pa .ensures) in
     let u = c .before .before .before .copy in
-    (k .0, payload-room (a .p .now) (a .payload .now) (z .pre .0) (u .ensures) _ _ (k .0) (z .pre .1) (u .kept .1 .0))
+    (k .0, k .2, payload-room (a .p .now) (a .payload .now) (h .0) (u .ensures) _ _ (k .0) (h .1) (u .kept .1 .0))
 
 add-put16 : tie.Need-add-put16
 add-put16 c = search needs
 
 sub-put16 : tie.Need-sub-put16
 sub-put16 c =
-    let z = c .before .before .before .before .before .before .before .before .before .before .before .before .before .before .before .before .before in
-    let a = z .args in
+    let a = c .before .before .before .before .before .before .before .before .before .before .before .before .before .before .before .before .before .args in
+    let h = c .before .before .before .before .before .before .before .before .before .before .before .before .before .before .before .before .before .pre in
     let k = rw (c .before .before .before .before .before .before .before .before .before .before .before .end .given .1) at (c .before .before .before .before .before .before .before .before .before .before .before .before .before .changed-pa .ensures) in
-    omega (arith, c .before .before .before .before .before .before .before .copy .ensures .end, c .before .before .before .payload-to .ensures (k .0) .end, front-long (a .p .now) (length (a .p .now) - length (a .payload .now)) (omega (arith, z .pre .0)))
+    omega (arith, c .before .before .before .before .before .before .before .copy .ensures .end, c .before .before .before .payload-to .ensures (k .0) .end, front-long (a .p .now) (length (a .p .now) - length (a .payload .now)) (omega (arith, h .0)))
 
 sub-put16-2 : tie.Need-sub-put16-2
 sub-put16-2 c =
-    let z = c .before .before .before .before .before .before .before .before .before .before .before .before .before .before .before .before .before in
-    let a = z .args in
+    let a = c .before .before .before .before .before .before .before .before .before .before .before .before .before .before .before .before .before .args in
+    let h = c .before .before .before .before .before .before .before .before .before .before .before .before .before .before .before .before .before .pre in
     let k = rw (c .before .before .before .before .before .before .before .before .before .before .before .end .given .1) at (c .before .before .before .before .before .before .before .before .before .before .before .before .before .changed-pa .ensures) in
-    omega (arith, z .pre .0, c .before .before .before .before .before .before .before .copy .ensures .end, c .before .before .before .payload-to .ensures (k .0) .end, front-long (a .p .now) (length (a .p .now) - length (a .payload .now)) (omega (arith, z .pre .0)))
+    omega (arith, h .0, c .before .before .before .before .before .before .before .copy .ensures .end, c .before .before .before .payload-to .ensures (k .0) .end, front-long (a .p .now) (length (a .p .now) - length (a .payload .now)) (omega (arith, h .0)))
 
 put16-requires : tie.Need-put16-requires
 put16-requires c κs = search needs
@@ -69,11 +69,10 @@ same-length c = search needs
 
 returns-2 : tie.Need-returns-2
 returns-2 c =
-    let z = c .before .before .before .before .before .before .before .before .before .before .before .before .before .before .before .before .before .before .before .before in
-    let a = z .args in
+    let a = c .before .before .before .before .before .before .before .before .before .before .before .before .before .before .before .before .before .before .before .before .args in
+    let h = c .before .before .before .before .before .before .before .before .before .before .before .before .before .before .before .before .before .before .before .before .pre in
     let k = rw (c .before .before .before .before .before .before .before .before .before .before .before .before .before .before .end .given .1) at (c .before .before .before .before .before .before .before .before .before .before .before .before .before .before .before .before .changed-pa .ensures) in
-    packet-rewritten (a .o) (a .pid) (a .p .now) (a .payload .now) (z .pre .0) _ _ k (omega (arith, z .pre .1)) (c .before .before .before .before .before .before .before .before .before .before .copy .ensures) (c .before .before .before .before .before .before .payload-to .ensures (k .0))
-    (c .before .before .put16 .ensures)
+    packet-rewritten (a .o) (a .pid) (a .p .now) (a .payload .now) (h .0) _ _ (k .0) (k .1) (omega (arith, h .1)) (c .before .before .before .before .before .before .before .before .before .before .copy .ensures) (c .before .before .before .before .before .before .payload-to .ensures (k .0)) (c .before .before .put16 .ensures)
 
 pub narrowed-to-spec : {M : Type 1} → statement M
 narrowed-to-spec =

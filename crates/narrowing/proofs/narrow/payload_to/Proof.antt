@@ -42,10 +42,8 @@ same-length c = search needs
 
 returns : tie.Need-returns
 returns c =
-    let z = c .before .before .before .before .before .before .before .before .before .before .before .before .before .before .before .before in
-    let a = z .args in
-    λ h. payload-written (a .o) (a .pid) (a .payload .now) (a .end) (a .tables) h (omega (arith, z .pre .1)) (c .before .before .before .before .before .before .before .before .before .before .before .copy .ensures)
-    (c .before .before .before .before .before .before .pa-to .ensures (h .entries) (h .heads)) (c .before .before .put32 .ensures)
+    let a = c .before .before .before .before .before .before .before .before .before .before .before .before .before .before .before .before .args in
+    λ h. payload-written (a .o) (a .pid) (a .payload .now) (a .end) (a .tables) h (omega (arith, c .before .before .before .before .before .before .before .before .before .before .before .before .before .before .before .before .pre .2)) (c .before .before .before .before .before .before .before .before .before .before .before .copy .ensures) (c .before .before .before .before .before .before .pa-to .ensures (h .entries) (h .heads)) (c .before .before .put32 .ensures)
 
 pub payload-to-spec : {M : Type 1} → statement M
 payload-to-spec =

@@ -5,21 +5,6 @@ use borrow.Author.Needs.{needs}
 use Rattle.narrowing.proofs.table.table_to.Statement.{statement}
 use Rattle.narrowing.proofs.table.table_to.Tie as tie
 
-sub-b : tie.Need-sub-b
-sub-b c = search needs
-
-part-b-start : tie.Need-part-b-start
-part-b-start c = search needs
-
-part-b-end : tie.Need-part-b-end
-part-b-end c = search needs
-
-shared-slice-read-change-of : tie.Need-shared-slice-read-change-of
-shared-slice-read-change-of c = search needs
-
-change-of-requires : tie.Need-change-of-requires
-change-of-requires c κs = search needs
-
 changes-requires : tie.Need-changes-requires
 changes-requires c κs = search needs
 
@@ -31,11 +16,18 @@ same-length c = search needs
 
 returns : tie.Need-returns
 returns c =
-    let p = c .before .before .before .before .before .before .before .before .before .before .before in
-    let k = c .before .before .before .before .before .before .change-of in
+    let a = c .before .before .before .before .before .before .before .before .args in
     let s = c .before .before .before .before .before .changes in
-    rw (after-same (p .args .o) (p .args .pid) (p .args .t .now) (p .pre .0) (k .result) (k .ensures) (rw (s .ensures) at (not-true (s .result) (c .before .before .before .before .if1 .taken))))
-    (c .before .before .copy .ensures)
+    λ pid h. rw (after-same (a .o) pid (a .t .now) (c .before .before .before .before .before .before .before .before .pre .0) (a .change) h (rw (s .ensures) at (not-true (s .result) (c .before .before .before .before .if1 .taken)))) (c .before .before .copy .ensures)
+
+sub-b : tie.Need-sub-b
+sub-b c = search needs
+
+part-b-start : tie.Need-part-b-start
+part-b-start c = search needs
+
+part-b-end : tie.Need-part-b-end
+part-b-end c = search needs
 
 sub-copy : tie.Need-sub-copy
 sub-copy c = search needs
@@ -50,43 +42,37 @@ copy-requires-2 : tie.Need-copy-requires-2
 copy-requires-2 c κs = search needs
 
 length-after-requires : tie.Need-length-after-requires
-length-after-requires c κs = (_, c .before .before .before .before .before .before .before .before .before .before .before .before .before .args .o, c .before .before .before .before .before .before .before .before .change-of .ensures)
+length-after-requires c κs = search needs
 
 put16-requires : tie.Need-put16-requires
 put16-requires c κs = search needs
 
 body-to-requires : tie.Need-body-to-requires
 unfolding put16
-body-to-requires c κs = ((_, c .before .before .before .before .before .before .before .before .before .before .before .before .before .change-of .ensures), search needs)
+body-to-requires c κs = ((_, c .before .before .before .before .before .before .before .before .before .before .before .before .before .before .before .before .pre .1 .1), search needs)
 
 same-length-2 : tie.Need-same-length-2
 same-length-2 c = search needs
 
 returns-2 : tie.Need-returns-2
 returns-2 c =
-    let p = c .before .before .before .before .before .before .before .before .before .before .before .before .before .before .before .before .before .before .before .before .before in
-    let k = c .before .before .before .before .before .before .before .before .before .before .before .before .before .before .before .before .change-of in
-    let s = c .before .before .before .before .before .before .before .before .before .before .before .before .before .before .before .changes in
-    wrote-anew (p .args .o) (p .args .pid) (p .args .t .now) (p .pre .0) (k .result) (k .ensures)
-    (rw (s .ensures) at (not-false (s .result) (c .before .before .before .before .before .before .before .before .before .before .before .before .before .before .if1 .left)))
-    (c .before .before .before .before .before .before .before .length-after .ensures _ (p .args .o) (k .ensures))
-    (c .before .before .before .before .before .before .before .before .before .before .before .copy2 .ensures)
-    (c .before .before .before .before .before .before .put16 .ensures)
-    (c .before .before .body-to .ensures _ (k .ensures))
+    let a = c .before .before .before .before .before .before .before .before .before .before .before .before .before .before .before .before .before .before .before .args in
+    let s = c .before .before .before .before .before .before .before .before .before .before .before .before .before .before .before .before .changes in
+    λ pid h.
+    wrote-anew (a .o) pid (a .t .now) (c .before .before .before .before .before .before .before .before .before .before .before .before .before .before .before .before .before .before .before .pre .0) (a .change) h (rw (s .ensures) at (not-false (s .result) (c .before .before .before .before .before .before .before .before .before .before .before .before .before .before .before .if1 .left)))
+    (c .before .before .before .before .before .before .before .length-after .ensures _ (a .o) h) (c .before .before .before .before .before .before .before .before .before .before .before .copy2 .ensures) (c .before .before .before .before .before .before .put16 .ensures) (c .before .before .body-to .ensures _ h)
 
 pub table-to-spec : {M : Type 1} → statement M
 table-to-spec =
     tie.close
     (tie.spec
-    sub-b
-    part-b-start
-    part-b-end
-    shared-slice-read-change-of
-    change-of-requires
     changes-requires
     copy-requires
     same-length
     returns
+    sub-b
+    part-b-start
+    part-b-end
     sub-copy
     part-copy-start
     part-copy-end
