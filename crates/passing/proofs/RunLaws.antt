@@ -16,7 +16,7 @@ use Rattle.meaning.proofs.CutLaws.{cut-keep}
 use Rattle.passing.specs.declared.Terms.{Terms}
 use Rattle.passing.specs.declared.Progress.{Progress}
 use Rattle.passing.specs.Verdicts.{ahead}
-use Rattle.passing.specs.Passing.{Fits, Sofar, SofarSome, SofarAfter, ScannedAs}
+use Rattle.passing.specs.Passing.{Fits, FitsMore, Sofar, SofarSome, SofarAfter, ScannedAs}
 
 -- ---- all that a run changes
 
@@ -75,8 +75,15 @@ pub record Going (run : Bytes) (from : ℕ) (t : Terms) (first now′ : Machine)
   pub cut-is : cut (t .limit) (drop from run) ≡ ahead packets skipped (cut (t .limit) (drop at run))
   pub moved : Moves packets skipped t first now′
   pub fits : Fits (now′ .progress) (length run - at) (length (now′ .out))
+  pub fits-more : FitsMore (first .progress) (length run - from) (length (first .out)) (now′ .progress) (length run - at) (length (now′ .out))
   pub begun : StandsSome t first
   pub same : SameRooms first now′
+
+pub fits-on : {s r : Progress} {n n′ l l′ : ℕ} → FitsMore s n l r n′ l′ → Fits s n l → Fits r n′ l′
+fits-on {s} {r} {n} {n′} {l} {l′} f h =
+    let a : n ≡ n + 0 = omega arith in
+    let b : n′ + 0 ≡ n′ = omega arith in
+    subst (λ (i : ℕ). Fits r i l′) b (f 0 (subst (λ (i : ℕ). Fits s i l) a h))
 
 pub ahead-none : (c : Cut) → c ≡ ahead [] 0 c
 ahead-none c = let z : c .skipped ≡ 0 + c .skipped = omega arith in λ i. record { packets = c .packets; skipped = z i; held = c .held }
@@ -96,20 +103,22 @@ module _ (run : Bytes) (from : ℕ) (t : Terms) (x : Machine) where
     cut-is = ahead-none (cut (t .limit) (drop from run));
     moved = moves-none t x;
     fits = f;
+    fits-more = λ m h. h;
     begun = b;
     same = record { map-room-same = refl; bodies-same = refl; out-same = refl };
   }
 
   module _ (y z : Machine) (at to : ℕ) (qs : List Bytes) (m : ℕ) where
     pub going-on : Going run from t x y at → to ≤ length run → cut (t .limit) (drop at run) ≡ ahead qs m (cut (t .limit) (drop to run)) → Moves qs m t y z
-        → Fits (z .progress) (length run - to) (length (z .out)) → SameRooms y z → Going run from t x z to
+        → FitsMore (y .progress) (length run - at) (length (y .out)) (z .progress) (length run - to) (length (z .out)) → SameRooms y z → Going run from t x z to
     going-on g h c v f s = record {
       packets = g .packets ++ qs;
       skipped = g .skipped + m;
       inside = h;
       cut-is = g .cut-is ∙ ap (ahead (g .packets) (g .skipped)) c ∙ ahead-ahead (g .packets) qs (g .skipped) m (cut (t .limit) (drop to run));
       moved = moves-then t x y z (g .packets) qs (g .skipped) m (g .moved) v;
-      fits = f;
+      fits = fits-on f (g .fits);
+      fits-more = λ m h. f m (g .fits-more m h);
       begun = g .begun;
       same = record {
         map-room-same = s .map-room-same ∙ g .same .map-room-same;
@@ -137,4 +146,5 @@ module _ (run : Bytes) (from : ℕ) (t : Terms) (x : Machine) where
             (subst (λ (i : ℕ). Stands L (t .options) k d (ps ++ g .packets) (n + i) y) s (g .moved L k d ps n q u)),
         sym (ap (λ (z : Cut). z .held) c),
         g .inside,
+        g .fits-more,
       )

@@ -21,10 +21,10 @@ use Rattle.passing.specs.declared.Terms.{Terms}
 use Rattle.passing.specs.declared.Progress.{Progress}
 use Rattle.passing.specs.declared.Row.{Row}
 use Rattle.passing.specs.Verdicts.{Plain, AllPass, ahead, PacketTo, packetAt, RowIs}
-use Rattle.passing.specs.Passing.{Fits, Along, withSkipped, withWithheld, withRow}
+use Rattle.passing.specs.Passing.{Fits, FitsMore, Along, withSkipped, withWithheld, withRow}
 use Rattle.passing.proofs.PassLaws.{further}
 use Rattle.passing.proofs.PlainLaws.{pass-withheld, pass-row}
-use Rattle.passing.proofs.RunLaws.{Machine, machine, Moves, moves-then, moves-none, ahead-none, ahead-ahead, SameRooms, Going, going-on}
+use Rattle.passing.proofs.RunLaws.{Machine, machine, Moves, moves-then, moves-none, ahead-none, ahead-ahead, SameRooms, fits-on, Going, going-on}
 
 -- Another progress, another output.
 abbrev pub withOut : Machine → Progress → Bytes → Machine
@@ -121,13 +121,14 @@ module _ (run : Bytes) (from : ℕ) (t : Terms) (set : Words) where
     cut-is = ahead-none (cut (t .limit) (drop from run));
     moved = λ data-set packages map-heads map-room fragment-heads bodies. moves-none t (machine s data-set packages map-heads map-room fragment-heads bodies set out);
     fits = f;
+    fits-more = λ m h. h;
   }
 
   module _ {s₀ s : Progress} {out₀ out : Bytes} {at : ℕ} (g : Along run from t s₀ set out₀ s at out) where
     along-on : (r : Progress) (to : ℕ) (out′ : Bytes) (qs : List Bytes) (m : ℕ) → at ≤ to → to ≤ length run → cut (t .limit) (drop at run) ≡ ahead qs m (cut (t .limit) (drop to run))
         → ((data-set packages map-heads map-room fragment-heads : List ℕ) (bodies : Bytes)
         → Moves qs m t (machine s data-set packages map-heads map-room fragment-heads bodies set out) (machine r data-set packages map-heads map-room fragment-heads bodies set out′))
-        → Fits r (length run - to) (length out′) → Along run from t s₀ set out₀ r to out′
+        → FitsMore s (length run - at) (length out) r (length run - to) (length out′) → Along run from t s₀ set out₀ r to out′
     along-on r to out′ qs m b h c v f = record {
       packets = g .packets ++ qs;
       skipped = g .skipped + m;
@@ -137,21 +138,21 @@ module _ (run : Bytes) (from : ℕ) (t : Terms) (set : Words) where
       moved = λ data-set packages map-heads map-room fragment-heads bodies.
           moves-then t (machine s₀ data-set packages map-heads map-room fragment-heads bodies set out₀) (machine s data-set packages map-heads map-room fragment-heads bodies set out)
           (machine r data-set packages map-heads map-room fragment-heads bodies set out′) (g .packets) qs (g .skipped) m (g .moved data-set packages map-heads map-room fragment-heads bodies) (v data-set packages map-heads map-room fragment-heads bodies);
-      fits = f;
+      fits = fits-on f (g .fits);
+      fits-more = λ m h. f m (g .fits-more m h);
     }
 
     row-done : (row : Row) (b : ℕ) (out′ : Bytes) → RowIs (t .limit) set (s .ready) run at row → Wrote (packetAt run at (row .end)) out (s .counts .bytes) out′ b → length out′ ≡ length out
         → Along run from t s₀ set out₀ (withRow s (row .count) b) (row .end) out′
     row-done row b out′ i w l =
         let h = i .row in
-        let f = g .fits in
         let len = packet-length run at (row .end) (h .forth) (h .inside) in
         along-on (withRow s (row .count) b) (row .end) out′ (h .packets) 0 (h .forth) (h .inside) (h .cut-is)
         (λ data-set packages map-heads map-room fragment-heads bodies.
         let y : Machine = machine s data-set packages map-heads map-room fragment-heads bodies set out in
         subst (λ (n : ℕ). Moves (h .packets) 0 t y (withOut y (withRow s n b) out′)) (sym (h .many))
         (row-moves t y (h .packets) (packetAt run at (row .end)) out′ b (h .all-pass) (h .bytes-are) w))
-        (record {
+        (λ m f. record {
           bytes-fit = omega (arith, f .bytes-fit, w .end, len, h .forth, h .inside, l);
           accepted-fit = omega (arith, f .accepted-fit, h .few, h .inside);
           written-fit = omega (arith, f .written-fit, h .few, h .inside);
@@ -168,10 +169,9 @@ module _ (run : Bytes) (from : ℕ) (t : Terms) (set : Words) where
 
     gap-done : (to : ℕ) → GapTo (t .limit) run at to → Along run from t s₀ set out₀ (withSkipped s (to - at)) to out
     gap-done to h =
-        let f = g .fits in
         along-on (withSkipped s (to - at)) to out [] (to - at) (h .forth) (h .inside) (h .skips)
         (λ data-set packages map-heads map-room fragment-heads bodies. gap-moves t (machine s data-set packages map-heads map-room fragment-heads bodies set out) (to - at))
-        (record {
+        (λ m f. record {
           bytes-fit = omega (arith, f .bytes-fit, h .forth);
           accepted-fit = omega (arith, f .accepted-fit, h .forth);
           written-fit = omega (arith, f .written-fit, h .forth);
@@ -185,10 +185,9 @@ module _ (run : Bytes) (from : ℕ) (t : Terms) (set : Words) where
 
     withheld-done : (end : ℕ) → PacketTo (t .limit) run at end → Plain (packetAt run at end) set (s .ready) true → Along run from t s₀ set out₀ (withWithheld s) end out
     withheld-done end p h =
-        let f = g .fits in
         along-on (withWithheld s) end out (packetAt run at end ∷ []) 0 (omega (arith, p .forth)) (p .inside) (packet-cut (t .limit) run at end p)
         (λ data-set packages map-heads map-room fragment-heads bodies. withheld-moves t (machine s data-set packages map-heads map-room fragment-heads bodies set out) (packetAt run at end) h)
-        (record {
+        (λ m f. record {
           bytes-fit = omega (arith, f .bytes-fit, p .forth);
           accepted-fit = omega (arith, f .accepted-fit, p .forth, p .inside);
           written-fit = omega (arith, f .written-fit, p .forth);
@@ -210,16 +209,19 @@ module _ (run : Bytes) (from : ℕ) (t : Terms) (x y : Machine) (at : ℕ) (g : 
       → Going run from t x (withOut y r out′) to
   going-along r to out′ h l =
       going-on run from t x y (withOut y r out′) at to (h .packets) (h .skipped) g (h .inside) (h .cut-is)
-      (h .moved (y .data-set) (y .packages) (y .map-heads) (y .map-room) (y .fragment-heads) (y .bodies)) (h .fits) (record { map-room-same = refl; bodies-same = refl; out-same = l })
+      (h .moved (y .data-set) (y .packages) (y .map-heads) (y .map-room) (y .fragment-heads) (y .bodies)) (h .fits-more) (record { map-room-same = refl; bodies-same = refl; out-same = l })
 
-  signal-fits : (end : ℕ) → PacketTo (t .limit) run at end → Fits (y .progress) (length (packetAt run at end) + (length run - end)) (length (y .out))
-  signal-fits end p =
+  -- the bytes still to come are the packet's and those behind it
+  signal-fits : (end : ℕ) → PacketTo (t .limit) run at end → (m : ℕ) → Fits (y .progress) (length run - at + m) (length (y .out))
+      → Fits (y .progress) (length (packetAt run at end) + (length run - end + m)) (length (y .out))
+  signal-fits end p m f =
       let len = packet-length run at end (omega (arith, p .forth)) (p .inside) in
-      subst (λ (n : ℕ). Fits (y .progress) n (length (y .out))) (let z : length run - at ≡ length (packetAt run at end) + (length run - end) = omega (arith, p .forth, p .inside) in z) (g .fits)
+      subst (λ (n : ℕ). Fits (y .progress) n (length (y .out))) (let z : length run - at + m ≡ length (packetAt run at end) + (length run - end + m) = omega (arith, p .forth, p .inside) in z) f
 
   pub signal-room : (end : ℕ) → PacketTo (t .limit) run at end → Fits (y .progress) (length (packetAt run at end)) (length (y .out))
   signal-room end p =
-      let f = signal-fits end p in
+      let e : length run - at ≡ length run - at + 0 = omega arith in
+      let f = signal-fits end p 0 (subst (λ (n : ℕ). Fits (y .progress) n (length (y .out))) e (g .fits)) in
       record {
         bytes-fit = omega (arith, f .bytes-fit);
         accepted-fit = omega (arith, f .accepted-fit);
@@ -233,4 +235,4 @@ module _ (run : Bytes) (from : ℕ) (t : Terms) (x y : Machine) (at : ℕ) (g : 
       → ((m : ℕ) → Fits (y .progress) (length (packetAt run at end) + m) (length (y .out)) → Fits (z .progress) m (length (z .out))) → SameRooms y z
       → Going run from t x z end
   going-signal z end p v f s =
-      going-on run from t x y z at end (packetAt run at end ∷ []) 0 g (p .inside) (packet-cut (t .limit) run at end p) v (f (length run - end) (signal-fits end p)) s
+      going-on run from t x y z at end (packetAt run at end ∷ []) 0 g (p .inside) (packet-cut (t .limit) run at end p) v (λ m h. f (length run - end + m) (signal-fits end p m h)) s

@@ -55,6 +55,10 @@ pub record Fits (s : Progress) (n out-length : ℕ) : Type 0 where
   pub skipped-fit : s .counts .skipped + n ≤ 18446744073709551615
   pub lost-fit : s .extent .lost + n * 16777217 ≤ 18446744073709551615
 
+-- Where there was room for m bytes more, behind these, there still is.
+abbrev pub FitsMore : Progress → ℕ → ℕ → Progress → ℕ → ℕ → Type 0
+FitsMore s n out-length r n′ out-length′ = (m : ℕ) → Fits s (n + m) out-length → Fits r (n′ + m) out-length′
+
 -- The counts of packets that were passed; lost maps stand in the extent until the end of the call.
 abbrev pub countsFor : Passed → ℕ → ℕ → Counts
 countsFor x accepted skipped =
@@ -124,6 +128,7 @@ pub record Along (run : Bytes) (from : ℕ) (t : Terms) (s : Progress) (set : Wo
   pub moved : (data-set packages map-heads map-room fragment-heads : List ℕ) (bodies : Bytes)
       → SofarAfter packets skipped t s data-set packages map-heads map-room fragment-heads bodies set out r data-set packages map-heads map-room fragment-heads bodies set out′
   pub fits : Fits r (length run - at) (length out′)
+  pub fits-more : FitsMore s (length run - from) (length out) r (length run - at) (length out′)
 
 -- ---- a run
 
@@ -134,3 +139,4 @@ ScannedAs run from t s data-set packages map-heads map-room fragment-heads bodie
     SofarAfter (cut (t .limit) (drop from run) .packets) (cut (t .limit) (drop from run) .skipped) t s data-set packages map-heads map-room fragment-heads bodies set out
     (r .progress) data-set′ packages′ map-heads′ map-room′ fragment-heads′ bodies′ set′ out′
     × (drop (r .at) run ≡ cut (t .limit) (drop from run) .held) × (r .at ≤ length run)
+    × FitsMore s (length run - from) (length out) (r .progress) (length run - r .at) (length out′)

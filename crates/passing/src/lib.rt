@@ -242,14 +242,14 @@ fn row_to(end: usize, count: usize, stop: Stop) -> Row
     Row { end, count, stop }
 }
 
-// A row is cut where it has 2,048 bytes: a longer one is read too far ahead of its copying.
+// A row is cut where it has 256 bytes: a longer one is read too far ahead of its copying.
 fn row_at(run: &[u8], from: usize, limit: usize, set: &[u64; 1024], is_ready: bool) -> Row
     requires { ⌜ from ≤ length (now run) ⌝ }
     ensures { λ r. ⌜ RowIs limit (now (set .entry)) «is_ready» (now (run .entry)) from r ⌝ }
 {
     let mut at = from;
     let mut count: usize = 0;
-    while at - from < 2048 {
+    while at - from < 256 {
         let here = at;
         match next(run, here, limit) {
             Step::Packet(n) => {

@@ -1,36 +1,36 @@
--- A call that is not refused: how it begins, and what it has come to when the packets of held bytes and chunk are passed and the rest is
--- moved to the front of the work room. Rests on WholeLaws of `passing`.
+-- A call that is not refused: how it begins, and what it has come to when the packets of held bytes and chunk are passed, read as one run or
+-- in two parts, and the rest is at the front of the work room. Rests on WholeLaws of `passing`.
 use Prim.Native.Nat.{ℕ, zero, suc, _+_, _-_, _≤_}
 use mathlib.Core.Path.{_≡_, refl, sym, ap, _∙_, subst}
-use mathlib.Core.Bool.{Bool, true, false}
-use mathlib.Core.List.{List, [], _∷_, _++_, flatten, append-nil}
+use mathlib.Core.Bool.{true, false}
+use mathlib.Core.List.{List, [], _∷_, _++_, flatten, append-assoc, append-nil}
 use native.Mathlib.Omega.{arith}
-use lib.ListN.{length, take, drop, length-append, length-drop}
+use lib.ListN.{length, take, drop, length-drop, take-append-drop}
 use lib.Seq.{length-take-le, take-nil}
 use native.Mathlib.Nat.{sub-zero, zero-sub, suc-sub-suc}
 use Rattle.meaning.specs.Bytes.{Bytes}
 use Rattle.meaning.specs.Writing.{Wrote}
 use Rattle.meaning.specs.Sets.{Words}
-use Rattle.meaning.specs.Packets.{cut}
+use Rattle.meaning.specs.Packets.{Cut, cut, hold}
 use Rattle.meaning.specs.Wishes.{copiesAll}
 use Rattle.meaning.specs.Rooms.{packetLimit}
 use Rattle.meaning.specs.Learn.{Known}
-use Rattle.meaning.specs.Rules.{drops, ready}
 use Rattle.meaning.specs.Record.{State}
 use Rattle.meaning.specs.Calls.{countsOf}
-use Rattle.meaning.specs.Push.{Outcome, filtered, push}
+use Rattle.meaning.specs.Push.{Outcome, pass, filtered, push}
 use Rattle.meaning.specs.declared.Limits.{Limits}
 use Rattle.meaning.specs.declared.Options.{Options}
 use Rattle.meaning.specs.declared.Counts.{Counts}
-use Rattle.learning.specs.Kept.{Keeps}
 use Rattle.observing.specs.Observed.{Holding, HoldingSome}
 use Rattle.learning.specs.declared.Extent.{Extent}
-use Rattle.rules.specs.Changes.{SetIs}
 use Rattle.passing.specs.declared.Terms.{Terms}
 use Rattle.passing.specs.declared.Progress.{Progress}
-use Rattle.passing.specs.Passing.{Fits, Sofar, SofarSome}
-use Rattle.passing.proofs.WholeLaws.{begins, ended, ends, held-same, begins-fit}
+use Rattle.passing.specs.Verdicts.{ahead}
+use Rattle.passing.specs.Passing.{Fits, FitsMore, Sofar, SofarSome}
+use Rattle.meaning.proofs.Writes.{wrote-none}
+use Rattle.passing.proofs.WholeLaws.{begun, begins, ended, ends, held-same, begins-fit}
 use Rattle.recorder.specs.declared.call.CarriedOut.{CarriedOut}
+use Rattle.recorder.specs.Front.{Parted, DecidedAs}
 use Rattle.recorder.specs.Calls.{CarriedOutAs}
 
 -- ---- the work room
@@ -41,73 +41,89 @@ drop-take (suc a) zero l = ap (λ (m : ℕ). take m (drop (suc a) l)) (sym (zero
 drop-take (suc a) (suc n) [] = sym (take-nil (suc n - suc a))
 drop-take (suc a) (suc n) (x ∷ l) = drop-take a n l ∙ ap (λ (m : ℕ). take m (drop a l)) (sym (suc-sub-suc n a))
 
-module _ (held-count : ℕ) (chunk work work₁ : Bytes) (n : ℕ) (w : Wrote chunk work held-count work₁ n) (fit : held-count + length chunk ≤ length work) (long : length work₁ ≡ length work) where
-  abbrev pub runOf : Bytes
-  runOf = take (n - 0) (drop 0 work₁)
-
-  whole : n - 0 ≡ n
-  whole = omega arith
-
-  pub run-is : runOf ≡ take held-count work ++ chunk
-  run-is = ap (λ (m : ℕ). take m work₁) whole ∙ w .front
-
-  pub run-length : length runOf ≡ held-count + length chunk
-  run-length = ap length run-is ∙ length-append (take held-count work) chunk ∙ ap (λ (m : ℕ). m + length chunk) (length-take-le held-count work (omega arith))
-
-  module _ (work₂ : Bytes) (at r : ℕ) (v : Wrote (take (n - at) (drop at work₁)) work₁ 0 work₂ r) (inside : at ≤ length runOf) where
-    pub kept-is : take (n - at) work₂ ≡ drop at runOf
-    kept-is =
-        let end : r ≡ n - at = omega (arith, v .end, length-take-le (n - at) (drop at work₁) (omega (arith, length-drop at work₁, w .end)), w .end, inside, run-length) in
-        ap (λ (m : ℕ). take m work₂) (sym end) ∙ v .front ∙ sym (drop-take at n work₁) ∙ ap (λ (m : ℕ). drop at (take m work₁)) (sym whole)
-
-    pub kept-length : n - at ≡ length (drop at runOf)
-    kept-length = omega (arith, length-drop at runOf, run-length, w .end)
+-- The rest of a run, moved to the front: chunk was written behind the held bytes, up to n, and `at` is where the bytes to keep begin.
+module _ (held-count n at r : ℕ) (chunk work work₁ work₂ : Bytes) (w : Wrote chunk work held-count work₁ n) (fit : n ≤ length work₁)
+    (v : Wrote (take (n - at) (drop at work₁)) work₁ 0 work₂ r) (inside : at ≤ n) where
+  pub kept-is : take (n - at) work₂ ≡ drop at (take held-count work ++ chunk)
+  kept-is =
+      let end : r ≡ n - at = omega (arith, v .end, length-take-le (n - at) (drop at work₁) (omega (arith, length-drop at work₁))) in
+      ap (λ (m : ℕ). take m work₂) (sym end) ∙ v .front ∙ sym (drop-take at n work₁) ∙ ap (drop at) (w .front)
 
 -- ---- a call begins
 
-module _ (t : Terms) (e : Extent) (is : Bool) (first : Progress) (data-set packages map-heads map-room fragment-heads : List ℕ) (bodies : Bytes) (set : Words) (out : Bytes) (begun : first ≡ record { extent = e; counts = countsOf 0; ready = is }) (lost : e .lost ≡ 0)
-    (decided : (k : Known) → Keeps k e data-set packages map-heads map-room → SetIs (drops (t .options) k) set)
-    (told : (k : Known) (cs r : List ℕ) → Keeps k e cs packages map-heads r → is ≡ ready (t .options .service) k) where
+module _ (t : Terms) (e : Extent) (first : Progress) (data-set packages map-heads map-room fragment-heads : List ℕ) (bodies : Bytes) (set : Words) (out : Bytes)
+    (decided : DecidedAs (t .options) e data-set packages map-heads map-room set first) (lost : e .lost ≡ 0) where
+  begun-is : first ≡ begun e (first .ready)
+  begun-is = λ i. record { extent = decided .extent-is i; counts = decided .counts-are i; ready = first .ready }
+
   pub call-begins : (L : Limits) (k : Known) → Holding (L .total) k e data-set packages map-heads map-room fragment-heads bodies → Sofar L (t .options) k out [] 0 first data-set packages map-heads map-room fragment-heads bodies set out
   call-begins L k h =
-      subst (λ (x : Progress). Sofar L (t .options) k out [] 0 x data-set packages map-heads map-room fragment-heads bodies set out) (sym begun)
-      (begins L (t .options) k out e is data-set packages map-heads map-room fragment-heads bodies set h (decided k (h .tables-kept)) (told k data-set map-room (h .tables-kept)) lost)
+      subst (λ (x : Progress). Sofar L (t .options) k out [] 0 x data-set packages map-heads map-room fragment-heads bodies set out) (sym begun-is)
+      (begins L (t .options) k out e (first .ready) data-set packages map-heads map-room fragment-heads bodies set h (decided .set-is k (h .tables-kept)) (decided .ready-is k (h .tables-kept)) lost)
 
   pub some-begins : HoldingSome e data-set packages map-heads map-room fragment-heads bodies → SofarSome t first data-set packages map-heads map-room fragment-heads bodies set out
   some-begins h =
       let L : Limits = record { work = 0; total = h .0; most = t .most } in
       (L, h .1, out, [], 0, refl, call-begins L (h .1) (h .2))
 
-  pub call-fits : (n m : ℕ) → n ≤ m → m ≤ 131078 → m ≤ length out → Fits first n (length out)
-  call-fits n m l few h =
-      subst (λ (x : Progress). Fits x n (length out)) (sym begun) (begins-fit e is n (length out) lost (omega arith) (omega arith))
+  pub call-fits : (n : ℕ) → n ≤ 131078 → n ≤ length out → Fits first n (length out)
+  call-fits n few h = subst (λ (x : Progress). Fits x n (length out)) (sym begun-is) (begins-fit e (first .ready) n (length out) lost h few)
+
+-- Once a first run has held nothing back, there is room for m bytes behind it.
+pub rest-fits : {s r : Progress} {l l′ : ℕ} (run : Bytes) (at m : ℕ) → FitsMore s (length run - 0) l r (length run - at) l′ → drop at run ≡ [] → Fits s (length run + m) l → Fits r m l′
+rest-fits {s} {r} {l} {l′} run at m f d h =
+    let a : length run + m ≡ length run - 0 + m = omega arith in
+    let b : length run - at + m ≡ m = omega (arith, length-drop at run, ap length d) in
+    subst (λ (n : ℕ). Fits r n l′) b (f m (subst (λ (n : ℕ). Fits s n l) a h))
+
+pub run-parts : (held chunk : Bytes) (k : ℕ) → held ++ chunk ≡ (held ++ take k chunk) ++ drop k chunk
+run-parts held chunk k = ap (λ (l : Bytes). held ++ l) (sym (take-append-drop k chunk)) ∙ sym (append-assoc held (take k chunk) (drop k chunk))
 
 -- ---- a call ends
 
-module _ (L : Limits) (t : Terms) (k : Known) (held-count n at r : ℕ) (chunk work work₁ work₂ out out′ : Bytes) (w : Wrote chunk work held-count work₁ n) (fit : held-count + length chunk ≤ length work) (long : length work₁ ≡ length work)
-    (v : Wrote (take (n - at) (drop at work₁)) work₁ 0 work₂ r) (inside : at ≤ length (take (n - 0) (drop 0 work₁))) where
-  abbrev run : Bytes
-  run = take (n - 0) (drop 0 work₁)
+module _ (L : Limits) (t : Terms) (k : Known) (held chunk out out′ : Bytes) (W : ℕ) (limit : t .limit ≡ packetLimit W) (same : L .work ≡ W)
+    (p : Progress) (data-set packages map-heads map-room fragment-heads : List ℕ) (bodies : Bytes) (set : Words) (x : CarriedOut) (work : Bytes) where
+  abbrev o : Options
+  o = t .options
 
-  pub call-ends : (p : Progress) (data-set packages map-heads map-room fragment-heads : List ℕ) (bodies : Bytes) (set : Words) (x : CarriedOut) → t .limit ≡ packetLimit (length work) → L .work ≡ length work
-      → Sofar L (t .options) k out ([] ++ cut (t .limit) (drop 0 run) .packets) (0 + cut (t .limit) (drop 0 run) .skipped) p data-set packages map-heads map-room fragment-heads bodies set out′
-      → drop at run ≡ cut (t .limit) (drop 0 run) .held
-      → x ≡ record { extent = p .extent; counts = ended L (t .options) k out p; «held_count» = n - at }
-      → CarriedOutAs L (filtered L (t .options) (record { held = take held-count work; known = k }) chunk) out x data-set packages map-heads map-room fragment-heads bodies work₂ out′
-  call-ends p data-set packages map-heads map-room fragment-heads bodies set x limit same f d e =
-      let o = t .options in
+  abbrev all : Cut
+  all = cut (t .limit) (held ++ chunk)
+
+  pub call-ends : Sofar L o k out ([] ++ all .packets) (0 + all .skipped) p data-set packages map-heads map-room fragment-heads bodies set out′
+      → x ≡ record { extent = p .extent; counts = ended L o k out p; «held_count» = length (all .held) }
+      → take (length (all .held)) work ≡ all .held
+      → CarriedOutAs L (filtered L o (record { held = held; known = k }) chunk) out x data-set packages map-heads map-room fragment-heads bodies work out′
+  call-ends f e d =
       let q : t .limit ≡ packetLimit (L .work) = limit ∙ ap packetLimit (sym same) in
-      let ri : run ≡ take held-count work ++ chunk = run-is held-count chunk work work₁ n w fit long in
-      let y = ends L o k out (take held-count work) chunk run (t .limit) ri q p data-set packages map-heads map-room fragment-heads bodies set out′ f in
-      let h : drop at run ≡ filtered L o (record { held = take held-count work; known = k }) chunk .state .held = d ∙ held-same L o k out (take held-count work) chunk run (t .limit) ri q in
-      subst (λ (z : CarriedOut). CarriedOutAs L (filtered L o (record { held = take held-count work; known = k }) chunk) out z data-set packages map-heads map-room fragment-heads bodies work₂ out′) (sym e)
-      (record {
-        holding = y .holding;
-        held-is = kept-length held-count chunk work work₁ n w fit long work₂ at r v inside ∙ ap length h;
-        held-bytes = kept-is held-count chunk work work₁ n w fit long work₂ at r v inside ∙ h;
-        counts-are = y .counts-are;
-        written = y .written;
-      })
+      let y = ends L o k out held chunk (held ++ chunk) (t .limit) refl q p data-set packages map-heads map-room fragment-heads bodies set out′ f in
+      let h : all .held ≡ filtered L o (record { held = held; known = k }) chunk .state .held = held-same L o k out held chunk (held ++ chunk) (t .limit) refl q in
+      subst (λ (z : CarriedOut). CarriedOutAs L (filtered L o (record { held = held; known = k }) chunk) out z data-set packages map-heads map-room fragment-heads bodies work out′) (sym e)
+      (record { holding = y .holding; held-is = ap length h; held-bytes = d ∙ h; counts-are = y .counts-are; written = y .written })
+
+  -- in two parts, the second of them in the chunk
+  pub parts-end : (a b : Bytes) → held ++ chunk ≡ a ++ b → Parted (t .limit) a b
+      → Sofar L o k out (([] ++ cut (t .limit) a .packets) ++ cut (t .limit) b .packets) (0 + cut (t .limit) a .skipped + cut (t .limit) b .skipped) p data-set packages map-heads map-room fragment-heads bodies set out′
+      → x ≡ record { extent = p .extent; counts = ended L o k out p; «held_count» = length (cut (t .limit) b .held) }
+      → take (length (cut (t .limit) b .held)) work ≡ cut (t .limit) b .held
+      → CarriedOutAs L (filtered L o (record { held = held; known = k }) chunk) out x data-set packages map-heads map-room fragment-heads bodies work out′
+  parts-end a b s h f e d =
+      let c : all ≡ ahead (cut (t .limit) a .packets) (cut (t .limit) a .skipped) (cut (t .limit) b) = ap (cut (t .limit)) s ∙ h .cut-is in
+      let u : 0 + cut (t .limit) a .skipped + cut (t .limit) b .skipped ≡ 0 + (cut (t .limit) a .skipped + cut (t .limit) b .skipped) = omega arith in
+      call-ends
+      (subst (λ (z : Cut). Sofar L o k out (z .packets) (0 + z .skipped) p data-set packages map-heads map-room fragment-heads bodies set out′) (sym c)
+      (subst (λ (n : ℕ). Sofar L o k out (cut (t .limit) a .packets ++ cut (t .limit) b .packets) n p data-set packages map-heads map-room fragment-heads bodies set out′) u f))
+      (e ∙ ap (λ (z : Cut). record { extent = p .extent; counts = ended L o k out p; «held_count» = length (z .held) }) (sym c))
+      (subst (λ (z : Bytes). take (length z) work ≡ z) (ap (λ (z : Cut). z .held) (sym c)) d)
+
+-- no packet is whole: nothing is written, counted or learned
+pub held-ends : (L : Limits) (o : Options) (k : Known) (held chunk out work : Bytes) (W P : ℕ) (e : Extent) (x : CarriedOut) (data-set packages map-heads map-room fragment-heads : List ℕ) (bodies : Bytes)
+    → P ≡ packetLimit W → L .work ≡ W → cut P (held ++ chunk) ≡ hold (held ++ chunk) → x ≡ record { extent = e; counts = countsOf 0; «held_count» = length (held ++ chunk) }
+    → take (length (held ++ chunk)) work ≡ held ++ chunk → Holding (L .total) k e data-set packages map-heads map-room fragment-heads bodies
+    → CarriedOutAs L (filtered L o (record { held = held; known = k }) chunk) out x data-set packages map-heads map-room fragment-heads bodies work out
+unfolding filtered pass flatten
+held-ends L o k held chunk out work W P e x data-set packages map-heads map-room fragment-heads bodies limit same c q d h =
+    let z : cut (packetLimit (L .work)) (held ++ chunk) ≡ hold (held ++ chunk) = ap (λ (n : ℕ). cut (packetLimit n) (held ++ chunk)) same ∙ ap (λ (n : ℕ). cut n (held ++ chunk)) (sym limit) ∙ c in
+    rw (z, q) (record { holding = h; held-is = refl; held-bytes = d; counts-are = refl; written = wrote-none out 0 })
 
 -- ---- copy-all, or not
 

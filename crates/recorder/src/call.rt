@@ -1,10 +1,11 @@
-// A call that is not refused: in copy-all the chunk is copied, else held bytes and chunk are one run in the work room, and its packets are
-// passed.
+// A call that is not refused: in copy-all the chunk is copied, else held bytes and chunk are one run, and its packets are passed: those that
+// the held bytes begin in the work room, all others where they stand in the chunk. Rests on `front` and on `passing`.
 ghost use mathlib.Core.Path.{_≡_};
-ghost use Prim.Native.Nat.{_≤_};
+ghost use Prim.Native.Nat.{_+_, _-_, _≤_};
 ghost use mathlib.Core.Bool.{true, cond};
+ghost use mathlib.Core.List.{_++_};
 ghost use lib.Dec.{eqb};
-ghost use lib.ListN.{length};
+ghost use lib.ListN.{length, take, drop};
 ghost use Rattle.meaning.specs.Writing.{Wrote};
 ghost use Rattle.meaning.specs.Wishes.{copiesAll};
 ghost use Rattle.meaning.specs.Rooms.{packetLimit};
@@ -13,7 +14,14 @@ ghost use Rattle.meaning.specs.Calls.{countsOf};
 ghost use Rattle.meaning.specs.Push.{filtered, push, lengthRefusal};
 ghost use Rattle.observing.specs.Observed.{HoldingSome};
 ghost use Rattle.soundness.specs.Parts.{limitsOf, partsSound};
+ghost use Rattle.passing.specs.Passing.{Fits, SofarSome};
+ghost use Rattle.recorder.specs.Front.{Parted, ChunkPassed};
 ghost use Rattle.recorder.specs.Calls.{RoomFor, CarriesOut};
+use crate::front::Front;
+use crate::front::counts_of;
+use crate::front::decided;
+use crate::front::front_by;
+use crate::front::in_work_room;
 use learning::Extent;
 use meaning::Answer;
 use meaning::Counts;
@@ -25,24 +33,10 @@ use octets::move_down;
 use passing::Progress;
 use passing::Terms;
 use passing::packets;
-use rules::decide;
-use rules::ready;
 use soundness::copies_all;
 use soundness::packet_limit;
 use soundness::parts_sound;
-
-pub fn counts_of(bytes: usize) -> Counts
-    ensures { λ r. ⌜ r ≡ countsOf bytes ⌝ }
-{
-    Counts {
-        bytes,
-        accepted: 0,
-        written: 0,
-        rewritten: 0,
-        skipped: 0,
-        lost: 0,
-    }
-}
+use tlv::next_across;
 
 // What a call leaves beside the arrays.
 pub struct CarriedOut {
@@ -71,19 +65,123 @@ fn ended(p: Progress, held_count: usize) -> CarriedOut
     }
 }
 
-// Nothing is counted yet.
-fn begins(e: Extent, is_ready: bool) -> Progress
-    ensures { λ r. ⌜ r ≡ record { extent = e; counts = countsOf 0; ready = «is_ready» } ⌝ }
+// ---- the packets of held bytes and chunk
+
+// No packet is whole yet: all is held, and nothing is worked out.
+fn all_held(held_count: usize, chunk: &[u8], e: Extent, work: &mut [u8]) -> CarriedOut
+    requires { ⌜ «held_count» + length (now chunk) ≤ length (now work) ⌝ }
+    ensures { λ r. ⌜ (r ≡ record { extent = e; counts = countsOf 0; «held_count» = «held_count» + length (now (chunk .entry)) }) × Wrote (now (chunk .entry)) (now (work .entry)) «held_count» (now (work .exit)) («held_count» + length (now (chunk .entry))) ⌝ }
 {
-    Progress {
+    let n = copy(chunk, work, held_count);
+    CarriedOut {
         extent: e,
         counts: counts_of(0),
-        ready: is_ready,
+        held_count: n,
     }
 }
 
-// The packets of held bytes and chunk.
-fn filtered(
+// The packets of the chunk from `from` on, where they stand; the rest of it is held.
+fn in_chunk(
+    from: usize,
+    chunk: &[u8],
+    s: Progress,
+    t: Terms,
+    data_set: &mut [u64; 1024],
+    packages: &mut [u32; 255],
+    map_heads: &mut [u32; 64],
+    map_room: &mut [u16],
+    fragment_heads: &mut [u64; 256],
+    bodies: &mut [u8],
+    work: &mut [u8],
+    set: &mut [u64; 1024],
+    out: &mut [u8],
+) -> CarriedOut
+    requires { ⌜ (from ≤ length (now chunk)) × (length (now chunk) ≤ length (now work)) × Fits s (length (now chunk) - from) (length (now out)) × SofarSome t s (now «data_set») (now packages) (now «map_heads») (now «map_room») (now «fragment_heads») (now bodies) (now set) (now out) ⌝ }
+    ensures { λ r. ⌜ ChunkPassed (now (chunk .entry)) from t s (now («data_set» .entry)) (now (packages .entry)) (now («map_heads» .entry)) (now («map_room» .entry)) (now («fragment_heads» .entry)) (now (bodies .entry)) (now (set .entry)) (now (out .entry)) r (now («data_set» .exit)) (now (packages .exit)) (now («map_heads» .exit)) (now («map_room» .exit)) (now («fragment_heads» .exit)) (now (bodies .exit)) (now (work .exit)) (now (set .exit)) (now (out .exit)) ⌝ }
+{
+    let x = packets(
+        chunk,
+        from,
+        s,
+        t,
+        data_set,
+        packages,
+        map_heads,
+        map_room,
+        fragment_heads,
+        bodies,
+        set,
+        out,
+    );
+    let at = x.at;
+    let n = copy(&chunk[at..], work, 0);
+    ended(x.progress, n)
+}
+
+// The first `k` bytes of the chunk complete what the held bytes begin; the rest is read where it stands.
+fn completed(
+    held_count: usize,
+    k: usize,
+    chunk: &[u8],
+    e: Extent,
+    t: Terms,
+    data_set: &mut [u64; 1024],
+    packages: &mut [u32; 255],
+    map_heads: &mut [u32; 64],
+    map_room: &mut [u16],
+    fragment_heads: &mut [u64; 256],
+    bodies: &mut [u8],
+    work: &mut [u8],
+    out: &mut [u8],
+) -> CarriedOut
+    requires { ⌜ RoomFor e «held_count» (now chunk) (now work) (now out) × (t .limit ≡ packetLimit (length (now work))) × HoldingSome e (now «data_set») (now packages) (now «map_heads») (now «map_room») (now «fragment_heads») (now bodies) × (k ≤ length (now chunk)) × Parted (t .limit) (take «held_count» (now work) ++ take k (now chunk)) (drop k (now chunk)) ⌝ }
+    ensures { λ r. ⌜ CarriesOut (λ L st. filtered L (t .options) st (now (chunk .entry))) (t .most) «held_count» e (now («data_set» .entry)) (now (packages .entry)) (now («map_heads» .entry)) (now («map_room» .entry)) (now («fragment_heads» .entry)) (now (bodies .entry)) (now (work .entry)) (now (out .entry)) r (now («data_set» .exit)) (now (packages .exit)) (now («map_heads» .exit)) (now («map_room» .exit)) (now («fragment_heads» .exit)) (now (bodies .exit)) (now (work .exit)) (now (out .exit)) ⌝ }
+{
+    let mut set = [0u64; 1024];
+    let s = decided(
+        e,
+        t.options,
+        data_set,
+        packages,
+        map_heads,
+        map_room,
+        &mut set,
+    );
+    let x = in_work_room(
+        held_count,
+        k,
+        chunk,
+        s,
+        t,
+        data_set,
+        packages,
+        map_heads,
+        map_room,
+        fragment_heads,
+        bodies,
+        work,
+        &mut set,
+        out,
+    );
+    in_chunk(
+        k,
+        chunk,
+        x.progress,
+        t,
+        data_set,
+        packages,
+        map_heads,
+        map_room,
+        fragment_heads,
+        bodies,
+        work,
+        &mut set,
+        out,
+    )
+}
+
+// Held bytes and chunk as one run in the work room.
+fn together(
     held_count: usize,
     chunk: &[u8],
     e: Extent,
@@ -101,16 +199,20 @@ fn filtered(
     ensures { λ r. ⌜ CarriesOut (λ L st. filtered L (t .options) st (now (chunk .entry))) (t .most) «held_count» e (now («data_set» .entry)) (now (packages .entry)) (now («map_heads» .entry)) (now («map_room» .entry)) (now («fragment_heads» .entry)) (now (bodies .entry)) (now (work .entry)) (now (out .entry)) r (now («data_set» .exit)) (now (packages .exit)) (now («map_heads» .exit)) (now («map_room» .exit)) (now («fragment_heads» .exit)) (now (bodies .exit)) (now (work .exit)) (now (out .exit)) ⌝ }
 {
     let mut set = [0u64; 1024];
-    let o = t.options;
-    decide(o, e, data_set, packages, map_heads, map_room, &mut set);
-    let service = o.service;
-    let is_ready = ready(service, e, packages, map_heads);
-    let n = copy(chunk, work, held_count);
-    let first = begins(e, is_ready);
-    let x = packets(
-        &work[0..n],
-        0,
-        first,
+    let s = decided(
+        e,
+        t.options,
+        data_set,
+        packages,
+        map_heads,
+        map_room,
+        &mut set,
+    );
+    let x = in_work_room(
+        held_count,
+        chunk.len(),
+        chunk,
+        s,
         t,
         data_set,
         packages,
@@ -118,12 +220,70 @@ fn filtered(
         map_room,
         fragment_heads,
         bodies,
+        work,
         &mut set,
         out,
     );
     let at = x.at;
+    let n = held_count + chunk.len();
     move_down(work, at, n - at, 0);
     ended(x.progress, n - at)
+}
+
+// Where the run is read, by what stands at its front.
+fn filtered(
+    held_count: usize,
+    chunk: &[u8],
+    e: Extent,
+    t: Terms,
+    data_set: &mut [u64; 1024],
+    packages: &mut [u32; 255],
+    map_heads: &mut [u32; 64],
+    map_room: &mut [u16],
+    fragment_heads: &mut [u64; 256],
+    bodies: &mut [u8],
+    work: &mut [u8],
+    out: &mut [u8],
+) -> CarriedOut
+    requires { ⌜ RoomFor e «held_count» (now chunk) (now work) (now out) × (t .limit ≡ packetLimit (length (now work))) × HoldingSome e (now «data_set») (now packages) (now «map_heads») (now «map_room») (now «fragment_heads») (now bodies) ⌝ }
+    ensures { λ r. ⌜ CarriesOut (λ L st. filtered L (t .options) st (now (chunk .entry))) (t .most) «held_count» e (now («data_set» .entry)) (now (packages .entry)) (now («map_heads» .entry)) (now («map_room» .entry)) (now («fragment_heads» .entry)) (now (bodies .entry)) (now (work .entry)) (now (out .entry)) r (now («data_set» .exit)) (now (packages .exit)) (now («map_heads» .exit)) (now («map_room» .exit)) (now («fragment_heads» .exit)) (now (bodies .exit)) (now (work .exit)) (now (out .exit)) ⌝ }
+{
+    let front = front_by(
+        next_across(&work[0..held_count], chunk, t.limit),
+        held_count,
+    );
+    match front {
+        Front::Hold => all_held(held_count, chunk, e, work),
+        Front::Completed(k) => completed(
+            held_count,
+            k,
+            chunk,
+            e,
+            t,
+            data_set,
+            packages,
+            map_heads,
+            map_room,
+            fragment_heads,
+            bodies,
+            work,
+            out,
+        ),
+        Front::Together => together(
+            held_count,
+            chunk,
+            e,
+            t,
+            data_set,
+            packages,
+            map_heads,
+            map_room,
+            fragment_heads,
+            bodies,
+            work,
+            out,
+        ),
+    }
 }
 
 fn copied(chunk: &[u8], e: Extent, out: &mut [u8]) -> CarriedOut

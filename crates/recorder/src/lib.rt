@@ -1,6 +1,7 @@
 // The filter's record, what a recorder has between two calls beside the three lent rooms, and its calls: start, push, dropped. Rests on
 // `call` for a push, on `soundness` for what is asked of rooms and record, on `rules` for the number of dropped identifiers.
 mod call;
+mod front;
 mod slots;
 pub mod sound;
 
@@ -18,8 +19,8 @@ use crate::call::CarriedOut;
 use crate::call::Lengths;
 use crate::call::call_answer;
 use crate::call::carry_out;
-use crate::call::counts_of;
 use crate::call::is_done;
+use crate::front::counts_of;
 use crate::slots::clear32;
 use crate::slots::clear64;
 use crate::sound::is_sound;

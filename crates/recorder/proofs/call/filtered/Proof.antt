@@ -1,82 +1,120 @@
-use Prim.Native.Nat.{_+_}
-use mathlib.Core.Path.{_∙_}
+use Prim.Native.Nat.{ℕ, _+_}
+use mathlib.Core.Path.{_≡_, ap, _∙_}
+use mathlib.Core.List.{_++_}
 use native.Mathlib.Omega.{arith}
-use lib.ListN.{length}
-use Rattle.recorder.proofs.CallLaws.{run-length, call-begins, some-begins, call-fits, call-ends}
+use lib.ListN.{length, take, length-append}
+use lib.Seq.{length-take-le}
+use Rattle.recorder.proofs.FrontLaws.{front-completed, front-holds}
+use Rattle.recorder.proofs.CallLaws.{held-ends}
 use borrow.Author.Needs.{needs}
 use Rattle.recorder.proofs.call.filtered.Statement.{statement}
 use Rattle.recorder.proofs.call.filtered.Tie as tie
 
-decide-requires : tie.Need-decide-requires
-decide-requires c κs = search needs
+sub-next-across : tie.Need-sub-next-across
+sub-next-across c = search needs
 
-ready-requires : tie.Need-ready-requires
-ready-requires c κs = search needs
+part-next-across-start : tie.Need-part-next-across-start
+part-next-across-start c = search needs
 
-copy-requires : tie.Need-copy-requires
-copy-requires c κs = search needs
+part-next-across-end : tie.Need-part-next-across-end
+part-next-across-end c = search needs
 
-begins-requires : tie.Need-begins-requires
-begins-requires c κs = search needs
+next-across-requires : tie.Need-next-across-requires
+next-across-requires c κs = search needs
 
-sub-packets : tie.Need-sub-packets
-sub-packets c = search needs
+front-by-requires : tie.Need-front-by-requires
+front-by-requires c κs = search needs
 
-part-packets-start : tie.Need-part-packets-start
-part-packets-start c = search needs
+enum-told : tie.Need-enum-told
+enum-told c = search needs
 
-part-packets-end : tie.Need-part-packets-end
-part-packets-end c = omega (arith, c .before .before .before .before .copy .ensures .end, c .before .before .before .before .copy .kept .1 .0, c .before .before .before .before .before .before .before .before .before .before .before .before .before .before .before .before .before .before .before .before .before .pre .0 .work-room)
+all-held-requires : tie.Need-all-held-requires
+all-held-requires c κs = search needs
 
-packets-requires : tie.Need-packets-requires
-packets-requires c κs =
-    let z = c .before .before .before .before .before .before .before .before .before .before .before .before .before .before .before .before .before .before .before .before .before .before .before .before .before .before .before .before .before .before in
+enum-known-front : tie.Need-enum-known-front
+enum-known-front c = search needs
+
+completed-requires : tie.Need-completed-requires
+completed-requires c κs =
+    let z = c .before .before .before .before .before .before .before .before .before .before .before .before .before .before .before .before .before .before .before .before in
     let a = z .args in
-    let copied = c .before .before .before .before .before .before .before .before .before .before .before .before .before .copy in
-    let len = run-length (a .held-count) (a .chunk .now) (a .work .now) _ (copied .result) (copied .ensures) (z .pre .0 .work-room) (copied .kept .1 .0) in (
-      omega arith,
-      call-fits (a .t) _ _ _ _ _ _ _ (a .fragment-heads .now) (a .bodies .now) _ (a .out .now) (c .before .before .before .before .before .before .before .before .before .before .begins .ensures) (c .before .before .before .before .before .before .before .before .before .before .before .before .before .before .before .before .before .before .before .before .before .before .before .before .before .before .before .before .before .before .pre .0 .none-lost) (c .before .before .before .before .before .before .before .before .before .before .before .before .before .before .before .before .before .before .decide .ensures) (c .before .before .before .before .before .before .before .before .before .before .before .before .before .before .before .ready .ensures) _ (a .held-count + length (a .chunk .now)) (omega (arith, len)) (omega (arith, z .pre .0 .work-room, z .pre .0 .work-few)) (z .pre .0 .out-room),
-      some-begins (a .t) _ _ _ _ _ _ _ _ _ _ _ (c .before .before .before .before .before .before .before .before .before .before .begins .ensures) (c .before .before .before .before .before .before .before .before .before .before .before .before .before .before .before .before .before .before .before .before .before .before .before .before .before .before .before .before .before .before .pre .0 .none-lost) (c .before .before .before .before .before .before .before .before .before .before .before .before .before .before .before .before .before .before .decide .ensures) (c .before .before .before .before .before .before .before .before .before .before .before .before .before .before .before .ready .ensures) (z .pre .2),
-    )
+    let f = front-completed (a .t .limit) (a .held-count) (a .chunk .now) (a .work .now) (omega (arith, z .pre .0 .work-room)) _ _ (c .before .before .before .before .before .before .before .before .before .before .before .before .next-across .ensures) (c .before .before .before .before .before .before .before .before .before .before .before .front-by .ensures) _ (c .before .before .before .before .before .before .before .before .before .front .given .1) in
+    (z .pre .0, z .pre .1, z .pre .2, f .0, f .1)
 
-sub-move-down : tie.Need-sub-move-down
-sub-move-down c = search needs
+enum-told-2 : tie.Need-enum-told-2
+enum-told-2 c = search needs
 
-move-down-requires : tie.Need-move-down-requires
-move-down-requires c κs =
-    let z = c .before .before .before .before .before .before .before .before .before .before .before .before .before .before .before .before .before .before .before .before .before .before .before .before .before .before .before .before .before .before .before .before .before .before .before .before .before .before in
-    let a = z .args in
-    let copied = c .before .before .before .before .before .before .before .before .before .before .before .before .before .before .before .before .before .before .before .before .before .copy in
-    let len = run-length (a .held-count) (a .chunk .now) (a .work .now) _ (copied .result) (copied .ensures) (z .pre .0 .work-room) (copied .kept .1 .0) in
-    (omega arith, omega (arith, len, c .before .before .before .before .before .before .before .packets .ensures .2, copied .ensures .end, copied .kept .1 .0, z .pre .0 .work-room))
-
-sub-ended : tie.Need-sub-ended
-sub-ended c = search needs
-
-ended-requires : tie.Need-ended-requires
-ended-requires c κs = search needs
+together-requires : tie.Need-together-requires
+together-requires c κs = search needs
 
 same-length : tie.Need-same-length
 same-length c = search needs
+
+returns : tie.Need-returns
+returns c L k em ew h =
+    let z = c .before .before .before .before .before .before .before .before .before .before .before .before .before .before .before in
+    let a = z .args in
+    let e = c .before .before .all-held .ensures in
+    let held = take (a .held-count) (a .work .now) in
+    let len : length (held ++ a .chunk .now) ≡ a .held-count + length (a .chunk .now) = omega (arith, length-append held (a .chunk .now), length-take-le (a .held-count) (a .work .now) (omega (arith, z .pre .0 .work-room))) in
+    held-ends L (a .t .options) k held (a .chunk .now) (a .out .now) _ (length (a .work .now)) (a .t .limit) (a .e) (c .before .before .all-held .result) _ _ _ _ _ _ (z .pre .1) ew
+    (front-holds (a .t .limit) (a .held-count) (a .chunk .now) (a .work .now) (omega (arith, z .pre .0 .work-room)) _ _ (c .before .before .before .before .before .before .before .next-across .ensures) (c .before .before .before .before .before .before .front-by .ensures) (c .before .before .before .before .enum-told .given .1))
+    (rw (← len) at (e .0)) (ap (λ (n : ℕ). take n (c .before .before .all-held .last .1 .1 .1 .0)) len ∙ e .1 .front) h
 
 same-length-2 : tie.Need-same-length-2
 same-length-2 c = search needs
 
 same-length-3 : tie.Need-same-length-3
-same-length-3 c = c .before .before .before .move-down .kept .0 ∙ c .before .before .before .before .before .before .before .before .before .before .before .before .before .before .before .before .before .before .before .before .before .before .before .before .before .copy .kept .1 .0
+same-length-3 c = search needs
 
 same-length-4 : tie.Need-same-length-4
 same-length-4 c = search needs
 
-returns : tie.Need-returns
-returns c L k em ew h =
-    let z = c .before .before .before .before .before .before .before .before .before .before .before .before .before .before .before .before .before .before .before .before .before .before .before .before .before .before .before .before .before .before .before .before .before .before .before .before .before .before .before .before .before .before in
-    let a = z .args in
-    let copied = c .before .before .before .before .before .before .before .before .before .before .before .before .before .before .before .before .before .before .before .before .before .before .before .before .before .copy in
-    let passed = c .before .before .before .before .before .before .before .before .before .before .before .packets in
-    let start = call-begins (a .t) _ _ _ _ _ _ _ _ _ _ _ (c .before .before .before .before .before .before .before .before .before .before .before .before .before .before .before .before .before .before .before .before .before .before .begins .ensures) (c .before .before .before .before .before .before .before .before .before .before .before .before .before .before .before .before .before .before .before .before .before .before .before .before .before .before .before .before .before .before .before .before .before .before .before .before .before .before .before .before .before .before .pre .0 .none-lost) (c .before .before .before .before .before .before .before .before .before .before .before .before .before .before .before .before .before .before .before .before .before .before .before .before .before .before .before .before .before .before .decide .ensures) (c .before .before .before .before .before .before .before .before .before .before .before .before .before .before .before .before .before .before .before .before .before .before .before .before .before .before .before .ready .ensures) L k h in
-    call-ends L (a .t) k (a .held-count) (copied .result) (passed .result .at) _ (a .chunk .now) (a .work .now) _ _ (a .out .now) _ (copied .ensures) (z .pre .0 .work-room) (copied .kept .1 .0)
-    (c .before .before .before .move-down .ensures) (passed .ensures .2) (passed .result .progress) _ _ _ _ _ _ _ _ (z .pre .1) ew (passed .ensures .0 L k (a .out .now) _ 0 em start) (passed .ensures .1) (c .ended .ensures)
+same-length-5 : tie.Need-same-length-5
+same-length-5 c = search needs
+
+returns-2 : tie.Need-returns-2
+returns-2 c = search needs
+
+same-length-6 : tie.Need-same-length-6
+same-length-6 c = search needs
+
+same-length-7 : tie.Need-same-length-7
+same-length-7 c = search needs
+
+same-length-8 : tie.Need-same-length-8
+same-length-8 c = search needs
+
+same-length-9 : tie.Need-same-length-9
+same-length-9 c = search needs
+
+returns-3 : tie.Need-returns-3
+returns-3 c = search needs
 
 pub filtered-spec : {M : Type 1} → statement M
-filtered-spec = tie.close (tie.spec decide-requires ready-requires copy-requires begins-requires sub-packets part-packets-start part-packets-end packets-requires sub-move-down move-down-requires sub-ended ended-requires same-length same-length-2 same-length-3 same-length-4 returns)
+filtered-spec =
+    tie.close
+    (tie.spec
+    sub-next-across
+    part-next-across-start
+    part-next-across-end
+    next-across-requires
+    front-by-requires
+    enum-told
+    all-held-requires
+    enum-known-front
+    completed-requires
+    enum-told-2
+    together-requires
+    same-length
+    returns
+    same-length-2
+    same-length-3
+    same-length-4
+    same-length-5
+    returns-2
+    same-length-6
+    same-length-7
+    same-length-8
+    same-length-9
+    returns-3)
