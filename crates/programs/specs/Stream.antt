@@ -50,10 +50,14 @@ pub record TakenAs (writes : Bool) (r : Record) (sums : Counts) (work bodies : B
 
 -- ---- all chunks
 
+-- With what is told of a read or a write.
+abbrev pub withFailed : Standing → Bool → Standing
+withFailed x failed = record { answer = x .answer; failed = failed; bytes = x .bytes; sums = x .sums; filter = x .filter }
+
 -- At the end of an input a stream stands as it stood; a read that failed is told.
 abbrev pub endedAs : Standing → Filled → Standing
 endedAs x (Filled.Bytes n) = x
-endedAs x Filled.Failed = record { answer = x .answer; failed = true; bytes = x .bytes; sums = x .sums; filter = x .filter }
+endedAs x Filled.Failed = withFailed x true
 
 -- By what was read to the room for a chunk: the bytes that came go through a call; where none came, no room changes.
 pub record NextAs (writes : Bool) (x : Standing) (came : Filled) (work bodies : Bytes) (map-room : List ℕ) (chunk out : Bytes) (y : Standing) (work′ bodies′ : Bytes) (map-room′ : List ℕ) (out′ : Bytes) : Type 0 where

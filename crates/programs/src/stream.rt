@@ -11,7 +11,7 @@ ghost use Rattle.meaning.specs.Refusals.{answerNumber};
 ghost use Rattle.meaning.specs.Calls.{countsOf};
 ghost use Rattle.recorder.specs.Filter.{recordIn};
 ghost use Rattle.programs.specs.Pipe.{cameOf};
-ghost use Rattle.programs.specs.Stream.{firstOf, toWrite, TakenAs, endedAs, NextAs, goesOn, MayPass, Goes, begunAs, Rooms, Come, endingOf, unaskedAs, Ran, HeadIn, RanBy, Told};
+ghost use Rattle.programs.specs.Stream.{firstOf, toWrite, TakenAs, withFailed, endedAs, NextAs, goesOn, MayPass, Goes, begunAs, Rooms, Come, endingOf, unaskedAs, Ran, HeadIn, RanBy, Told};
 use crate::asked::Asked;
 use crate::asked::asked_of;
 use crate::asked::is_done;
@@ -99,6 +99,15 @@ fn unwritten(writes: bool, bytes: &[u8]) -> bool
     !write_all(bytes)
 }
 
+// With what is told of a read or a write.
+fn with_failed(x: Standing, failed: bool) -> Standing
+    ensures { λ r. ⌜ r ≡ withFailed x failed ⌝ }
+{
+    let mut y = x;
+    y.failed = failed;
+    y
+}
+
 // One chunk; what goes on is written where that is asked for.
 fn one_chunk(
     f: Filter,
@@ -112,11 +121,10 @@ fn one_chunk(
 ) -> Standing
     ensures { λ r. ⌜ TakenAs writes (recordIn f) sums (now (work .entry)) (now (bodies .entry)) (now («map_room» .entry)) (now (chunk .entry)) (now (out .entry)) r (now (work .exit)) (now (bodies .exit)) (now («map_room» .exit)) (now (out .exit)) ⌝ }
 {
-    let mut x = take_in(f, sums, chunk, work, bodies, map_room, out);
+    let x = take_in(f, sums, chunk, work, bodies, map_room, out);
     let n = x.bytes;
     let failed = unwritten(writes, &out[0..n]);
-    x.failed = failed;
-    x
+    with_failed(x, failed)
 }
 
 // ---- all chunks
@@ -128,9 +136,7 @@ fn ended(x: Standing, came: Filled) -> Standing
     let Filled::Failed = came else {
         return x;
     };
-    let mut y = x;
-    y.failed = true;
-    y
+    with_failed(x, true)
 }
 
 // A stream by what was read: the bytes that came are the next chunk, and where none came it has ended.

@@ -8,6 +8,9 @@ enum-told c = search needs
 enum-told-2 : tie.Need-enum-told-2
 enum-told-2 c = search needs
 
+with-failed-requires : tie.Need-with-failed-requires
+with-failed-requires c κs = search needs
+
 returns : tie.Need-returns
 returns c = rw (c .enum-told2 .given .1)
 

@@ -19,6 +19,9 @@ part-unwritten-end c = let t = c .before .before .before .before .before .before
 unwritten-requires : tie.Need-unwritten-requires
 unwritten-requires c κs = search needs
 
+with-failed-requires : tie.Need-with-failed-requires
+with-failed-requires c κs = search needs
+
 same-length : tie.Need-same-length
 same-length c = search needs
 
@@ -33,16 +36,16 @@ same-length-4 c = search needs
 
 returns : tie.Need-returns
 returns c =
-    let t = c .before .before .before .before .before .before .before .before .before .before .before .take-in .ensures in
-    record {
+    let t = c .before .before .before .before .before .before .before .before .before .before .before .before .take-in .ensures in
+    rw (c .with-failed .ensures) (record {
       call = t .call;
       pushed = t .pushed;
       answer-is = t .answer-is;
       bytes-are = t .bytes-are;
       sums-are = t .sums-are;
       filter-is = t .filter-is;
-      well = λ e. c .unwritten .ensures (none-to-write (c .before .before .before .before .before .before .before .before .before .before .before .before .before .before .before .before .before .before .before .before .before .args .writes) (c .before .before .before .before .before .before .before .before .before .before .before .take-in .result .bytes) (c .before .before .before .before .before .before .before .before .before .before .before .take-in .last .1 .1 .1 .1 .1 .1 .0) e);
-    }
+      well = λ e. c .before .unwritten .ensures (none-to-write (c .before .before .before .before .before .before .before .before .before .before .before .before .before .before .before .before .before .before .before .before .before .before .args .writes) (c .before .before .before .before .before .before .before .before .before .before .before .before .take-in .result .bytes) (c .before .before .before .before .before .before .before .before .before .before .before .before .take-in .last .1 .1 .1 .1 .1 .1 .0) e);
+    })
 
 pub one-chunk-spec : {M : Type 1} → statement M
 one-chunk-spec =
@@ -53,6 +56,7 @@ one-chunk-spec =
     part-unwritten-start
     part-unwritten-end
     unwritten-requires
+    with-failed-requires
     same-length
     same-length-2
     same-length-3
