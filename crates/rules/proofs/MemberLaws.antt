@@ -91,6 +91,21 @@ module _ (ws : Words) (p : ℕ) (l : length ws ≡ 1024) (s : p < 65536) where
       go q true e = ap (inSet (withoutId ws p)) (sym (eqb-true p q e)) ∙ remove-same ws p within ∙ sym (and-false (inSet ws q))
       go q false e = remove-other ws p q within (eqb-false p q e) ∙ sym (and-true (inSet ws q))
 
+  -- in already, or not in
+  pub inserts-again : inSet ws p ≡ true → Inserts (eqb p) ws ws
+  inserts-again t = record { all-words = l; member = λ q b. go q (eqb p q) refl }
+    where
+      go : (q : ℕ) (u : Bool) → eqb p q ≡ u → inSet ws q ≡ (inSet ws q || u)
+      go q true e = ap (inSet ws) (sym (eqb-true p q e)) ∙ t ∙ sym (or-true (inSet ws q))
+      go q false e = sym (or-false (inSet ws q))
+
+  pub removes-again : inSet ws p ≡ false → Removes (eqb p) ws ws
+  removes-again f = record { all-words = l; member = λ q b. go q (eqb p q) refl }
+    where
+      go : (q : ℕ) (u : Bool) → eqb p q ≡ u → inSet ws q ≡ (inSet ws q && not u)
+      go q true e = ap (inSet ws) (sym (eqb-true p q e)) ∙ f ∙ sym (and-false (inSet ws q))
+      go q false e = sym (and-true (inSet ws q))
+
 -- ---- no identifier
 
 -- no identifier in words of zeros

@@ -21,6 +21,7 @@ use learning::lists::place_for;
 use meaning::Options;
 use meaning::Service;
 use octets::count;
+use octets::has;
 use octets::insert;
 use octets::remove;
 
@@ -55,6 +56,26 @@ fn is_kept(o: Options, ours: bool, kind: u16) -> bool
     wants(o, kind)
 }
 
+// Puts `id` into the set, if it is not in. Lists name the same identifiers again and again, and to look is quicker than to write.
+fn put_in(set: &mut [u64; 1024], id: u16)
+    requires { ⌜ length (now set) ≡ 1024 ⌝ }
+    ensures { λ _. ⌜ Inserts (eqb id) (now (set .entry)) (now (set .exit)) ⌝ }
+{
+    if !has(set, id) {
+        insert(set, id);
+    }
+}
+
+// Takes `id` out of the set, if it is in.
+fn take_out(set: &mut [u64; 1024], id: u16)
+    requires { ⌜ length (now set) ≡ 1024 ⌝ }
+    ensures { λ _. ⌜ Removes (eqb id) (now (set .entry)) (now (set .exit)) ⌝ }
+{
+    if has(set, id) {
+        remove(set, id);
+    }
+}
+
 // Puts the assets of a list of `n` at `base` into the set: those not wanted, or all where the service is not ours.
 fn drop_assets(
     o: Options,
@@ -73,7 +94,7 @@ fn drop_assets(
         let kept = is_kept(o, ours, map_room[base + 2 * i + 1]);
         i += 1;
         if !kept {
-            insert(set, id);
+            put_in(set, id);
         }
     }
 }
@@ -89,7 +110,7 @@ fn keep_assets(o: Options, map_room: &[u16], base: usize, n: usize, set: &mut [u
         let kept = wants(o, map_room[base + 2 * i + 1]);
         i += 1;
         if kept {
-            remove(set, id);
+            take_out(set, id);
         }
     }
 }

@@ -3,7 +3,7 @@ use borrow.Author.Needs.{needs}
 use Rattle.meaning.specs.Wishes.{wanted}
 use Rattle.rules.specs.Changes.{comes}
 use Rattle.rules.proofs.AssetRules.{ByAssets, assets-begin, assets-next, assets-pass, assets-end}
-use Rattle.rules.proofs.MemberLaws.{inserting, inserts-one}
+use Rattle.rules.proofs.MemberLaws.{inserting}
 use native.Mathlib.Omega.{arith}
 use Prim.Native.Nat.{_+_, _-_, _*_}
 use Rattle.rules.proofs.drop_assets.Statement.{statement}
@@ -51,8 +51,8 @@ is-kept-requires c κs = search needs
 add-i : tie.Need-add-i Inv-loop μ-loop
 add-i c = search needs
 
-insert-requires : tie.Need-insert-requires Inv-loop μ-loop
-insert-requires c κs = search needs
+put-in-requires : tie.Need-put-in-requires Inv-loop μ-loop
+put-in-requires c κs = search needs
 
 loop-less : tie.Need-loop-less Inv-loop μ-loop
 loop-less c = search needs
@@ -62,7 +62,7 @@ loop-again c =
     let z = c .before .before .before .before .before .before .before .before .before in
     let k = c .before .before .before .before .before .before .before .loop .inv in
     assets-next k inserting (omega arith) (z .pre .0) (rw (c .before .before .before .is-kept .ensures) at (c .before .before .if1 .taken))
-    (rw (c .insert .ensures) (inserts-one _ _ (k .are .all-words) (omega (arith, c .before .before .before .before .before .before .before .before .shared-slice-known .given (z .args .base + 2 * c .before .before .before .before .before .before .before .loop .i)))))
+    (c .put-in .ensures)
 
 loop-less-2 : tie.Need-loop-less-2 Inv-loop μ-loop
 loop-less-2 c = search needs
@@ -74,4 +74,4 @@ returns : tie.Need-returns Inv-loop μ-loop
 returns c = assets-end (c .before .loop .inv) (omega arith)
 
 pub drop-assets-spec : {M : Type 1} → statement M
-drop-assets-spec = tie.close (tie.spec Inv-loop μ-loop loop-holds mul-id add-id mul-id-2 shared-slice-read-id mul-is-kept add-is-kept add-is-kept-2 mul-is-kept-2 shared-slice-read-is-kept is-kept-requires add-i insert-requires loop-less loop-again loop-less-2 loop-again-2 returns)
+drop-assets-spec = tie.close (tie.spec Inv-loop μ-loop loop-holds mul-id add-id mul-id-2 shared-slice-read-id mul-is-kept add-is-kept add-is-kept-2 mul-is-kept-2 shared-slice-read-is-kept is-kept-requires add-i put-in-requires loop-less loop-again loop-less-2 loop-again-2 returns)

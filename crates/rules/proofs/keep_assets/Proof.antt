@@ -2,7 +2,7 @@ use borrow.Author.Needs.{needs}
 use Rattle.meaning.specs.Wishes.{wanted}
 use Rattle.rules.specs.Changes.{goes}
 use Rattle.rules.proofs.AssetRules.{ByAssets, assets-begin, assets-next, assets-pass, assets-end}
-use Rattle.rules.proofs.MemberLaws.{removing, removes-one}
+use Rattle.rules.proofs.MemberLaws.{removing}
 use native.Mathlib.Omega.{arith}
 use Prim.Native.Nat.{_+_, _-_, _*_}
 use Rattle.rules.proofs.keep_assets.Statement.{statement}
@@ -50,8 +50,8 @@ wants-requires c κs = search needs
 add-i : tie.Need-add-i Inv-loop μ-loop
 add-i c = search needs
 
-remove-requires : tie.Need-remove-requires Inv-loop μ-loop
-remove-requires c κs = search needs
+take-out-requires : tie.Need-take-out-requires Inv-loop μ-loop
+take-out-requires c κs = search needs
 
 loop-less : tie.Need-loop-less Inv-loop μ-loop
 loop-less c = search needs
@@ -61,7 +61,7 @@ loop-again c =
     let z = c .before .before .before .before .before .before .before .before .before in
     let k = c .before .before .before .before .before .before .before .loop .inv in
     assets-next k removing (omega arith) (z .pre .0) (rw (c .before .before .before .wants .ensures) at (c .before .before .if1 .taken))
-    (rw (c .remove .ensures) (removes-one _ _ (k .are .all-words) (omega (arith, c .before .before .before .before .before .before .before .before .shared-slice-known .given (z .args .base + 2 * c .before .before .before .before .before .before .before .loop .i)))))
+    (c .take-out .ensures)
 
 loop-less-2 : tie.Need-loop-less-2 Inv-loop μ-loop
 loop-less-2 c = search needs
@@ -73,4 +73,4 @@ returns : tie.Need-returns Inv-loop μ-loop
 returns c = assets-end (c .before .loop .inv) (omega arith)
 
 pub keep-assets-spec : {M : Type 1} → statement M
-keep-assets-spec = tie.close (tie.spec Inv-loop μ-loop loop-holds mul-id add-id mul-id-2 shared-slice-read-id mul-wants add-wants add-wants-2 mul-wants-2 shared-slice-read-wants wants-requires add-i remove-requires loop-less loop-again loop-less-2 loop-again-2 returns)
+keep-assets-spec = tie.close (tie.spec Inv-loop μ-loop loop-holds mul-id add-id mul-id-2 shared-slice-read-id mul-wants add-wants add-wants-2 mul-wants-2 shared-slice-read-wants wants-requires add-i take-out-requires loop-less loop-again loop-less-2 loop-again-2 returns)
