@@ -10,7 +10,8 @@ ghost use Rattle.meaning.specs.Packets.{isType, sizeOf, candidate, followed, st
 ghost use Rattle.meaning.specs.Mmtp.{compressed, udp, offsetOf, mmtpHeader, mmtpOf};
 ghost use Rattle.tlv.specs.Answers.{asOffset, headerTo, extendedTo, HeaderIs, PartIs, PlacedIs, MmtpIs};
 ghost use Rattle.tlv.specs.Across.{headOf};
-ghost use Rattle.tlv.specs.Gaps.{LookedAt, FirstMark, NoStart, GapTo};
+ghost use Rattle.tlv.specs.Gaps.{isMark, nearType, mayStart, LookedAt, NoStart, Gap, GapTo};
+ghost use Rattle.meaning.specs.declared.Step.the-variants.{Skip};
 use meaning::Step;
 use octets::be16;
 use octets::id16;
@@ -181,7 +182,7 @@ pub fn next_across(held: &[u8], chunk: &[u8], most: usize) -> Step
 // Whether none of the 64 bytes from `at` on is 0x7F. All are looked at, with no way out, so that they are compared by vectors.
 fn quiet(run: &[u8], at: usize) -> bool
     requires { ⌜ at + 64 ≤ length (now run) ⌝ }
-    ensures { λ r. ⌜ LookedAt (now (run .entry)) at 64 r ⌝ }
+    ensures { λ r. ⌜ LookedAt (isMark (now (run .entry))) at 64 r ⌝ }
 {
     let mut none = true;
     let mut i: usize = 0;
@@ -194,14 +195,63 @@ fn quiet(run: &[u8], at: usize) -> bool
     none
 }
 
-// From `at` on past blocks of 64 bytes, none of them 0x7F. Three bytes more are left, so that a header fits at each byte.
-fn quiet_end(run: &[u8], at: usize) -> usize
+// 1 for 0x7F, else 0.
+fn mark(b: u8) -> u8
+    ensures { λ r. ⌜ r ≡ cond (eqb b 0x7F) 1 0 ⌝ }
+{
+    if b == 0x7F {
+        return 1;
+    }
+    0
+}
+
+// 1 for a type, and for 0, which spares a comparison; else 0.
+fn near_type(t: u8) -> u8
+    ensures { λ r. ⌜ r ≡ cond (nearType t) 1 0 ⌝ }
+{
+    if t < 4 {
+        return 1;
+    }
+    if 0xFE <= t {
+        return 1;
+    }
+    0
+}
+
+// Whether no packet starts at one of the 64 bytes from `at` on, by its first two bytes: with no way out, and numbers for answers, for the
+// same reason.
+fn barren(run: &[u8], at: usize) -> bool
+    requires { ⌜ at + 65 ≤ length (now run) ⌝ }
+    ensures { λ r. ⌜ LookedAt (mayStart (now (run .entry))) at 64 r ⌝ }
+{
+    let mut starts: u8 = 0;
+    let mut i: usize = 0;
+    while i < 64 {
+        starts += mark(run[at + i]) * near_type(run[at + i + 1]);
+        i += 1;
+    }
+    starts == 0
+}
+
+// Whether no packet starts in the block of 64 bytes from `at` on. Most blocks of a gap are quiet, which is told sooner.
+fn idle(run: &[u8], at: usize) -> bool
+    requires { ⌜ at + 65 ≤ length (now run) ⌝ }
+    ensures { λ r. ⌜ LookedAt (mayStart (now (run .entry))) at 64 r ⌝ }
+{
+    if quiet(run, at) {
+        return true;
+    }
+    barren(run, at)
+}
+
+// From `at` on past blocks in which no packet starts. Three bytes more are left, so that a header fits at each byte.
+fn blocks_end(run: &[u8], at: usize) -> usize
     requires { ⌜ at ≤ length (now run) ⌝ }
     ensures { λ r. ⌜ NoStart (now (run .entry)) at r ⌝ }
 {
     let mut to = at;
     while 67 <= run.len() - to {
-        if !quiet(run, to) {
+        if !idle(run, to) {
             return to;
         }
         to += 64;
@@ -209,43 +259,30 @@ fn quiet_end(run: &[u8], at: usize) -> usize
     to
 }
 
-// Where a byte stands in its block of 64, if it is 0x7F.
-fn mark_at(b: u8, i: u8) -> u8
-    ensures { λ r. ⌜ r ≡ cond (eqb b 0x7F) i 64 ⌝ }
+// From `at` on past bytes that start no packet, one by one, no further than `end`.
+fn bytes_end(run: &[u8], at: usize, end: usize, most: usize) -> usize
+    requires { ⌜ (at ≤ end) × (end ≤ length (now run)) ⌝ }
+    ensures { λ r. ⌜ (r ≤ end) × Gap most (now (run .entry)) at r × (r < end → stepOf most (drop r (now (run .entry))) ≡ Skip → ⊥) ⌝ }
 {
-    if b == 0x7F {
-        return i;
+    let mut to = at;
+    while to < end {
+        let Step::Skip = next(run, to, most) else {
+            return to;
+        };
+        to += 1;
     }
-    64
+    to
 }
 
-// The first 0x7F of the 64 bytes from `at` on, or 64: the least of their places, with no way out for the same reason.
-fn first_mark(run: &[u8], at: usize) -> u8
-    requires { ⌜ at + 64 ≤ length (now run) ⌝ }
-    ensures { λ r. ⌜ FirstMark (now (run .entry)) at 64 r ⌝ }
-{
-    let mut first: u8 = 64;
-    let mut i: u8 = 0;
-    while i < 64 {
-        let k = mark_at(run[at + (i as usize)], i);
-        if k < first {
-            first = k;
-        }
-        i += 1;
-    }
-    first
-}
-
-// From `at` on past bytes that are not 0x7F, to where a packet may start.
-fn mark_end(run: &[u8], at: usize) -> usize
+// The end of the block that starts at `at`.
+fn block_end(run: &[u8], at: usize) -> usize
     requires { ⌜ at ≤ length (now run) ⌝ }
-    ensures { λ r. ⌜ NoStart (now (run .entry)) at r ⌝ }
+    ensures { λ r. ⌜ (at ≤ r) × (r ≤ length (now (run .entry))) × (at < length (now (run .entry)) → at < r) ⌝ }
 {
-    let to = quiet_end(run, at);
-    if run.len() - to < 67 {
-        return to;
+    if run.len() - at < 64 {
+        return run.len();
     }
-    to + wide(first_mark(run, to))
+    at + 64
 }
 
 // Where the bytes that start no packet end, from `at` on.
@@ -253,12 +290,14 @@ pub fn gap_end(run: &[u8], at: usize, most: usize) -> usize
     requires { ⌜ at ≤ length (now run) ⌝ }
     ensures { λ r. ⌜ GapTo most (now (run .entry)) at r ⌝ }
 {
-    let mut to = mark_end(run, at);
+    let mut to = at;
     while to < run.len() {
-        let Step::Skip = next(run, to, most) else {
+        let from = blocks_end(run, to);
+        let end = block_end(run, from);
+        to = bytes_end(run, from, end, most);
+        if to < end {
             return to;
-        };
-        to = mark_end(run, to + 1);
+        }
     }
     to
 }

@@ -1,6 +1,7 @@
-use Rattle.tlv.proofs.GapLaws.{looked-begin, looked-mark, looked-next}
-use Rattle.tlv.specs.Gaps.{LookedAt}
+use Rattle.tlv.proofs.GapLaws.{looked-begin, looked-one, looked-next}
+use Rattle.tlv.specs.Gaps.{isMark, LookedAt}
 use native.Mathlib.Omega.{arith}
+use borrow.Author.Tests.{eq-eqb, ne-eqb}
 use mathlib.Core.Logic.{⊎-elim}
 use mathlib.Core.Path.{_≡_}
 use Prim.Native.Nat.{_-_, _≤_}
@@ -10,13 +11,13 @@ use Rattle.tlv.proofs.quiet.Reads as reads
 use Rattle.tlv.proofs.quiet.Lts as lts
 
 abbrev Inv-loop : tie.InvT-loop
-Inv-loop run at none₀ i₀ none i = (i ≤ 64) × LookedAt run at i none
+Inv-loop run at none₀ i₀ none i = (i ≤ 64) × LookedAt (isMark run) at i none
 
 abbrev μ-loop : tie.MeasureT-loop
 μ-loop run at none₀ i₀ none i = 64 - i
 
 loop-holds : tie.Need-loop-holds Inv-loop μ-loop
-loop-holds c = (omega arith, looked-begin (c .args .run .now) (c .args .at))
+loop-holds c = (omega arith, looked-begin (isMark (c .args .run .now)) (c .args .at))
 
 add-if1 : tie.Need-add-if1 Inv-loop μ-loop
 add-if1 c = omega arith
@@ -36,8 +37,8 @@ loop-again c =
     let a = c .before .before .before .before .args in (
       omega arith,
       ⊎-elim
-          (λ w. rw (w .1) (looked-mark (a .run .now) (a .at) (l .i) (w .0 .taken)))
-          (λ w. rw (w .1) (looked-next (a .run .now) (a .at) (l .i) (l .none) (w .0 .left) (l .inv .1)))
+          (λ w. rw (w .1) (looked-one (isMark (a .run .now)) (a .at) (l .i) (eq-eqb _ 0x7F (w .0 .taken))))
+          (λ w. rw (w .1) (looked-next (isMark (a .run .now)) (a .at) (l .i) (l .none) (ne-eqb _ 0x7F (w .0 .left)) (l .inv .1)))
           (c .if1 .came),
     )
 
