@@ -15,7 +15,7 @@ returns : tie.Need-returns
 returns c = rw (c .enum-told2 .given .1)
 
 returns-2 : tie.Need-returns-2
-returns-2 c = rw (c .enum-told .given .1)
+returns-2 c = rw (c .before .enum-told .given .1, c .with-failed .ensures)
 
 pub ended-spec : {M : Type 1} → statement M
-ended-spec = tie.close (tie.spec enum-told enum-told-2 returns returns-2)
+ended-spec = tie.close (tie.spec enum-told enum-told-2 returns with-failed-requires returns-2)
