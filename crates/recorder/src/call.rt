@@ -33,6 +33,7 @@ use octets::move_down;
 use passing::Progress;
 use passing::Terms;
 use passing::packets;
+use rules::first_drops;
 use soundness::copies_all;
 use soundness::packet_limit;
 use soundness::parts_sound;
@@ -137,16 +138,9 @@ fn completed(
     requires { ⌜ RoomFor e «held_count» (now chunk) (now work) (now out) × (t .limit ≡ packetLimit (length (now work))) × HoldingSome e (now «data_set») (now packages) (now «map_heads») (now «map_room») (now «fragment_heads») (now bodies) × (k ≤ length (now chunk)) × Parted (t .limit) (take «held_count» (now work) ++ take k (now chunk)) (drop k (now chunk)) ⌝ }
     ensures { λ r. ⌜ CarriesOut (λ L st. filtered L (t .options) st (now (chunk .entry))) (t .most) «held_count» e (now («data_set» .entry)) (now (packages .entry)) (now («map_heads» .entry)) (now («map_room» .entry)) (now («fragment_heads» .entry)) (now (bodies .entry)) (now (work .entry)) (now (out .entry)) r (now («data_set» .exit)) (now (packages .exit)) (now («map_heads» .exit)) (now («map_room» .exit)) (now («fragment_heads» .exit)) (now (bodies .exit)) (now (work .exit)) (now (out .exit)) ⌝ }
 {
-    let mut set = [0u64; 1024];
-    let s = decided(
-        e,
-        t.options,
-        data_set,
-        packages,
-        map_heads,
-        map_room,
-        &mut set,
-    );
+    let o = t.options;
+    let mut set = first_drops(o, data_set);
+    let s = decided(e, o, packages, map_heads, map_room, &mut set);
     let x = in_work_room(
         held_count,
         k,
@@ -198,16 +192,9 @@ fn together(
     requires { ⌜ RoomFor e «held_count» (now chunk) (now work) (now out) × (t .limit ≡ packetLimit (length (now work))) × HoldingSome e (now «data_set») (now packages) (now «map_heads») (now «map_room») (now «fragment_heads») (now bodies) ⌝ }
     ensures { λ r. ⌜ CarriesOut (λ L st. filtered L (t .options) st (now (chunk .entry))) (t .most) «held_count» e (now («data_set» .entry)) (now (packages .entry)) (now («map_heads» .entry)) (now («map_room» .entry)) (now («fragment_heads» .entry)) (now (bodies .entry)) (now (work .entry)) (now (out .entry)) r (now («data_set» .exit)) (now (packages .exit)) (now («map_heads» .exit)) (now («map_room» .exit)) (now («fragment_heads» .exit)) (now (bodies .exit)) (now (work .exit)) (now (out .exit)) ⌝ }
 {
-    let mut set = [0u64; 1024];
-    let s = decided(
-        e,
-        t.options,
-        data_set,
-        packages,
-        map_heads,
-        map_room,
-        &mut set,
-    );
+    let o = t.options;
+    let mut set = first_drops(o, data_set);
+    let s = decided(e, o, packages, map_heads, map_room, &mut set);
     let x = in_work_room(
         held_count,
         chunk.len(),

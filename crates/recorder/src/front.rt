@@ -1,13 +1,16 @@
 // The front of a call's run: what is done by what stands there, what is worked out before the first packet, and the packets that are put
 // together in the work room. Rests on `tlv` for the front, on `rules` and `passing` for the packets.
 ghost use mathlib.Core.Path.{_≡_};
+ghost use mathlib.Core.Bool.{_&&_, not};
 ghost use mathlib.Core.List.{_++_};
 ghost use Prim.Native.Nat.{_+_, _≤_};
 ghost use lib.ListN.{length, take};
 ghost use Rattle.meaning.specs.Writing.{Wrote};
+ghost use Rattle.meaning.specs.Sets.{Words, inSet};
 ghost use Rattle.meaning.specs.Calls.{countsOf};
 ghost use Rattle.meaning.specs.Learn.{Known};
 ghost use Rattle.learning.specs.Kept.{Keeps};
+ghost use Rattle.rules.specs.Changes.{SetIs};
 ghost use Rattle.passing.specs.Passing.{Fits, SofarSome, ScannedAs};
 ghost use Rattle.recorder.specs.Front.{frontBy, DecidedAs};
 use learning::Extent;
@@ -19,7 +22,7 @@ use passing::Progress;
 use passing::Scanned;
 use passing::Terms;
 use passing::packets;
-use rules::decide;
+use rules::decide_on;
 use rules::ready;
 
 // No packet is whole yet, and all is held; or so many bytes of the chunk complete the packet that the held bytes begin, and the rest is read
@@ -66,20 +69,19 @@ pub fn counts_of(bytes: usize) -> Counts
     }
 }
 
-// Before the first packet the drop set is worked out.
+// Before the first packet the drop set is worked out, from the set that the rules begin with.
 pub fn decided(
     e: Extent,
     o: Options,
-    data_set: &[u64; 1024],
     packages: &[u32; 255],
     map_heads: &[u32; 64],
     map_room: &[u16],
     set: &mut [u64; 1024],
 ) -> Progress
-    requires { ⌜ ((k : Known) × Keeps k e (now «data_set») (now packages) (now «map_heads») (now «map_room»)) ⌝ }
-    ensures { λ r. ⌜ DecidedAs o e (now («data_set» .entry)) (now (packages .entry)) (now («map_heads» .entry)) (now («map_room» .entry)) (now (set .exit)) r ⌝ }
+    requires { ⌜ ((k : Known) × (ds : Words) × Keeps k e ds (now packages) (now «map_heads») (now «map_room»)) × (length (now set) ≡ 1024) ⌝ }
+    ensures { λ r. ⌜ ((ds : Words) → SetIs (λ q. not (o .carousel) && inSet ds q) (now (set .entry)) → DecidedAs o e ds (now (packages .entry)) (now («map_heads» .entry)) (now («map_room» .entry)) (now (set .exit)) r) ⌝ }
 {
-    decide(o, e, data_set, packages, map_heads, map_room, set);
+    decide_on(o, e, packages, map_heads, map_room, set);
     let service = o.service;
     Progress {
         extent: e,

@@ -6,7 +6,7 @@ ghost use mathlib.Core.List.{List};
 ghost use mathlib.Core.Option.{some};
 ghost use lib.ListN.{length, drop};
 ghost use lib.Dec.{eqb};
-ghost use Rattle.meaning.specs.Sets.{inSet};
+ghost use Rattle.meaning.specs.Sets.{Words, inSet};
 ghost use Rattle.meaning.specs.Lists.{all, any};
 ghost use Rattle.meaning.specs.Tables.{kindOf};
 ghost use Rattle.meaning.specs.Wishes.{wanted, ours};
@@ -202,19 +202,38 @@ fn keep_packages(
     }
 }
 
-// With carousels off the data set is dropped.
-fn first_drops(o: Options, data_set: &[u64; 1024], set: &mut [u64; 1024])
+// The set that the rules begin with: with carousels off the data set is dropped.
+pub fn first_drops(o: Options, data_set: &[u64; 1024]) -> [u64; 1024]
     requires { ⌜ length (now «data_set») ≡ 1024 ⌝ }
-    ensures { λ _. ⌜ SetIs (λ q. not (o .carousel) && inSet (now («data_set» .entry)) q) (now (set .exit)) ⌝ }
+    ensures { λ r. ⌜ SetIs (λ q. not (o .carousel) && inSet (now («data_set» .entry)) q) r ⌝ }
 {
     if o.carousel {
-        *set = [0u64; 1024];
-    } else {
-        *set = *data_set;
+        return [0u64; 1024];
+    }
+    *data_set
+}
+
+// From there on: all that is dropped, then what is kept taken out, then identifier 0; EIT off drops 0x8000.
+pub fn decide_on(
+    o: Options,
+    e: Extent,
+    packages: &[u32; 255],
+    map_heads: &[u32; 64],
+    map_room: &[u16],
+    set: &mut [u64; 1024],
+)
+    requires { ⌜ ((k : Known) × (ds : Words) × Keeps k e ds (now packages) (now «map_heads») (now «map_room»)) × (length (now set) ≡ 1024) ⌝ }
+    ensures { λ _. ⌜ ((k : Known) (ds : Words) → Keeps k e ds (now (packages .entry)) (now («map_heads» .entry)) (now («map_room» .entry)) → SetIs (λ q. not (o .carousel) && inSet ds q) (now (set .entry)) → SetIs (drops o k) (now (set .exit))) ⌝ }
+{
+    drop_packages(o, e, packages, map_heads, map_room, set);
+    keep_packages(o, e, packages, map_heads, map_room, set);
+    remove(set, 0);
+    if !o.eit {
+        insert(set, 0x8000);
     }
 }
 
-// The identifiers that the rules drop: all that is dropped, then what is kept taken out, then identifier 0; EIT off drops 0x8000.
+// The identifiers that the rules drop.
 pub fn decide(
     o: Options,
     e: Extent,
@@ -227,13 +246,9 @@ pub fn decide(
     requires { ⌜ ((k : Known) × Keeps k e (now «data_set») (now packages) (now «map_heads») (now «map_room»)) ⌝ }
     ensures { λ _. ⌜ ((k : Known) → Keeps k e (now («data_set» .entry)) (now (packages .entry)) (now («map_heads» .entry)) (now («map_room» .entry)) → SetIs (drops o k) (now (set .exit))) ⌝ }
 {
-    first_drops(o, data_set, set);
-    drop_packages(o, e, packages, map_heads, map_room, set);
-    keep_packages(o, e, packages, map_heads, map_room, set);
-    remove(set, 0);
-    if !o.eit {
-        insert(set, 0x8000);
-    }
+    let first = first_drops(o, data_set);
+    *set = first;
+    decide_on(o, e, packages, map_heads, map_room, set);
 }
 
 // Whether each package's MPT has its list.

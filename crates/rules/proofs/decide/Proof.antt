@@ -1,83 +1,15 @@
-use Rattle.meaning.specs.Learn.{Known}
-use Rattle.meaning.specs.Rules.{inDropSet}
-use Rattle.learning.specs.Kept.{Keeps}
-use Rattle.rules.specs.Changes.{SetIs, Removes}
-use Rattle.rules.proofs.MemberLaws.{inserts-one, removes-one}
-use Rattle.rules.proofs.KnownRules.{packages-there, map-lists-there, decided, eit-kept, eit-dropped}
-use borrow.Author.Tests.{not-true, not-false}
-use native.Mathlib.Omega.{arith}
-use lib.Dec.{eqb}
 use borrow.Author.Needs.{needs}
 use Rattle.rules.proofs.decide.Statement.{statement}
 use Rattle.rules.proofs.decide.Tie as tie
-use Rattle.rules.proofs.decide.Reads as reads
-use Rattle.rules.proofs.decide.Lts as lts
-use Rattle.octets.proofs.insert.Reads as insert-reads
-use Rattle.octets.proofs.remove.Reads as remove-reads
-use Rattle.rules.proofs.drop_packages.Reads as drop-packages-reads
-use Rattle.rules.proofs.first_drops.Reads as first-drops-reads
-use Rattle.rules.proofs.keep_packages.Reads as keep-packages-reads
 
 first-drops-requires : tie.Need-first-drops-requires
 first-drops-requires c κs = search needs
 
-drop-packages-requires : tie.Need-drop-packages-requires
-drop-packages-requires c κs =
-    let h = c .before .before .before .before .pre .1 in
-    (packages-there h, map-lists-there h, c .before .first-drops .ensures .all-words)
-
-keep-packages-requires : tie.Need-keep-packages-requires
-keep-packages-requires c κs =
-    let h = c .before .before .before .before .before .before .pre .1 in
-    (packages-there h, map-lists-there h, c .before .drop-packages .ensures .all-words)
-
-remove-requires : tie.Need-remove-requires
-remove-requires c κs = search needs
-
-insert-requires : tie.Need-insert-requires
-insert-requires c κs = search needs
-
--- before EIT's wish: what is known drops
-known-dropped : (m : lts.After-remove (
-  first-drops-reads.Asked,
-  first-drops-reads.Learnt,
-  drop-packages-reads.Asked,
-  drop-packages-reads.Learnt,
-  keep-packages-reads.Asked,
-  keep-packages-reads.Learnt,
-  remove-reads.Asked,
-  remove-reads.Learnt,
-  insert-reads.Asked,
-  insert-reads.Learnt,
-) reads.Pre reads.Post) (k : Known) → let a = m .before .before .before .before .before .before .before .before .before .args in
-    Keeps k (a .e) (a .data-set .now) (a .packages .now) (a .map-heads .now) (a .map-room .now) → SetIs (inDropSet (a .o) k) (m .remove .last .0)
-known-dropped m k h =
-    let a = m .before .before .before .before .before .before .before .before .before .args in
-    let kept = m .before .before .keep-packages in
-    let z : Removes (eqb 0) (kept .last .1 .1 .1 .1 .1 .0) (m .remove .last .0) = rw (m .remove .ensures) (removes-one _ 0 (kept .ensures .all-words) (omega arith)) in
-    decided h (a .o) (m .before .before .before .before .before .before .first-drops .ensures) (m .before .before .before .before .drop-packages .ensures) (kept .ensures) z
+decide-on-requires : tie.Need-decide-on-requires
+decide-on-requires c κs = let p = c .before .before .before .pre in ((p .0, _, p .1), c .before .first-drops .ensures .all-words)
 
 returns : tie.Need-returns
-returns c =
-    let m = c .before .before .before .before in
-    let o = m .before .before .before .before .before .before .before .before .before .args .o in
-    λ k h. let s = known-dropped m k h in
-    eit-dropped h o (not-true _ (c .before .before .if1 .taken)) s (rw (c .insert .ensures) (inserts-one (m .remove .last .0) 0x8000 (s .all-words) (omega arith)))
-
-returns-2 : tie.Need-returns-2
-returns-2 c =
-    let m = c .before .before in
-    let o = m .before .before .before .before .before .before .before .before .before .args .o in
-    λ k h. eit-kept h o (not-false _ (c .if1 .left)) (known-dropped m k h)
+returns c = λ k h. c .decide-on .ensures k _ h (c .before .before .first-drops .ensures)
 
 pub decide-spec : {M : Type 1} → statement M
-decide-spec =
-    tie.close
-    (tie.spec
-    first-drops-requires
-    drop-packages-requires
-    keep-packages-requires
-    remove-requires
-    insert-requires
-    returns
-    returns-2)
+decide-spec = tie.close (tie.spec first-drops-requires decide-on-requires returns)
