@@ -4,6 +4,7 @@ use Prim.Native.Nat.{ℕ, _+_, _-_, _≤_}
 use mathlib.Core.Path.{_≡_, refl, sym, ap, _∙_, subst}
 use mathlib.Core.List.{List, [], _++_, append-assoc, append-nil}
 use native.Mathlib.Omega.{arith}
+use native.Mathlib.Nat.{sub-zero}
 use lib.ListN.{length, drop}
 use Rattle.meaning.specs.Bytes.{Bytes}
 use Rattle.meaning.specs.Sets.{Words}
@@ -68,14 +69,14 @@ pub record SameRooms (x y : Machine) : Type 0 where
 
 -- ---- the loop
 
-pub record Going (run : Bytes) (from : ℕ) (t : Terms) (first now′ : Machine) (at : ℕ) : Type 0 where
+pub record Going (run : Bytes) (t : Terms) (first now′ : Machine) (at : ℕ) : Type 0 where
   pub packets : List Bytes
   pub skipped : ℕ
   pub inside : at ≤ length run
-  pub cut-is : cut (t .limit) (drop from run) ≡ ahead packets skipped (cut (t .limit) (drop at run))
+  pub cut-is : cut (t .limit) run ≡ ahead packets skipped (cut (t .limit) (drop at run))
   pub moved : Moves packets skipped t first now′
   pub fits : Fits (now′ .progress) (length run - at) (length (now′ .out))
-  pub fits-more : FitsMore (first .progress) (length run - from) (length (first .out)) (now′ .progress) (length run - at) (length (now′ .out))
+  pub fits-more : FitsMore (first .progress) (length run) (length (first .out)) (now′ .progress) (length run - at) (length (now′ .out))
   pub begun : StandsSome t first
   pub same : SameRooms first now′
 
@@ -94,23 +95,23 @@ ahead-ahead ps qs n m c =
     let z : n + (m + c .skipped) ≡ n + m + c .skipped = omega arith in
     λ i. record { packets = p i; skipped = z i; held = c .held }
 
-module _ (run : Bytes) (from : ℕ) (t : Terms) (x : Machine) where
-  pub going-begin : from ≤ length run → Fits (x .progress) (length run - from) (length (x .out)) → StandsSome t x → Going run from t x x from
-  going-begin h f b = record {
+module _ (run : Bytes) (t : Terms) (x : Machine) where
+  pub going-begin : Fits (x .progress) (length run) (length (x .out)) → StandsSome t x → Going run t x x 0
+  going-begin f b = record {
     packets = [];
     skipped = 0;
-    inside = h;
-    cut-is = ahead-none (cut (t .limit) (drop from run));
+    inside = omega arith;
+    cut-is = ahead-none (cut (t .limit) run);
     moved = moves-none t x;
-    fits = f;
-    fits-more = λ m h. h;
+    fits = subst (λ (n : ℕ). Fits (x .progress) n (length (x .out))) (sym (sub-zero (length run))) f;
+    fits-more = λ m h. subst (λ (n : ℕ). Fits (x .progress) (n + m) (length (x .out))) (sym (sub-zero (length run))) h;
     begun = b;
     same = record { map-room-same = refl; bodies-same = refl; out-same = refl };
   }
 
   module _ (y z : Machine) (at to : ℕ) (qs : List Bytes) (m : ℕ) where
-    pub going-on : Going run from t x y at → to ≤ length run → cut (t .limit) (drop at run) ≡ ahead qs m (cut (t .limit) (drop to run)) → Moves qs m t y z
-        → FitsMore (y .progress) (length run - at) (length (y .out)) (z .progress) (length run - to) (length (z .out)) → SameRooms y z → Going run from t x z to
+    pub going-on : Going run t x y at → to ≤ length run → cut (t .limit) (drop at run) ≡ ahead qs m (cut (t .limit) (drop to run)) → Moves qs m t y z
+        → FitsMore (y .progress) (length run - at) (length (y .out)) (z .progress) (length run - to) (length (z .out)) → SameRooms y z → Going run t x z to
     going-on g h c v f s = record {
       packets = g .packets ++ qs;
       skipped = g .skipped + m;
@@ -128,21 +129,21 @@ module _ (run : Bytes) (from : ℕ) (t : Terms) (x : Machine) where
     }
 
   -- what the arrays hold in between
-  pub going-some : (y : Machine) (at : ℕ) → Going run from t x y at → StandsSome t y
+  pub going-some : (y : Machine) (at : ℕ) → Going run t x y at → StandsSome t y
   going-some y at g =
       let b = g .begun in
       (b .0, b .1, b .2, b .3 ++ g .packets, b .4 + g .skipped, b .5, g .moved (b .0) (b .1) (b .2) (b .3) (b .4) (b .5) (b .6))
 
   -- the end: the rest is kept
-  pub going-done : (y : Machine) (at : ℕ) → Going run from t x y at → stepOf (t .limit) (drop at run) ≡ Keep
-      → ScannedAs run from t (x .progress) (x .data-set) (x .packages) (x .map-heads) (x .map-room) (x .fragment-heads) (x .bodies) (x .set) (x .out)
+  pub going-done : (y : Machine) (at : ℕ) → Going run t x y at → stepOf (t .limit) (drop at run) ≡ Keep
+      → ScannedAs run t (x .progress) (x .data-set) (x .packages) (x .map-heads) (x .map-room) (x .fragment-heads) (x .bodies) (x .set) (x .out)
       (record { progress = y .progress; at = at }) (y .data-set) (y .packages) (y .map-heads) (y .map-room) (y .fragment-heads) (y .bodies) (y .set) (y .out)
   going-done y at g e =
-      let c : cut (t .limit) (drop from run) ≡ ahead (g .packets) (g .skipped) (hold (drop at run)) = g .cut-is ∙ ap (ahead (g .packets) (g .skipped)) (cut-keep (t .limit) (drop at run) e) in
-      let p : g .packets ≡ cut (t .limit) (drop from run) .packets = sym (append-nil (g .packets)) ∙ sym (ap (λ (z : Cut). z .packets) c) in
-      let s : g .skipped ≡ cut (t .limit) (drop from run) .skipped = (let w : g .skipped ≡ g .skipped + 0 = omega arith in w) ∙ sym (ap (λ (z : Cut). z .skipped) c) in (
+      let c : cut (t .limit) run ≡ ahead (g .packets) (g .skipped) (hold (drop at run)) = g .cut-is ∙ ap (ahead (g .packets) (g .skipped)) (cut-keep (t .limit) (drop at run) e) in
+      let p : g .packets ≡ cut (t .limit) run .packets = sym (append-nil (g .packets)) ∙ sym (ap (λ (z : Cut). z .packets) c) in
+      let s : g .skipped ≡ cut (t .limit) run .skipped = (let w : g .skipped ≡ g .skipped + 0 = omega arith in w) ∙ sym (ap (λ (z : Cut). z .skipped) c) in (
         λ L k d ps n q u.
-            subst (λ (l : List Bytes). Stands L (t .options) k d (ps ++ l) (n + cut (t .limit) (drop from run) .skipped) y) p
+            subst (λ (l : List Bytes). Stands L (t .options) k d (ps ++ l) (n + cut (t .limit) run .skipped) y) p
             (subst (λ (i : ℕ). Stands L (t .options) k d (ps ++ g .packets) (n + i) y) s (g .moved L k d ps n q u)),
         sym (ap (λ (z : Cut). z .held) c),
         g .inside,

@@ -204,11 +204,11 @@ module _ (run : Bytes) (from : ℕ) (t : Terms) (set : Words) where
 
 -- ---- the run goes on
 
-module _ (run : Bytes) (from : ℕ) (t : Terms) (x y : Machine) (at : ℕ) (g : Going run from t x y at) where
+module _ (run : Bytes) (t : Terms) (x y : Machine) (at : ℕ) (g : Going run t x y at) where
   pub going-along : (r : Progress) (to : ℕ) (out′ : Bytes) → Along run at t (y .progress) (y .set) (y .out) r to out′ → length out′ ≡ length (y .out)
-      → Going run from t x (withOut y r out′) to
+      → Going run t x (withOut y r out′) to
   going-along r to out′ h l =
-      going-on run from t x y (withOut y r out′) at to (h .packets) (h .skipped) g (h .inside) (h .cut-is)
+      going-on run t x y (withOut y r out′) at to (h .packets) (h .skipped) g (h .inside) (h .cut-is)
       (h .moved (y .data-set) (y .packages) (y .map-heads) (y .map-room) (y .fragment-heads) (y .bodies)) (h .fits-more) (record { map-room-same = refl; bodies-same = refl; out-same = l })
 
   -- the bytes still to come are the packet's and those behind it
@@ -233,6 +233,6 @@ module _ (run : Bytes) (from : ℕ) (t : Terms) (x y : Machine) (at : ℕ) (g : 
 
   pub going-signal : (z : Machine) (end : ℕ) → PacketTo (t .limit) run at end → Moves (packetAt run at end ∷ []) 0 t y z
       → ((m : ℕ) → Fits (y .progress) (length (packetAt run at end) + m) (length (y .out)) → Fits (z .progress) m (length (z .out))) → SameRooms y z
-      → Going run from t x z end
+      → Going run t x z end
   going-signal z end p v f s =
-      going-on run from t x y z at end (packetAt run at end ∷ []) 0 g (p .inside) (packet-cut (t .limit) run at end p) v (λ m h. f (length run - end + m) (signal-fits end p m h)) s
+      going-on run t x y z at end (packetAt run at end ∷ []) 0 g (p .inside) (packet-cut (t .limit) run at end p) v (λ m h. f (length run - end + m) (signal-fits end p m h)) s

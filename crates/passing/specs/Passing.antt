@@ -132,11 +132,11 @@ pub record Along (run : Bytes) (from : ℕ) (t : Terms) (s : Progress) (set : Wo
 
 -- ---- a run
 
--- All packets of the run from an offset on, and where the bytes to keep begin.
-abbrev pub ScannedAs : Bytes → ℕ → Terms → Progress → List ℕ → List ℕ → List ℕ → List ℕ → List ℕ → Bytes → Words → Bytes
+-- All its packets, and where the bytes to keep begin.
+abbrev pub ScannedAs : Bytes → Terms → Progress → List ℕ → List ℕ → List ℕ → List ℕ → List ℕ → Bytes → Words → Bytes
     → Scanned → List ℕ → List ℕ → List ℕ → List ℕ → List ℕ → Bytes → Words → Bytes → Type 0
-ScannedAs run from t s data-set packages map-heads map-room fragment-heads bodies set out r data-set′ packages′ map-heads′ map-room′ fragment-heads′ bodies′ set′ out′ =
-    SofarAfter (cut (t .limit) (drop from run) .packets) (cut (t .limit) (drop from run) .skipped) t s data-set packages map-heads map-room fragment-heads bodies set out
+ScannedAs run t s data-set packages map-heads map-room fragment-heads bodies set out r data-set′ packages′ map-heads′ map-room′ fragment-heads′ bodies′ set′ out′ =
+    SofarAfter (cut (t .limit) run .packets) (cut (t .limit) run .skipped) t s data-set packages map-heads map-room fragment-heads bodies set out
     (r .progress) data-set′ packages′ map-heads′ map-room′ fragment-heads′ bodies′ set′ out′
-    × (drop (r .at) run ≡ cut (t .limit) (drop from run) .held) × (r .at ≤ length run)
-    × FitsMore s (length run - from) (length out) (r .progress) (length run - r .at) (length out′)
+    × (drop (r .at) run ≡ cut (t .limit) run .held) × (r .at ≤ length run)
+    × FitsMore s (length run) (length out) (r .progress) (length run - r .at) (length out′)

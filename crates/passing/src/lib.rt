@@ -422,10 +422,9 @@ fn scanned_to(x: Stretch) -> Scanned
     }
 }
 
-// The packets of a run from `from` on.
+// The packets of a run.
 pub fn packets(
     run: &[u8],
-    from: usize,
     first: Progress,
     t: Terms,
     data_set: &mut [u64; 1024],
@@ -437,11 +436,11 @@ pub fn packets(
     set: &mut [u64; 1024],
     out: &mut [u8],
 ) -> Scanned
-    requires { ⌜ (from ≤ length (now run)) × Fits first (length (now run) - from) (length (now out)) × SofarSome t first (now «data_set») (now packages) (now «map_heads») (now «map_room») (now «fragment_heads») (now bodies) (now set) (now out) ⌝ }
-    ensures { λ r. ⌜ ScannedAs (now (run .entry)) from t first (now («data_set» .entry)) (now (packages .entry)) (now («map_heads» .entry)) (now («map_room» .entry)) (now («fragment_heads» .entry)) (now (bodies .entry)) (now (set .entry)) (now (out .entry)) r (now («data_set» .exit)) (now (packages .exit)) (now («map_heads» .exit)) (now («map_room» .exit)) (now («fragment_heads» .exit)) (now (bodies .exit)) (now (set .exit)) (now (out .exit)) ⌝ }
+    requires { ⌜ Fits first (length (now run)) (length (now out)) × SofarSome t first (now «data_set») (now packages) (now «map_heads») (now «map_room») (now «fragment_heads») (now bodies) (now set) (now out) ⌝ }
+    ensures { λ r. ⌜ ScannedAs (now (run .entry)) t first (now («data_set» .entry)) (now (packages .entry)) (now («map_heads» .entry)) (now («map_room» .entry)) (now («fragment_heads» .entry)) (now (bodies .entry)) (now (set .entry)) (now (out .entry)) r (now («data_set» .exit)) (now (packages .exit)) (now («map_heads» .exit)) (now («map_room» .exit)) (now («fragment_heads» .exit)) (now (bodies .exit)) (now (set .exit)) (now (out .exit)) ⌝ }
 {
     let mut s = first;
-    let mut at = from;
+    let mut at: usize = 0;
     loop {
         let x = plain_packets(run, at, s, t, set, out);
         let ahead = x.ahead;

@@ -5,7 +5,7 @@ use mathlib.Core.Path.{_≡_, refl, sym, ap, _∙_, subst}
 use mathlib.Core.Bool.{true, false}
 use mathlib.Core.List.{List, [], _∷_, _++_, flatten, append-assoc, append-nil}
 use native.Mathlib.Omega.{arith}
-use lib.ListN.{length, take, drop, length-drop, take-append-drop}
+use lib.ListN.{length, take, drop, length-drop, length-append, take-append-drop}
 use lib.Seq.{length-take-le, take-nil}
 use native.Mathlib.Nat.{sub-zero, zero-sub, suc-sub-suc}
 use Rattle.meaning.specs.Bytes.{Bytes}
@@ -25,12 +25,12 @@ use Rattle.observing.specs.Observed.{Holding, HoldingSome}
 use Rattle.learning.specs.declared.Extent.{Extent}
 use Rattle.passing.specs.declared.Terms.{Terms}
 use Rattle.passing.specs.declared.Progress.{Progress}
-use Rattle.passing.specs.Verdicts.{ahead}
 use Rattle.passing.specs.Passing.{Fits, FitsMore, Sofar, SofarSome}
 use Rattle.meaning.proofs.Writes.{wrote-none}
 use Rattle.passing.proofs.WholeLaws.{begun, begins, ended, ends, held-same, begins-fit}
+use Rattle.recorder.specs.declared.call.InParts.{InParts}
 use Rattle.recorder.specs.declared.call.CarriedOut.{CarriedOut}
-use Rattle.recorder.specs.Front.{Parted, DecidedAs}
+use Rattle.recorder.specs.Front.{joined, Parted, DecidedAs, PartsPassed, endedOf, HeldOn}
 use Rattle.recorder.specs.Calls.{CarriedOutAs}
 
 -- ---- the work room
@@ -41,13 +41,21 @@ drop-take (suc a) zero l = ap (λ (m : ℕ). take m (drop (suc a) l)) (sym (zero
 drop-take (suc a) (suc n) [] = sym (take-nil (suc n - suc a))
 drop-take (suc a) (suc n) (x ∷ l) = drop-take a n l ∙ ap (λ (m : ℕ). take m (drop a l)) (sym (suc-sub-suc n a))
 
--- The rest of a run, moved to the front: chunk was written behind the held bytes, up to n, and `at` is where the bytes to keep begin.
-module _ (held-count n at r : ℕ) (chunk work work₁ work₂ : Bytes) (w : Wrote chunk work held-count work₁ n) (fit : n ≤ length work₁)
-    (v : Wrote (take (n - at) (drop at work₁)) work₁ 0 work₂ r) (inside : at ≤ n) where
-  pub kept-is : take (n - at) work₂ ≡ drop at (take held-count work ++ chunk)
-  kept-is =
-      let end : r ≡ n - at = omega (arith, v .end, length-take-le (n - at) (drop at work₁) (omega (arith, length-drop at work₁))) in
-      ap (λ (m : ℕ). take m work₂) (sym end) ∙ v .front ∙ sym (drop-take at n work₁) ∙ ap (drop at) (w .front)
+-- What is left of both parts, one behind the other: of the first n bytes of the work room from `at` on, then `rest`.
+module _ (n at r m : ℕ) (rest work work₁ work₂ : Bytes) (inside : at ≤ n) (fit : n ≤ length work) (v : Wrote (take (n - at) (drop at work)) work 0 work₁ r) (w : Wrote rest work₁ (n - at) work₂ m) where
+  left-length : length (drop at (take n work)) ≡ n - at
+  left-length = let z : length (drop at (take n work)) ≡ length (take n work) - at = length-drop at (take n work) in omega (arith, z, length-take-le n work fit)
+
+  moved-is : take (n - at) work₁ ≡ drop at (take n work)
+  moved-is =
+      let end : r ≡ n - at = omega (arith, v .end, length-take-le (n - at) (drop at work) (omega (arith, length-drop at work))) in
+      ap (λ (i : ℕ). take i work₁) (sym end) ∙ v .front ∙ sym (drop-take at n work)
+
+  pub left-is : take m work₂ ≡ drop at (take n work) ++ rest
+  left-is = w .front ∙ ap (λ (l : Bytes). l ++ rest) moved-is
+
+  pub left-count : m ≡ length (drop at (take n work) ++ rest)
+  left-count = let z : m ≡ length (drop at (take n work)) + length rest = omega (arith, w .end, left-length) in z ∙ sym (length-append (drop at (take n work)) rest)
 
 -- ---- a call begins
 
@@ -69,12 +77,24 @@ module _ (t : Terms) (e : Extent) (first : Progress) (data-set packages map-head
   pub call-fits : (n : ℕ) → n ≤ 131078 → n ≤ length out → Fits first n (length out)
   call-fits n few h = subst (λ (x : Progress). Fits x n (length out)) (sym begun-is) (begins-fit e (first .ready) n (length out) lost h few)
 
--- Once a first run has held nothing back, there is room for m bytes behind it.
-pub rest-fits : {s r : Progress} {l l′ : ℕ} (run : Bytes) (at m : ℕ) → FitsMore s (length run - 0) l r (length run - at) l′ → drop at run ≡ [] → Fits s (length run + m) l → Fits r m l′
-rest-fits {s} {r} {l} {l′} run at m f d h =
-    let a : length run + m ≡ length run - 0 + m = omega arith in
-    let b : length run - at + m ≡ m = omega (arith, length-drop at run, ap length d) in
-    subst (λ (n : ℕ). Fits r n l′) b (f m (subst (λ (n : ℕ). Fits s n l) a h))
+fits-less : {s : Progress} {l : ℕ} (n m : ℕ) → Fits s (n + m) l → Fits s m l
+fits-less n m f = record {
+  bytes-fit = omega (arith, f .bytes-fit);
+  accepted-fit = omega (arith, f .accepted-fit);
+  written-fit = omega (arith, f .written-fit);
+  rewritten-fit = omega (arith, f .rewritten-fit);
+  skipped-fit = omega (arith, f .skipped-fit);
+  lost-fit = omega (arith, f .lost-fit);
+}
+
+-- Behind a first part there is room for the second, whatever is left of the first.
+pub rest-fits : {s r : Progress} {l l′ : ℕ} (n n′ m : ℕ) → FitsMore s n l r n′ l′ → Fits s (n + m) l → Fits r m l′
+rest-fits n n′ m f h = fits-less n′ m (f m h)
+
+pub sofar-skipped : {L : Limits} {o : Options} {k : Known} {d : Bytes} {ps : List Bytes} {n m : ℕ} {s : Progress} {data-set packages map-heads map-room fragment-heads : List ℕ} {bodies : Bytes} {set : Words} {out : Bytes}
+    → n ≡ m → Sofar L o k d ps n s data-set packages map-heads map-room fragment-heads bodies set out → Sofar L o k d ps m s data-set packages map-heads map-room fragment-heads bodies set out
+sofar-skipped {L} {o} {k} {d} {ps} {n} {m} {s} {data-set} {packages} {map-heads} {map-room} {fragment-heads} {bodies} {set} {out} e f =
+    subst (λ (i : ℕ). Sofar L o k d ps i s data-set packages map-heads map-room fragment-heads bodies set out) e f
 
 pub run-parts : (held chunk : Bytes) (k : ℕ) → held ++ chunk ≡ (held ++ take k chunk) ++ drop k chunk
 run-parts held chunk k = ap (λ (l : Bytes). held ++ l) (sym (take-append-drop k chunk)) ∙ sym (append-assoc held (take k chunk) (drop k chunk))
@@ -100,20 +120,35 @@ module _ (L : Limits) (t : Terms) (k : Known) (held chunk out out′ : Bytes) (W
       subst (λ (z : CarriedOut). CarriedOutAs L (filtered L o (record { held = held; known = k }) chunk) out z data-set packages map-heads map-room fragment-heads bodies work out′) (sym e)
       (record { holding = y .holding; held-is = ap length h; held-bytes = d ∙ h; counts-are = y .counts-are; written = y .written })
 
-  -- in two parts, the second of them in the chunk
+  -- in two parts
   pub parts-end : (a b : Bytes) → held ++ chunk ≡ a ++ b → Parted (t .limit) a b
-      → Sofar L o k out (([] ++ cut (t .limit) a .packets) ++ cut (t .limit) b .packets) (0 + cut (t .limit) a .skipped + cut (t .limit) b .skipped) p data-set packages map-heads map-room fragment-heads bodies set out′
-      → x ≡ record { extent = p .extent; counts = ended L o k out p; «held_count» = length (cut (t .limit) b .held) }
-      → take (length (cut (t .limit) b .held)) work ≡ cut (t .limit) b .held
+      → Sofar L o k out (joined (cut (t .limit) a) (cut (t .limit) b) .packets) (joined (cut (t .limit) a) (cut (t .limit) b) .skipped) p data-set packages map-heads map-room fragment-heads bodies set out′
+      → x ≡ endedOf p (length (joined (cut (t .limit) a) (cut (t .limit) b) .held))
+      → take (x .«held_count») work ≡ joined (cut (t .limit) a) (cut (t .limit) b) .held
       → CarriedOutAs L (filtered L o (record { held = held; known = k }) chunk) out x data-set packages map-heads map-room fragment-heads bodies work out′
   parts-end a b s h f e d =
-      let c : all ≡ ahead (cut (t .limit) a .packets) (cut (t .limit) a .skipped) (cut (t .limit) b) = ap (cut (t .limit)) s ∙ h .cut-is in
-      let u : 0 + cut (t .limit) a .skipped + cut (t .limit) b .skipped ≡ 0 + (cut (t .limit) a .skipped + cut (t .limit) b .skipped) = omega arith in
+      let c : all ≡ joined (cut (t .limit) a) (cut (t .limit) b) = ap (cut (t .limit)) s ∙ h in
       call-ends
       (subst (λ (z : Cut). Sofar L o k out (z .packets) (0 + z .skipped) p data-set packages map-heads map-room fragment-heads bodies set out′) (sym c)
-      (subst (λ (n : ℕ). Sofar L o k out (cut (t .limit) a .packets ++ cut (t .limit) b .packets) n p data-set packages map-heads map-room fragment-heads bodies set out′) u f))
-      (e ∙ ap (λ (z : Cut). record { extent = p .extent; counts = ended L o k out p; «held_count» = length (z .held) }) (sym c))
-      (subst (λ (z : Bytes). take (length z) work ≡ z) (ap (λ (z : Cut). z .held) (sym c)) d)
+      (let u : joined (cut (t .limit) a) (cut (t .limit) b) .skipped ≡ 0 + joined (cut (t .limit) a) (cut (t .limit) b) .skipped = omega arith in sofar-skipped u f))
+      (e ∙ ap (λ (z : Cut). endedOf p (length (z .held))) (sym c))
+      (subst (λ (z : Bytes). take (length z) work ≡ z) (ap (λ (z : Cut). z .held) (sym c)) (ap (λ (n : ℕ). take n work) (sym (ap (λ (z : CarriedOut). z .«held_count») e)) ∙ d))
+
+-- the first of them at the front of the work room, and what is left of both held
+module _ (L : Limits) (t : Terms) (k : Known) (held chunk first second out out′ work₁ work′ : Bytes) (W n : ℕ) (e : Extent)
+    (data-set packages map-heads map-room fragment-heads : List ℕ) (bodies : Bytes) (data-set′ packages′ map-heads′ map-room′ fragment-heads′ : List ℕ) (bodies′ : Bytes) (x : InParts) (r : CarriedOut) where
+  pub parts-carried : t .limit ≡ packetLimit W → L .work ≡ W → L .most ≡ t .most → held ++ chunk ≡ first ++ second → Parted (t .limit) first second → take n work₁ ≡ first
+      → Holding (L .total) k e data-set packages map-heads map-room fragment-heads bodies
+      → PartsPassed first second t e data-set packages map-heads map-room fragment-heads bodies out x data-set′ packages′ map-heads′ map-room′ fragment-heads′ bodies′ out′
+      → HeldOn x n second work₁ r work′
+      → CarriedOutAs L (filtered L (t .options) (record { held = held; known = k }) chunk) out r data-set′ packages′ map-heads′ map-room′ fragment-heads′ bodies′ work′ out′
+  parts-carried limit same most run apart front h passed on =
+      let s = passed .passed L k most h in
+      let left : drop (x .«first_at») (take n work₁) ++ drop (x .«second_at») second ≡ cut (t .limit) first .held ++ cut (t .limit) second .held =
+      ap (λ (l : Bytes). drop (x .«first_at») l ++ drop (x .«second_at») second) front ∙ ap (λ (l : Bytes). l ++ drop (x .«second_at») second) (passed .first-left)
+      ∙ ap (λ (l : Bytes). cut (t .limit) first .held ++ l) (passed .second-left) in
+      parts-end L t k held chunk out out′ W limit same (x .progress) data-set′ packages′ map-heads′ map-room′ fragment-heads′ bodies′ (s .0) r work′ first second run apart (s .1)
+      (on .ended-is ∙ ap (λ (l : Bytes). endedOf (x .progress) (length l)) left) (on .held-bytes ∙ left)
 
 -- no packet is whole: nothing is written, counted or learned
 pub held-ends : (L : Limits) (o : Options) (k : Known) (held chunk out work : Bytes) (W P : ℕ) (e : Extent) (x : CarriedOut) (data-set packages map-heads map-room fragment-heads : List ℕ) (bodies : Bytes)

@@ -1,27 +1,24 @@
 // A call that is not refused: in copy-all the chunk is copied, else held bytes and chunk are one run, and its packets are passed: those that
 // the held bytes begin in the work room, all others where they stand in the chunk. Rests on `front` and on `passing`.
 ghost use mathlib.Core.Path.{_≡_};
-ghost use Prim.Native.Nat.{_+_, _-_, _≤_};
+ghost use Prim.Native.Nat.{_+_, _≤_};
 ghost use mathlib.Core.Bool.{true, cond};
-ghost use mathlib.Core.List.{_++_};
 ghost use lib.Dec.{eqb};
-ghost use lib.ListN.{length, take, drop};
+ghost use lib.ListN.{length};
 ghost use Rattle.meaning.specs.Writing.{Wrote};
 ghost use Rattle.meaning.specs.Wishes.{copiesAll};
 ghost use Rattle.meaning.specs.Rooms.{packetLimit};
 ghost use Rattle.meaning.specs.Refusals.{answerNumber};
 ghost use Rattle.meaning.specs.Calls.{countsOf};
-ghost use Rattle.meaning.specs.Push.{filtered, push, lengthRefusal};
+ghost use Rattle.meaning.specs.Push.{push, lengthRefusal};
 ghost use Rattle.observing.specs.Observed.{HoldingSome};
 ghost use Rattle.soundness.specs.Parts.{limitsOf, partsSound};
-ghost use Rattle.passing.specs.Passing.{Fits, SofarSome};
-ghost use Rattle.recorder.specs.Front.{Parted, ChunkPassed};
+ghost use Rattle.recorder.specs.Front.{PartsPassed, endedOf, HeldOn};
 ghost use Rattle.recorder.specs.Calls.{RoomFor, CarriesOut};
 use crate::front::Front;
 use crate::front::counts_of;
 use crate::front::decided;
-use crate::front::front_by;
-use crate::front::in_work_room;
+use crate::front::front_of;
 use learning::Extent;
 use meaning::Answer;
 use meaning::Counts;
@@ -37,7 +34,6 @@ use rules::first_drops;
 use soundness::copies_all;
 use soundness::packet_limit;
 use soundness::parts_sound;
-use tlv::next_across;
 
 // What a call leaves beside the arrays.
 pub struct CarriedOut {
@@ -48,7 +44,7 @@ pub struct CarriedOut {
 
 // The lost maps of the call go to its counts.
 fn ended(p: Progress, held_count: usize) -> CarriedOut
-    ensures { λ r. ⌜ r ≡ record { extent = p .extent; counts = record { bytes = p .counts .bytes; accepted = p .counts .accepted; written = p .counts .written; rewritten = p .counts .rewritten; skipped = p .counts .skipped; lost = p .extent .lost }; «held_count» = «held_count» } ⌝ }
+    ensures { λ r. ⌜ r ≡ endedOf p «held_count» ⌝ }
 {
     let e = p.extent;
     let c = p.counts;
@@ -81,49 +77,27 @@ fn all_held(held_count: usize, chunk: &[u8], e: Extent, work: &mut [u8]) -> Carr
     }
 }
 
-// The packets of the chunk from `from` on, where they stand; the rest of it is held.
-fn in_chunk(
-    from: usize,
-    chunk: &[u8],
-    s: Progress,
-    t: Terms,
-    data_set: &mut [u64; 1024],
-    packages: &mut [u32; 255],
-    map_heads: &mut [u32; 64],
-    map_room: &mut [u16],
-    fragment_heads: &mut [u64; 256],
-    bodies: &mut [u8],
-    work: &mut [u8],
-    set: &mut [u64; 1024],
-    out: &mut [u8],
-) -> CarriedOut
-    requires { ⌜ (from ≤ length (now chunk)) × (length (now chunk) ≤ length (now work)) × Fits s (length (now chunk) - from) (length (now out)) × SofarSome t s (now «data_set») (now packages) (now «map_heads») (now «map_room») (now «fragment_heads») (now bodies) (now set) (now out) ⌝ }
-    ensures { λ r. ⌜ ChunkPassed (now (chunk .entry)) from t s (now («data_set» .entry)) (now (packages .entry)) (now («map_heads» .entry)) (now («map_room» .entry)) (now («fragment_heads» .entry)) (now (bodies .entry)) (now (set .entry)) (now (out .entry)) r (now («data_set» .exit)) (now (packages .exit)) (now («map_heads» .exit)) (now («map_room» .exit)) (now («fragment_heads» .exit)) (now (bodies .exit)) (now (work .exit)) (now (set .exit)) (now (out .exit)) ⌝ }
-{
-    let x = packets(
-        chunk,
-        from,
-        s,
-        t,
-        data_set,
-        packages,
-        map_heads,
-        map_room,
-        fragment_heads,
-        bodies,
-        set,
-        out,
-    );
-    let at = x.at;
-    let n = copy(&chunk[at..], work, 0);
-    ended(x.progress, n)
+// How far a run in two parts was taken in, and where the bytes to keep begin in each.
+pub struct InParts {
+    pub progress: Progress,
+    pub first_at: usize,
+    pub second_at: usize,
 }
 
-// The first `k` bytes of the chunk complete what the held bytes begin; the rest is read where it stands.
-fn completed(
-    held_count: usize,
-    k: usize,
-    chunk: &[u8],
+fn parts_to(progress: Progress, first_at: usize, second_at: usize) -> InParts
+    ensures { λ r. ⌜ r ≡ record { progress = progress; «first_at» = «first_at»; «second_at» = «second_at» } ⌝ }
+{
+    InParts {
+        progress,
+        first_at,
+        second_at,
+    }
+}
+
+// The packets of a run in two parts, each where it stands.
+fn in_parts(
+    first: &[u8],
+    second: &[u8],
     e: Extent,
     t: Terms,
     data_set: &mut [u64; 1024],
@@ -132,19 +106,16 @@ fn completed(
     map_room: &mut [u16],
     fragment_heads: &mut [u64; 256],
     bodies: &mut [u8],
-    work: &mut [u8],
     out: &mut [u8],
-) -> CarriedOut
-    requires { ⌜ RoomFor e «held_count» (now chunk) (now work) (now out) × (t .limit ≡ packetLimit (length (now work))) × HoldingSome e (now «data_set») (now packages) (now «map_heads») (now «map_room») (now «fragment_heads») (now bodies) × (k ≤ length (now chunk)) × Parted (t .limit) (take «held_count» (now work) ++ take k (now chunk)) (drop k (now chunk)) ⌝ }
-    ensures { λ r. ⌜ CarriesOut (λ L st. filtered L (t .options) st (now (chunk .entry))) (t .most) «held_count» e (now («data_set» .entry)) (now (packages .entry)) (now («map_heads» .entry)) (now («map_room» .entry)) (now («fragment_heads» .entry)) (now (bodies .entry)) (now (work .entry)) (now (out .entry)) r (now («data_set» .exit)) (now (packages .exit)) (now («map_heads» .exit)) (now («map_room» .exit)) (now («fragment_heads» .exit)) (now (bodies .exit)) (now (work .exit)) (now (out .exit)) ⌝ }
+) -> InParts
+    requires { ⌜ (e .lost ≡ 0) × (length (now first) + length (now second) ≤ 131078) × (length (now first) + length (now second) ≤ length (now out)) × HoldingSome e (now «data_set») (now packages) (now «map_heads») (now «map_room») (now «fragment_heads») (now bodies) ⌝ }
+    ensures { λ r. ⌜ PartsPassed (now (first .entry)) (now (second .entry)) t e (now («data_set» .entry)) (now (packages .entry)) (now («map_heads» .entry)) (now («map_room» .entry)) (now («fragment_heads» .entry)) (now (bodies .entry)) (now (out .entry)) r (now («data_set» .exit)) (now (packages .exit)) (now («map_heads» .exit)) (now («map_room» .exit)) (now («fragment_heads» .exit)) (now (bodies .exit)) (now (out .exit)) ⌝ }
 {
     let o = t.options;
     let mut set = first_drops(o, data_set);
     let s = decided(e, o, packages, map_heads, map_room, &mut set);
-    let x = in_work_room(
-        held_count,
-        k,
-        chunk,
+    let x = packets(
+        first,
         s,
         t,
         data_set,
@@ -153,13 +124,11 @@ fn completed(
         map_room,
         fragment_heads,
         bodies,
-        work,
         &mut set,
         out,
     );
-    in_chunk(
-        k,
-        chunk,
+    let y = packets(
+        second,
         x.progress,
         t,
         data_set,
@@ -168,110 +137,25 @@ fn completed(
         map_room,
         fragment_heads,
         bodies,
-        work,
-        &mut set,
-        out,
-    )
-}
-
-// Held bytes and chunk as one run in the work room.
-fn together(
-    held_count: usize,
-    chunk: &[u8],
-    e: Extent,
-    t: Terms,
-    data_set: &mut [u64; 1024],
-    packages: &mut [u32; 255],
-    map_heads: &mut [u32; 64],
-    map_room: &mut [u16],
-    fragment_heads: &mut [u64; 256],
-    bodies: &mut [u8],
-    work: &mut [u8],
-    out: &mut [u8],
-) -> CarriedOut
-    requires { ⌜ RoomFor e «held_count» (now chunk) (now work) (now out) × (t .limit ≡ packetLimit (length (now work))) × HoldingSome e (now «data_set») (now packages) (now «map_heads») (now «map_room») (now «fragment_heads») (now bodies) ⌝ }
-    ensures { λ r. ⌜ CarriesOut (λ L st. filtered L (t .options) st (now (chunk .entry))) (t .most) «held_count» e (now («data_set» .entry)) (now (packages .entry)) (now («map_heads» .entry)) (now («map_room» .entry)) (now («fragment_heads» .entry)) (now (bodies .entry)) (now (work .entry)) (now (out .entry)) r (now («data_set» .exit)) (now (packages .exit)) (now («map_heads» .exit)) (now («map_room» .exit)) (now («fragment_heads» .exit)) (now (bodies .exit)) (now (work .exit)) (now (out .exit)) ⌝ }
-{
-    let o = t.options;
-    let mut set = first_drops(o, data_set);
-    let s = decided(e, o, packages, map_heads, map_room, &mut set);
-    let x = in_work_room(
-        held_count,
-        chunk.len(),
-        chunk,
-        s,
-        t,
-        data_set,
-        packages,
-        map_heads,
-        map_room,
-        fragment_heads,
-        bodies,
-        work,
         &mut set,
         out,
     );
-    let at = x.at;
-    let n = held_count + chunk.len();
-    move_down(work, at, n - at, 0);
-    ended(x.progress, n - at)
+    parts_to(y.progress, x.at, y.at)
 }
 
-// Where the run is read, by what stands at its front.
-fn filtered(
-    held_count: usize,
-    chunk: &[u8],
-    e: Extent,
-    t: Terms,
-    data_set: &mut [u64; 1024],
-    packages: &mut [u32; 255],
-    map_heads: &mut [u32; 64],
-    map_room: &mut [u16],
-    fragment_heads: &mut [u64; 256],
-    bodies: &mut [u8],
-    work: &mut [u8],
-    out: &mut [u8],
-) -> CarriedOut
-    requires { ⌜ RoomFor e «held_count» (now chunk) (now work) (now out) × (t .limit ≡ packetLimit (length (now work))) × HoldingSome e (now «data_set») (now packages) (now «map_heads») (now «map_room») (now «fragment_heads») (now bodies) ⌝ }
-    ensures { λ r. ⌜ CarriesOut (λ L st. filtered L (t .options) st (now (chunk .entry))) (t .most) «held_count» e (now («data_set» .entry)) (now (packages .entry)) (now («map_heads» .entry)) (now («map_room» .entry)) (now («fragment_heads» .entry)) (now (bodies .entry)) (now (work .entry)) (now (out .entry)) r (now («data_set» .exit)) (now (packages .exit)) (now («map_heads» .exit)) (now («map_room» .exit)) (now («fragment_heads» .exit)) (now (bodies .exit)) (now (work .exit)) (now (out .exit)) ⌝ }
+// What is left of both parts is held: of the first `n` bytes of the work room, then of `rest`.
+fn held_on(x: InParts, n: usize, rest: &[u8], work: &mut [u8]) -> CarriedOut
+    requires { ⌜ (x .«first_at» ≤ n) × (n + length (now rest) ≤ length (now work)) × (x .«second_at» ≤ length (now rest)) ⌝ }
+    ensures { λ r. ⌜ HeldOn x n (now (rest .entry)) (now (work .entry)) r (now (work .exit)) ⌝ }
 {
-    let front = front_by(
-        next_across(&work[0..held_count], chunk, t.limit),
-        held_count,
-    );
-    match front {
-        Front::Hold => all_held(held_count, chunk, e, work),
-        Front::Completed(k) => completed(
-            held_count,
-            k,
-            chunk,
-            e,
-            t,
-            data_set,
-            packages,
-            map_heads,
-            map_room,
-            fragment_heads,
-            bodies,
-            work,
-            out,
-        ),
-        Front::Together => together(
-            held_count,
-            chunk,
-            e,
-            t,
-            data_set,
-            packages,
-            map_heads,
-            map_room,
-            fragment_heads,
-            bodies,
-            work,
-            out,
-        ),
-    }
+    let left = n - x.first_at;
+    move_down(work, x.first_at, left, 0);
+    let at = x.second_at;
+    let held_count = copy(&rest[at..], work, left);
+    ended(x.progress, held_count)
 }
+
+// ---- a call
 
 fn copied(chunk: &[u8], e: Extent, out: &mut [u8]) -> CarriedOut
     requires { ⌜ length (now chunk) ≤ length (now out) ⌝ }
@@ -291,6 +175,18 @@ pub struct Begun {
     pub options: Options,
     pub held_count: usize,
     pub extent: Extent,
+}
+
+fn terms_of(b: Begun, work: usize) -> Terms
+    ensures { λ r. ⌜ r ≡ record { options = b .options; limit = packetLimit work; most = b .limits .most } ⌝ }
+{
+    let options = b.options;
+    let l = b.limits;
+    Terms {
+        options,
+        limit: packet_limit(work),
+        most: l.most,
+    }
 }
 
 // A call that is not refused.
@@ -314,15 +210,14 @@ pub fn carry_out(
     if copies_all(o) {
         return copied(chunk, e, out);
     }
-    let l = b.limits;
-    let t = Terms {
-        options: o,
-        limit: packet_limit(work.len()),
-        most: l.most,
+    let t = terms_of(b, work.len());
+    let Front::Read(k) = front_of(b.held_count, t.limit, chunk, work) else {
+        return all_held(b.held_count, chunk, e, work);
     };
-    filtered(
-        b.held_count,
-        chunk,
+    let n = copy(&chunk[0..k], work, b.held_count);
+    let x = in_parts(
+        &work[0..n],
+        &chunk[k..],
         e,
         t,
         data_set,
@@ -331,9 +226,9 @@ pub fn carry_out(
         map_room,
         fragment_heads,
         bodies,
-        work,
         out,
-    )
+    );
+    held_on(x, n, &chunk[k..], work)
 }
 
 // ---- its answer
