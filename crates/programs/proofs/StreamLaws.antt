@@ -235,8 +235,12 @@ refused-empty : inputRefused [] ≡ true
 unfolding inputRefused
 refused-empty = refl
 
-module _ (head : Bytes) where
-  ran-unasked : (failed : Bool) → inputRefused head ≡ true → length head ≤ 3 → Ran head [] (unaskedAs failed)
+held-by : (o : Options) (st : State) (x : Standing) → recordIn (x .filter) ≡ recordOf programLimits o st → x .filter .«held_count» ≡ length (st .held)
+unfolding recordIn recordOf
+held-by o st x e = ap (λ (r : Record). r .held-count) e
+
+module _ (head : Bytes) {work bodies : Bytes} {map-room : List ℕ} where
+  ran-unasked : (failed : Bool) → inputRefused head ≡ true → length head ≤ 3 → Ran head [] work bodies map-room (unaskedAs failed) work bodies map-room
   unfolding runRefusal answerNumber numberOf
   ran-unasked failed e short = record {
     head-short = short;
@@ -244,41 +248,40 @@ module _ (head : Bytes) where
     answer-is = rw e;
     sums-are = λ z. absurd (omega (arith, z));
     held-is = λ z. absurd (omega (arith, z));
+    rooms = rw e (refl, refl, refl);
   }
 
-  held-by : (o : Options) (st : State) (x : Standing) → recordIn (x .filter) ≡ recordOf programLimits o st → x .filter .«held_count» ≡ length (st .held)
-  unfolding recordIn recordOf
-  held-by o st x e = ap (λ (r : Record). r .held-count) e
-
-  ran-stream : {cs : List Bytes} {x : Standing} {work bodies : Bytes} {map-room : List ℕ} → inputRefused head ≡ false → length head ≤ 3
-      → Come (inputOptions head) cs x work bodies map-room → Ran head cs (endingOf x)
+  ran-stream : {cs : List Bytes} {x : Standing} {work′ bodies′ : Bytes} {map-room′ : List ℕ} → inputRefused head ≡ false → length head ≤ 3
+      → Come (inputOptions head) cs x work′ bodies′ map-room′ → Ran head cs work bodies map-room (endingOf x) work′ bodies′ map-room′
   unfolding runRefusal
-  ran-stream {cs} {x} e short h = record {
+  ran-stream {cs} {x} {work′} {bodies′} {map-room′} e short h = record {
     head-short = short;
     chunks-are = h .chunks-are;
     answer-is = rw e (h .answer-is);
     sums-are = h .sums-are;
     held-is = λ z. held-by (inputOptions head) (programCalls (inputOptions head) cs .state) x (h .record-is);
+    rooms = rw e (ap (λ (r : Record). stateOf r work′ bodies′ map-room′) (sym (h .record-is)) ∙ h .state-is);
   }
 
 -- By what was read of a head.
-module _ {came : Filled} {n : ℕ} (s : Bytes) (is : came ≡ Filled.Bytes n) (short : length s ≤ 3) where
+module _ {came : Filled} {n : ℕ} (s : Bytes) (is : came ≡ Filled.Bytes n) (short : length s ≤ 3) (work bodies : Bytes) (map-room : List ℕ) where
   part-short : length (take n s) ≤ 3
   part-short = simp length-take (omega arith)
 
-  pub by-nothing : askedOf (take n s) ≡ Asked.Nothing → RanBy came s (unaskedAs false)
+  pub by-nothing : askedOf (take n s) ≡ Asked.Nothing → RanBy came s work bodies map-room (unaskedAs false) work bodies map-room
   by-nothing e = rw is (([], ran-unasked (take n s) false (nothing-asked (take n s) e) part-short), λ z. refl)
 
-  pub by-stream : {o : Options} {x : Standing} {work bodies : Bytes} {map-room : List ℕ} → askedOf (take n s) ≡ Asked.For o → ((cs : List Bytes) × Come o cs x work bodies map-room)
-      → RanBy came s (endingOf x)
+  pub by-stream : {o : Options} {x : Standing} {work′ bodies′ : Bytes} {map-room′ : List ℕ} → askedOf (take n s) ≡ Asked.For o → ((cs : List Bytes) × Come o cs x work′ bodies′ map-room′)
+      → RanBy came s work bodies map-room (endingOf x) work′ bodies′ map-room′
   by-stream {o} e h =
       let k = asked-options (take n s) e in
       rw is ((h .0, ran-stream (take n s) (k .0) part-short (rw (k .1) at (h .1))), λ z. absurd (false≢true (sym (k .0) ∙ z)))
 
 -- There is a head.
-pub ran-some : (came : Filled) (s : Bytes) {e : Ending} → RanBy came s e → (head : Bytes) × (cs : List Bytes) × Ran head cs e
+pub ran-some : (came : Filled) (s : Bytes) {work bodies : Bytes} {map-room : List ℕ} {e : Ending} {work′ bodies′ : Bytes} {map-room′ : List ℕ}
+    → RanBy came s work bodies map-room e work′ bodies′ map-room′ → (head : Bytes) × (cs : List Bytes) × Ran head cs work bodies map-room e work′ bodies′ map-room′
 ran-some (Filled.Bytes n) s r = (take n s, r .0 .0, r .0 .1)
-ran-some Filled.Failed s r = rw r ([], [], ran-unasked [] true refused-empty (omega arith))
+ran-some Filled.Failed s r = rw (r .0, r .1, r .2, r .3) ([], [], ran-unasked [] true refused-empty (omega arith))
 
 -- ---- the last line
 
@@ -292,23 +295,25 @@ line-same n m writes c d h k e p q = go (eqb n 0) refl
         ∙ ap (λ (b : Bool). cond b (cond writes [] (sumsLine d k)) (refusedLine n)) (sym z)
         ∙ ap (λ (l : ℕ). lineBy l writes d k) e
 
--- An ending's is that of its input.
-line-is : (head : Bytes) (cs : List Bytes) (e : Ending) → Ran head cs e → (writes : Bool) → lastLine e writes ≡ cond (e .failed) [] (lineFor writes head cs)
-unfolding lastLine lineFor
-line-is head cs e r writes =
-    let x = programCalls (inputOptions head) cs in
-    ap (λ (l : Bytes). cond (e .failed) [] l)
-    (line-same (answerNumber (e .answer)) (runRefusal head cs) writes (e .sums) (x .counts) (e .«held_count») (length (x .state .held)) (r .answer-is) (r .sums-are) (r .held-is))
+module _ {work bodies : Bytes} {map-room : List ℕ} {e : Ending} {work′ bodies′ : Bytes} {map-room′ : List ℕ} where
+  -- An ending's is that of its input.
+  line-is : (head : Bytes) (cs : List Bytes) → Ran head cs work bodies map-room e work′ bodies′ map-room′ → (writes : Bool) → lastLine e writes ≡ cond (e .failed) [] (lineFor writes head cs)
+  unfolding lastLine lineFor
+  line-is head cs r writes =
+      let x = programCalls (inputOptions head) cs in
+      ap (λ (l : Bytes). cond (e .failed) [] l)
+      (line-same (answerNumber (e .answer)) (runRefusal head cs) writes (e .sums) (x .counts) (e .«held_count») (length (x .state .held)) (r .answer-is) (r .sums-are) (r .held-is))
 
-pub told-as : {writes : Bool} {line line′ : Bytes} {e : Ending} {n : ℕ} → ((head : Bytes) × (cs : List Bytes) × Ran head cs e) → Wrote (lastLine e writes) line 0 line′ n
-    → Told writes line (record { failed = e .failed; bytes = n }) line′
-told-as {writes} {line} {line′} {e} {n} r w = record {
-  head = r .0;
-  chunks = r .1;
-  head-short = r .2 .head-short;
-  chunks-are = r .2 .chunks-are;
-  written = subst (λ (l : Bytes). Wrote l line 0 line′ n) (line-is (r .0) (r .1) e (r .2) writes) w;
-}
+  pub told-as : {writes : Bool} {line line′ : Bytes} {n : ℕ} → ((head : Bytes) × (cs : List Bytes) × Ran head cs work bodies map-room e work′ bodies′ map-room′) → Wrote (lastLine e writes) line 0 line′ n
+      → Told writes work bodies map-room line (record { failed = e .failed; bytes = n }) work′ bodies′ map-room′ line′
+  told-as {writes} {line} {line′} {n} r w = record {
+    head = r .0;
+    chunks = r .1;
+    head-short = r .2 .head-short;
+    chunks-are = r .2 .chunks-are;
+    written = subst (λ (l : Bytes). Wrote l line 0 line′ n) (line-is (r .0) (r .1) (r .2) writes) w;
+    rooms = r .2 .rooms;
+  }
 
 -- Where head and chunks are those of an input whose sums fit, it is what the definitions of the programs say: `sums` writes no more, and
 -- `filter` writes what its calls wrote before it.

@@ -2,7 +2,7 @@
 -- read. Which bytes they have no contract can say, so they are said to be there.
 use Prim.Native.Nat.{ℕ, _≤_}
 use mathlib.Core.Path.{_≡_}
-use mathlib.Core.Bool.{Bool, cond, true, false}
+use mathlib.Core.Bool.{Bool, cond, not, true, false}
 use mathlib.Core.List.{List, [], _++_}
 use lib.ListN.{length, take, replicate}
 use lib.Dec.{eqb}
@@ -20,7 +20,7 @@ use Rattle.meaning.specs.declared.Refusal.the-variants.{Input}
 use Rattle.recorder.specs.declared.Pushed.{Pushed}
 use Rattle.recorder.specs.declared.Started.{Started}
 use Rattle.recorder.specs.Filter.{recordIn}
-use Rattle.recorder.specs.Calls.{PushedAs}
+use Rattle.recorder.specs.Calls.{PushedAs, RoomsAfter}
 use Rattle.programs.specs.declared.pipe.Filled.{Filled}
 use Rattle.programs.specs.declared.lines.Ending.{Ending}
 use Rattle.programs.specs.declared.stream.Standing.{Standing}
@@ -117,22 +117,32 @@ unfoldable pub runRefusal : Bytes → List Bytes → ℕ
 unfolding inputRefused inputOptions programCalls sumsRefusal
 runRefusal head cs = cond (inputRefused head) 8 (sumsRefusal (programCalls (inputOptions head) cs .counts))
 
-pub record Ran (head : Bytes) (cs : List Bytes) (e : Ending) : Type 0 where
+-- The rooms after such an input: refused, they are as they were; else they and the state's record hold the state that its calls came to.
+abbrev pub RoomsLeft : Bytes → List Bytes → Bytes → Bytes → List ℕ → Bytes → Bytes → List ℕ → Type 0
+RoomsLeft head cs =
+    let o = inputOptions head in
+    let st = programCalls o cs .state in
+    RoomsAfter (not (inputRefused head)) st (recordOf programLimits o st)
+
+pub record Ran (head : Bytes) (cs : List Bytes) (work bodies : Bytes) (map-room : List ℕ) (e : Ending) (work′ bodies′ : Bytes) (map-room′ : List ℕ) : Type 0 where
   pub head-short : length head ≤ 3
   pub chunks-are : Chunks cs
   pub answer-is : answerNumber (e .answer) ≡ runRefusal head cs
   pub sums-are : answerNumber (e .answer) ≡ 0 → e .sums ≡ programCalls (inputOptions head) cs .counts
   pub held-is : answerNumber (e .answer) ≡ 0 → e .«held_count» ≡ length (programCalls (inputOptions head) cs .state .held)
+  pub rooms : RoomsLeft head cs work bodies map-room work′ bodies′ map-room′
 
 -- The room for a head, with what came to it.
 pub record HeadIn (came : Filled) (head : Bytes) : Type 0 where
   pub within : cameOf came ≤ length head
   pub short : length head ≤ 3
 
--- By what was read to it: the head is the bytes that came, and one that is refused did not fail; where a read failed, that is told.
-abbrev pub RanBy : Filled → Bytes → Ending → Type 0
-RanBy (Filled.Bytes n) s e = ((cs : List Bytes) × Ran (take n s) cs e) × (inputRefused (take n s) ≡ true → e .failed ≡ false)
-RanBy Filled.Failed s e = e ≡ unaskedAs true
+-- By what was read to it: the head is the bytes that came, and one that is refused did not fail; where a read failed, that is told,
+-- and no room changes.
+abbrev pub RanBy : Filled → Bytes → Bytes → Bytes → List ℕ → Ending → Bytes → Bytes → List ℕ → Type 0
+RanBy (Filled.Bytes n) s work bodies map-room e work′ bodies′ map-room′ =
+    ((cs : List Bytes) × Ran (take n s) cs work bodies map-room e work′ bodies′ map-room′) × (inputRefused (take n s) ≡ true → e .failed ≡ false)
+RanBy Filled.Failed s work bodies map-room e work′ bodies′ map-room′ = (e ≡ unaskedAs true) × (work′ ≡ work) × (bodies′ ≡ bodies) × (map-room′ ≡ map-room)
 
 -- The last line of a program that writes the stream, or of one that does not, for an input with this head and these chunks.
 unfoldable pub lineFor : Bool → Bytes → List Bytes → Bytes
@@ -141,10 +151,11 @@ lineFor writes head cs =
     let r = programCalls (inputOptions head) cs in
     lineBy (runRefusal head cs) writes (r .counts) (length (r .state .held))
 
--- There are a head and chunks for which this is the last line; where a read or a write failed there is none.
-pub record Told (writes : Bool) (line : Bytes) (x : Last) (line′ : Bytes) : Type 0 where
+-- There are a head and chunks for which this is the last line, and these are the rooms; where a read or a write failed there is no line.
+pub record Told (writes : Bool) (work bodies : Bytes) (map-room : List ℕ) (line : Bytes) (x : Last) (work′ bodies′ : Bytes) (map-room′ : List ℕ) (line′ : Bytes) : Type 0 where
   pub head : Bytes
   pub chunks : List Bytes
   pub head-short : length head ≤ 3
   pub chunks-are : Chunks chunks
   pub written : Wrote (cond (x .failed) [] (lineFor writes head chunks)) line 0 line′ (x .bytes)
+  pub rooms : RoomsLeft head chunks work bodies map-room work′ bodies′ map-room′

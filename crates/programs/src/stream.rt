@@ -288,7 +288,7 @@ fn by_head(
     out: &mut [u8; ROOM],
 ) -> Ending
     requires { ⌜ HeadIn came (now head) × Rooms (now chunk) (now work) (now bodies) (now «map_room») (now out) ⌝ }
-    ensures { λ r. ⌜ RanBy came (now (head .entry)) r ⌝ }
+    ensures { λ r. ⌜ RanBy came (now (head .entry)) (now (work .entry)) (now (bodies .entry)) (now («map_room» .entry)) r (now (work .exit)) (now (bodies .exit)) (now («map_room» .exit)) ⌝ }
 {
     let Filled::Bytes(n) = came else {
         return unasked(true);
@@ -311,7 +311,7 @@ fn run(
     out: &mut [u8; ROOM],
 ) -> Ending
     requires { ⌜ Rooms (now chunk) (now work) (now bodies) (now «map_room») (now out) ⌝ }
-    ensures { λ r. ⌜ ((head : Bytes) × (cs : List Bytes) × Ran head cs r) ⌝ }
+    ensures { λ r. ⌜ ((head : Bytes) × (cs : List Bytes) × Ran head cs (now (work .entry)) (now (bodies .entry)) (now («map_room» .entry)) r (now (work .exit)) (now (bodies .exit)) (now («map_room» .exit))) ⌝ }
 {
     let mut head = [0u8; 3];
     let came = fill(&mut head);
@@ -335,7 +335,7 @@ fn told(
     line: &mut [u8; LINE],
 ) -> Last
     requires { ⌜ Rooms (now chunk) (now work) (now bodies) (now «map_room») (now out) × (length (now line) ≡ 170) ⌝ }
-    ensures { λ r. ⌜ Told writes (now (line .entry)) r (now (line .exit)) ⌝ }
+    ensures { λ r. ⌜ Told writes (now (work .entry)) (now (bodies .entry)) (now («map_room» .entry)) (now (line .entry)) r (now (work .exit)) (now (bodies .exit)) (now («map_room» .exit)) (now (line .exit)) ⌝ }
 {
     let e = run(writes, chunk, work, bodies, map_room, out);
     Last {

@@ -1,4 +1,4 @@
-use mathlib.Core.Path.{sym, _∙_}
+use mathlib.Core.Path.{refl, sym, _∙_}
 use native.Mathlib.Nat.{sub-zero}
 use native.Mathlib.Omega.{arith}
 use Rattle.programs.proofs.StreamLaws.{by-nothing, by-stream}
@@ -16,7 +16,7 @@ unasked-requires : tie.Need-unasked-requires
 unasked-requires c κs = search needs
 
 returns : tie.Need-returns
-returns c = rw (c .before .enum-told .given .1) (c .unasked .ensures)
+returns c = rw (c .before .enum-told .given .1) (c .unasked .ensures, refl, refl, refl)
 
 sub-asked-of : tie.Need-sub-asked-of
 sub-asked-of c = search needs
@@ -42,7 +42,8 @@ unasked-requires-2 c κs = search needs
 returns-2 : tie.Need-returns-2
 returns-2 c =
     let e = rw sub-zero at (c .before .before .before .asked-of .ensures) in
-    rw (c .unasked2 .ensures) (by-nothing (c .before .before .before .before .before .before .before .before .before .args .head .now) (c .before .before .before .before .before .before .came .given .1) (c .before .before .before .before .before .before .before .before .before .pre .0 .short) (sym e ∙ c .before .enum-told2 .given .1))
+    let a = c .before .before .before .before .before .before .before .before .before .args in
+    rw (c .unasked2 .ensures) (by-nothing (a .head .now) (c .before .before .before .before .before .before .came .given .1) (c .before .before .before .before .before .before .before .before .before .pre .0 .short) (a .work .now) (a .bodies .now) (a .map-room .now) (sym e ∙ c .before .enum-told2 .given .1))
 
 started-requires : tie.Need-started-requires
 started-requires c κs = search needs
@@ -53,7 +54,8 @@ ending-requires c κs = search needs
 returns-3 : tie.Need-returns-3
 returns-3 c =
     let e = rw sub-zero at (c .before .before .before .before .before .before .before .before .before .before .asked-of .ensures) in
-    rw (c .ending .ensures) (by-stream (c .before .before .before .before .before .before .before .before .before .before .before .before .before .before .before .before .args .head .now) (c .before .before .before .before .before .before .before .before .before .before .before .before .before .came .given .1) (c .before .before .before .before .before .before .before .before .before .before .before .before .before .before .before .before .pre .0 .short) (sym e ∙ c .before .before .before .before .before .before .before .before .asked .given .1) (c .before .started .ensures))
+    let a = c .before .before .before .before .before .before .before .before .before .before .before .before .before .before .before .before .args in
+    rw (c .ending .ensures) (by-stream (a .head .now) (c .before .before .before .before .before .before .before .before .before .before .before .before .before .came .given .1) (c .before .before .before .before .before .before .before .before .before .before .before .before .before .before .before .before .pre .0 .short) (a .work .now) (a .bodies .now) (a .map-room .now) (sym e ∙ c .before .before .before .before .before .before .before .before .asked .given .1) (c .before .started .ensures))
 
 pub by-head-spec : {M : Type 1} → statement M
 by-head-spec =
