@@ -219,16 +219,6 @@ going x came e = go (eqb (cameOf came) 0) (x .failed) e
     go false true q = absurd (false≢true q)
     go false false q = eqb-true (answerNumber (x .answer)) 0 q
 
--- What holds at each turn of the loop: lengths, nothing refused, and how far the stream has come.
-pub record Passing (chunk₀ work₀ bodies₀ : Bytes) (map-room₀ : List ℕ) (out₀ : Bytes) (x₀ : Standing) (chunk work bodies : Bytes) (map-room : List ℕ) (out : Bytes) (x : Standing) : Type 0 where
-  pub chunk-same : length chunk ≡ length chunk₀
-  pub work-same : length work ≡ length work₀
-  pub bodies-same : length bodies ≡ length bodies₀
-  pub map-room-same : length map-room ≡ length map-room₀
-  pub out-same : length out ≡ length out₀
-  pub done : answerNumber (x .answer) ≡ 0
-  pub goes : Goes x₀ work₀ bodies₀ map-room₀ x work bodies map-room
-
 -- ---- an input
 
 refused-empty : inputRefused [] ≡ true

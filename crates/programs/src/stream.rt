@@ -180,11 +180,11 @@ fn goes_on(x: Standing, came: Filled) -> bool
 fn pass(
     first: Standing,
     writes: bool,
-    chunk: &mut [u8],
-    work: &mut [u8],
-    bodies: &mut [u8],
-    map_room: &mut [u16],
-    out: &mut [u8],
+    chunk: &mut [u8; CHUNK],
+    work: &mut [u8; ROOM],
+    bodies: &mut [u8; ROOM],
+    map_room: &mut [u16; MAP_ROOM],
+    out: &mut [u8; ROOM],
 ) -> Standing
     requires { ⌜ MayPass first (now chunk) (now out) ⌝ }
     ensures { λ r. ⌜ Goes first (now (work .entry)) (now (bodies .entry)) (now («map_room» .entry)) r (now (work .exit)) (now (bodies .exit)) (now («map_room» .exit)) ⌝ }
