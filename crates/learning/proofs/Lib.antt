@@ -4,3 +4,4 @@ pub mod PackageLaws
 pub mod PlaceForLaws
 pub mod MapPairLaws
 pub mod MapLaws
+pub mod HeldLaws

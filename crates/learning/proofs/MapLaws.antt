@@ -1,23 +1,21 @@
--- The lists of assets that MPTs give, as the functions of `lists` read, compare and write them: numbers written over a room, the assets of
+-- The lists of assets that MPTs give, as the functions of `lists` read and write them: numbers written over a room, the assets of
 -- the entries read so far (Listing), and a list at its place. Rests on MapPairLaws and on Reading, SoundnessKept and SpareLaws of `meaning`.
 use Prim.Native.Nat.{ℕ, suc, max, _+_, _-_, _*_, _≤_, _<_}
 use mathlib.Core.Path.{_≡_, refl, sym, ap, ap₂, _∙_}
-use mathlib.Core.Bool.{Bool, true, false, not, _&&_, _||_}
+use mathlib.Core.Bool.{Bool, true, false, _||_}
 use mathlib.Core.List.{List, [], _∷_, _++_, append-assoc, append-nil}
 use mathlib.Core.Option.{Option, none, some}
 use native.Mathlib.Nat.{add-zero}
 use native.Mathlib.Numerals.{add-one}
 use native.Mathlib.Omega.{arith}
-use lib.ListN.{length, take, drop, getD, set, length-drop, length-set, take-append-drop}
-use lib.Seq.{length-take-le, drop-cons, take-suc-set, drop-drop, set-getD, paste-suc}
-use lib.Dec.{ltb, eqb}
-use borrow.Author.Tests.{ltb-true, eqb-true, lt-ltb, le-ltb, eq-eqb, ne-eqb}
+use lib.ListN.{length, take, drop, getD, set, length-set, take-append-drop}
+use lib.Seq.{length-take-le, take-suc-set, paste-suc}
+use borrow.Author.Tests.{lt-ltb, le-ltb}
 use Rattle.meaning.specs.Bytes.{Bytes}
-use Rattle.meaning.specs.Readers.{bind, give, many, raw}
-use Rattle.meaning.specs.Tables.{Entry, entry, mptFront, mpt, kindNumber}
+use Rattle.meaning.specs.Readers.{Out, bind, give, many, raw}
+use Rattle.meaning.specs.Tables.{Entry, Mpt, entry, mptFront, mpt, kindNumber}
 use Rattle.meaning.specs.Learn.{Listed, assetNumbers, over, placeFor, listAsset, listed}
 use Rattle.meaning.specs.declared.Part.{Part}
-use Rattle.meaning.proofs.ListLaws.{clash, and-both}
 use Rattle.meaning.proofs.SpareLaws.{numbers-length}
 use Rattle.meaning.proofs.TableLaws.{mpt-split}
 use Rattle.meaning.proofs.Reading.{past, u8-none, many-none, many-next, behind, behind-nothing, behind-one}
@@ -26,12 +24,12 @@ use Rattle.tables.specs.Answers.{Ends, AssetIs, carrierOf}
 use Rattle.tables.specs.declared.assets.Asset.{Asset}
 use Rattle.tables.specs.declared.fields.End.{End}
 use Rattle.tables.specs.declared.locations.Carrier.{Carrier}
-use Rattle.learning.specs.News.{sameNumbers, listNew}
-use Rattle.learning.specs.Learnt.{numbersOf, AssetsAre, HeadsAre, lostOne, ListLearnt, MptLearnt}
+use Rattle.learning.specs.News.{countAt, sameList, listNew}
+use Rattle.learning.specs.Learnt.{numbersOf, AssetsAre, mptHeld, HeadsAre, lostOne, ListLearnt, MptLearnt}
 use Rattle.learning.specs.Kept.{pairsIn, KeptMaps}
 use Rattle.learning.specs.declared.Extent.{Extent}
 use Rattle.learning.proofs.PairLaws.{pairs-in}
-use Rattle.learning.proofs.MapPairLaws.{listed-same, maps-after}
+use Rattle.learning.proofs.MapPairLaws.{maps-after}
 
 -- ---- numbers written over those of a room
 
@@ -47,46 +45,6 @@ module _ (map-room : List ℕ) (base : ℕ) (ns : List ℕ) where
   -- one more
   pub over-next : (i : ℕ) → base + i < length map-room → i < length ns → set (over map-room base (take i ns)) (base + i) (getD ns i 0) ≡ over map-room base (take (i + 1) ns)
   over-next i h l = rw (over-paste i (omega arith), add-one i, over-paste (suc i) l) (paste-suc map-room base ns i 0 h l)
-
--- its own numbers
-pub over-self : (map-room : List ℕ) (base k : ℕ) → base + k ≤ length map-room → over map-room base (take k (drop base map-room)) ≡ map-room
-unfolding over
-over-self map-room base k h =
-    rw (length-take-le k (drop base map-room) (omega (arith, length-drop base map-room)), ← drop-drop k base map-room, take-append-drop k (drop base map-room))
-    (take-append-drop base map-room)
-
--- ---- two lists of numbers compared
-
-pub same-equal : (xs ys : List ℕ) → sameNumbers xs ys ≡ true → xs ≡ ys
-unfolding sameNumbers
-same-equal [] [] e = refl
-same-equal [] (b ∷ bs) e = clash (cc)
-same-equal (a ∷ as′) [] e = clash (cc)
-same-equal (a ∷ as′) (b ∷ bs) e =
-    let h = and-both (eqb a b) (sameNumbers as′ bs) e in
-    ap₂ (λ (x : ℕ) (l : List ℕ). x ∷ l) (eqb-true a b (h .0)) (same-equal as′ bs (h .1))
-
-module _ (map-room fresh : List ℕ) (base n i : ℕ) (l : i < n) (r : base + n ≤ length map-room) (f : n ≤ length fresh) where
-  one-more : (xs : List ℕ) (at : ℕ) → at + (n - i) ≤ length xs → take (n - i) (drop at xs) ≡ getD xs at 0 ∷ take (n - (i + 1)) (drop (at + 1) xs)
-  one-more xs at h =
-      let e : n - i ≡ suc (n - (i + 1)) = omega arith in
-      let k : at < length xs = omega arith in
-      rw (e, drop-cons xs at 0 k, add-one at)
-
-  ahead : sameNumbers (take (n - i) (drop (base + i) map-room)) (take (n - i) (drop i fresh))
-      ≡ (eqb (getD map-room (base + i) 0) (getD fresh i 0) && sameNumbers (take (n - (i + 1)) (drop (base + i + 1) map-room)) (take (n - (i + 1)) (drop (i + 1) fresh)))
-  unfolding sameNumbers
-  ahead = rw (one-more map-room (base + i) (omega arith), one-more fresh i (omega arith))
-
-  pub same-next : getD map-room (base + i) 0 ≡ getD fresh i 0
-      → sameNumbers (take (n - i) (drop (base + i) map-room)) (take (n - i) (drop i fresh))
-      ≡ sameNumbers (take (n - (i + 1)) (drop (base + (i + 1)) map-room)) (take (n - (i + 1)) (drop (i + 1) fresh))
-  same-next q =
-      let e : base + (i + 1) ≡ base + i + 1 = omega arith in
-      rw (e, ahead, eq-eqb _ _ q)
-
-  pub same-not : (getD map-room (base + i) 0 ≡ getD fresh i 0 → ⊥) → sameNumbers (take (n - i) (drop (base + i) map-room)) (take (n - i) (drop i fresh)) ≡ false
-  same-not q = ahead ∙ rw (ne-eqb _ _ q)
 
 -- ---- the numbers of assets
 
@@ -177,7 +135,7 @@ module _ (b : Bytes) where
     count-none k = rw (f .1 .1, u8-none b h k)
 
     module _ (k : h < length b) (n : ℕ) (is : n ≡ getD b h 0) (low : n < 256) where
-      mpt-many : mpt b ≡ bind (many n entry (drop (h + 1) b)) (λ es. give (record { front = take h b; entries = es }))
+      pub mpt-many : mpt b ≡ bind (many n entry (drop (h + 1) b)) (λ es. give (record { front = take h b; entries = es }))
       unfolding mpt raw
       mpt-many = rw (f .1 .1, u8-at b h (h + 1) k (omega arith) refl, past b h (f .0), is)
 
@@ -188,65 +146,46 @@ module _ (b : Bytes) where
       assets-are fresh from left m i z =
           (omega (arith, i .few), (record { front = take h b; entries = i .pre }, drop from b, rw (mpt-many, list-all b (h + 1) n fresh from left m i z), list-count b (h + 1) n fresh from left m i, i .numbers))
 
--- ---- a list at its place
+-- ---- an MPT's list at its place
 
 -- an extent with another count of maps, that is new or not
 abbrev after : Extent → ℕ → Bool → Extent
-after e m b = record { seen = e .seen; «package_count» = e .«package_count»; «map_count» = m; «fragment_count» = e .«fragment_count»; lost = e .lost; changed = e .changed || b }
-
-or-false : (a : Bool) → (a || false) ≡ a
-or-false true = refl
-or-false false = refl
+after e m b = record { seen = e .seen; «package_count» = e .«package_count»; «map_count» = m; «fragment_count» = e .«fragment_count»; lost = e .lost; changed = b }
 
 or-true : (a : Bool) → (a || true) ≡ true
 or-true true = refl
 or-true false = refl
 
-module _ (i p n : ℕ) (fresh : List ℕ) (e : Extent) (map-heads map-room : List ℕ) where
-  -- whether it is held
-  abbrev map-count : Bool
-  map-count = ltb i (e .«map_count») && (eqb (getD map-heads i 0) (p * 65536 + n) && sameNumbers (take (2 * n) (drop (512 * i) map-room)) (take (2 * n) fresh))
-
-  pub listed-already : map-count ≡ true → 512 * i + 2 * n ≤ length map-room → HeadsAre i p n fresh e map-heads map-room e map-heads map-room
-  listed-already h l =
-      let a = and-both (ltb i (e .«map_count»)) _ h in
-      let b = and-both (eqb (getD map-heads i 0) (p * 65536 + n)) _ (a .1) in
-      let k : i < e .«map_count» = ltb-true i (e .«map_count») (a .0) in
-      let m : max (e .«map_count») (i + 1) ≡ e .«map_count» = omega arith in
-      record {
-        map-heads-are = sym (ap (set map-heads i) (sym (eqb-true (getD map-heads i 0) (p * 65536 + n) (b .0))) ∙ set-getD map-heads i 0);
-        map-room-is = sym (ap (over map-room (512 * i)) (sym (same-equal _ _ (b .1))) ∙ over-self map-room (512 * i) (2 * n) l);
-        extent-is = rw (h, m, or-false (e .changed));
-      }
-
-  pub listed-now : map-count ≡ false → (m : ℕ) → m ≡ max (e .«map_count») (i + 1) → (map-room′ : List ℕ) → map-room′ ≡ over map-room (512 * i) (take (2 * n) fresh)
-      → HeadsAre i p n fresh e map-heads map-room (record { seen = e .seen; «package_count» = e .«package_count»; «map_count» = m; «fragment_count» = e .«fragment_count»; lost = e .lost; changed = true }) (set map-heads i (p * 65536 + n)) map-room′
-  listed-now h m q map-room′ r = record { map-heads-are = refl; map-room-is = r; extent-is = rw (h, q, or-true (e .changed)) }
-
--- ---- an MPT
-
+-- written there
 kept-list : (p : ℕ) (es : List Entry) (fresh : List ℕ) (e : Extent) (map-heads map-room : List ℕ) (ms : List (ℕ × ℕ)) → length es < 256 → placeFor p ms < 64 → KeptMaps ms (e .«map_count») map-heads
-    → take (2 * length (listed es)) fresh ≡ assetNumbers (listed es) → (r : Extent) (map-heads′ map-room′ : List ℕ)
+    → take (2 * length (listed es)) fresh ≡ assetNumbers (listed es) → sameList (countAt (placeFor p ms) ms) (listed es) (drop (512 * placeFor p ms) map-room) ≡ false
+    → (r : Extent) (map-heads′ map-room′ : List ℕ)
     → HeadsAre (placeFor p ms) p (length (listed es)) fresh e map-heads map-room r map-heads′ map-room′ → ListLearnt true p (listed es) ms e map-room r map-heads′ map-room′
 unfolding listNew
-kept-list p es fresh e map-heads map-room ms l h k t r map-heads′ map-room′ x =
+kept-list p es fresh e map-heads map-room ms l h k t other r map-heads′ map-room′ x =
     let i : ℕ = placeFor p ms in
     let m : r .«map_count» ≡ max (e .«map_count») (i + 1) = ap (λ (z : Extent). z .«map_count») (x .extent-is) in
-    let new : not (map-count i p (length (listed es)) fresh e map-heads map-room) ≡ listNew p (listed es) ms map-room =
-    rw (k .pairs .are, k .pairs .count, t, listed-same p 64 (listed es) (drop (512 * i) map-room) ms, lt-ltb i 64 h) in
+    let new : true ≡ (e .changed || listNew p (listed es) ms map-room) = rw (lt-ltb i 64 h, other, or-true (e .changed)) in
     (rw (m, x .map-heads-are) (maps-after p es ms (e .«map_count») map-heads l h k), x .map-room-is ∙ ap (over map-room (512 * i)) t, x .extent-is ∙ ap₂ (after e) (sym m) new)
 
-module _ (b : Bytes) (p n i : ℕ) (fresh : List ℕ) (e : Extent) (map-heads map-room : List ℕ) (a : AssetsAre (mpt b) (End.At n) fresh)
-    (at : i ≡ placeFor p (pairsIn (e .«map_count») map-heads)) (ms : List (ℕ × ℕ)) (k : KeptMaps ms (e .«map_count») map-heads) where
+module _ (p i : ℕ) (e : Extent) (map-heads map-room : List ℕ) (at : i ≡ placeFor p (pairsIn (e .«map_count») map-heads))
+    (ms : List (ℕ × ℕ)) (k : KeptMaps ms (e .«map_count») map-heads) where
   place : i ≡ placeFor p ms
   place = at ∙ ap (placeFor p) (pairs-in (k .pairs))
 
-  pub list-lost : 64 ≤ i → MptLearnt p (mpt b) ms e map-room (lostOne e) map-heads map-room
-  list-lost h = rw (a .1 .2, ← place, le-ltb i 64 h) (k, refl, refl)
+  -- the list that is held at its place
+  pub held-is : (o : Out Mpt) → mptHeld o (countAt i (pairsIn (e .«map_count») map-heads)) (drop (512 * i) map-room) ≡ mptHeld o (countAt (placeFor p ms) ms) (drop (512 * placeFor p ms) map-room)
+  held-is o = rw (place, pairs-in (k .pairs))
 
-  pub list-kept : i < 64 → (r : Extent) (map-heads′ map-room′ : List ℕ) → HeadsAre i p n fresh e map-heads map-room r map-heads′ map-room′ → MptLearnt p (mpt b) ms e map-room r map-heads′ map-room′
-  list-kept h r map-heads′ map-room′ x =
-      let g : placeFor p ms < 64 = omega (arith, place) in
-      let few = mpt-split b (a .1 .0) (a .1 .1) (a .1 .2) .few in
-      rw (a .1 .2, lt-ltb (placeFor p ms) 64 g)
-      (kept-list p (a .1 .0 .entries) fresh e map-heads map-room ms few g k (rw (a .1 .3) at (a .1 .4)) r map-heads′ map-room′ (rw (place, a .1 .3) at x))
+  module _ (b : Bytes) (n : ℕ) (fresh : List ℕ) (a : AssetsAre (mpt b) (End.At n) fresh) where
+    pub list-lost : 64 ≤ i → MptLearnt p (mpt b) ms e map-room (lostOne e) map-heads map-room
+    list-lost h = rw (a .1 .2, ← place, le-ltb i 64 h) (k, refl, refl)
+
+    pub list-kept : i < 64 → mptHeld (mpt b) (countAt i (pairsIn (e .«map_count») map-heads)) (drop (512 * i) map-room) ≡ false
+        → (r : Extent) (map-heads′ map-room′ : List ℕ) → HeadsAre i p n fresh e map-heads map-room r map-heads′ map-room′ → MptLearnt p (mpt b) ms e map-room r map-heads′ map-room′
+    list-kept h other r map-heads′ map-room′ x =
+        let g : placeFor p ms < 64 = omega (arith, place) in
+        let few = mpt-split b (a .1 .0) (a .1 .1) (a .1 .2) .few in
+        let new = rw (a .1 .2) at (sym (held-is (mpt b)) ∙ other) in
+        rw (a .1 .2, lt-ltb (placeFor p ms) 64 g)
+        (kept-list p (a .1 .0 .entries) fresh e map-heads map-room ms few g k (rw (a .1 .3) at (a .1 .4)) new r map-heads′ map-room′ (rw (place, a .1 .3) at x))

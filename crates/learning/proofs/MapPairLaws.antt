@@ -1,22 +1,20 @@
--- The array of map heads: a pair put at its identifier's place, how many there are then, and the head that stands there. Each goes by
--- the pairs, as `putHead` of meaning's SoundnessKept does; rests on that and on SoundnessLaws.
+-- The array of map heads: a pair put at its identifier's place, and how many there are then. Each goes by the pairs,
+-- as `putHead` of meaning's SoundnessKept does; rests on that and on SoundnessLaws.
 use Prim.Native.Nat.{ℕ, zero, suc, max, _+_, _-_, _*_, _≤_, _<_}
 use mathlib.Core.Path.{_≡_, refl, sym, ap, _∙_}
-use mathlib.Core.Bool.{Bool, true, false, cond, _&&_}
+use mathlib.Core.Bool.{Bool, true, false, cond}
 use mathlib.Core.List.{List, [], _∷_, _++_, map}
 use native.Mathlib.Nat.{sub-zero}
 use native.Mathlib.Numerals.{sub-one}
 use native.Mathlib.Omega.{arith}
-use lib.ListN.{length, take, drop, getD, set}
-use lib.Dec.{ltb, eqb, leb·suc-suc}
-use borrow.Author.Tests.{eqb-true, eqb-false, eq-eqb, ne-eqb, lt-ltb}
+use lib.ListN.{length, take, drop, set}
+use lib.Dec.{eqb}
 use Rattle.meaning.specs.Tables.{Entry}
-use Rattle.meaning.specs.Learn.{Listed, assetNumbers, placeFor, listed}
+use Rattle.meaning.specs.Learn.{placeFor, listed}
 use Rattle.meaning.specs.Record.{slots, packPair}
 use Rattle.meaning.proofs.SoundnessKept.{putHead, put-is, maps-hold-after}
 use Rattle.meaning.proofs.SoundnessLaws.{maps-back}
 use Rattle.learning.specs.Kept.{KeptMaps}
-use Rattle.learning.specs.News.{sameNumbers, countAt, sameList}
 
 slots-next : (N x : ℕ) (xs : List ℕ) → slots (suc N) (x ∷ xs) ≡ x ∷ slots N xs
 unfolding slots
@@ -49,34 +47,6 @@ module _ (p n : ℕ) where
           → length (cond a ((p, n) ∷ ms) (m ∷ putHead p n ms)) ≡ max (suc (length ms)) (cond a 0 (suc (placeFor p ms)) + 1)
       go true ih = omega arith
       go false ih = omega arith
-
-  -- two heads of p are the same where their counts are
-  head-same : (a k : ℕ) → a ≡ p → eqb (a * 65536 + k) (p * 65536 + n) ≡ eqb k n
-  head-same a k q = go (eqb k n) refl
-    where
-      go : (b : Bool) → eqb k n ≡ b → eqb (a * 65536 + k) (p * 65536 + n) ≡ b
-      go true e = eq-eqb (a * 65536 + k) (p * 65536 + n) (omega (arith, eqb-true k n e))
-      go false e = ne-eqb (a * 65536 + k) (p * 65536 + n) (λ (z : a * 65536 + k ≡ p * 65536 + n). let w : k ≡ n = omega arith in eqb-false k n e w)
-
--- whether p's list stands there with the same head and numbers
-pub listed-same : (p N : ℕ) (as′ : Listed) (ns : List ℕ) (ms : List (ℕ × ℕ))
-    → (ltb (placeFor p ms) (length ms) && (eqb (getD (slots N (map packPair ms)) (placeFor p ms) 0) (p * 65536 + length as′) && sameNumbers (take (2 * length as′) ns) (assetNumbers as′)))
-    ≡ sameList (countAt (placeFor p ms) ms) as′ ns
-unfolding slots packPair placeFor countAt
-listed-same p N as′ ns [] = refl
-listed-same p N as′ ns (m ∷ ms) = go (eqb (m .0) p) refl (listed-same p (N - 1) as′ ns ms)
-  where
-    s : Bool
-    s = sameNumbers (take (2 * length as′) ns) (assetNumbers as′)
-
-    go : (a : Bool) → eqb (m .0) p ≡ a
-        → (ltb (placeFor p ms) (length ms) && (eqb (getD (slots (N - 1) (map packPair ms)) (placeFor p ms) 0) (p * 65536 + length as′) && s)) ≡ sameList (countAt (placeFor p ms) ms) as′ ns
-        → (ltb (cond a 0 (suc (placeFor p ms))) (suc (length ms)) && (eqb (getD (slots N (map packPair (m ∷ ms))) (cond a 0 (suc (placeFor p ms))) 0) (p * 65536 + length as′) && s))
-        ≡ sameList (countAt (cond a 0 (suc (placeFor p ms))) (m ∷ ms)) as′ ns
-    go true e ih = rw (lt-ltb 0 (suc (length ms)) (omega arith), head-same p (length as′) (m .0) (m .1) (eqb-true _ _ e))
-    go false e ih =
-        let q : N - suc (length (map packPair ms)) ≡ N - 1 - length (map packPair ms) = omega arith in
-        rw (leb·suc-suc, q) ih
 
 -- ---- the maps that are held after p's list
 

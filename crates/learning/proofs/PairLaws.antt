@@ -1,6 +1,6 @@
 -- A list in slots, unused slots zero, and pairs in such an array: one put over another or behind the last, one put between two, the pairs
 -- that are in it. Any number of slots, so that packages and map heads share it. Rests on Pairs and on meaning's record laws.
-use Prim.Native.Nat.{ℕ, zero, suc, max, _+_, _-_, _/_, _≤_, _<_}
+use Prim.Native.Nat.{ℕ, zero, suc, max, _+_, _-_, _/_, _%_, _≤_, _<_}
 use mathlib.Core.Path.{_≡_, refl, sym, ap, ap₂, _∙_}
 use mathlib.Core.Bool.{Bool, true, false, _&&_}
 use mathlib.Core.List.{List, [], _∷_, _++_, map, map-append, append-assoc, append-nil}
@@ -12,6 +12,7 @@ use lib.Seq.{length-take-le, take-append-le, take-set-lt, take-suc-set, set-spli
 use lib.Dec.{eqb}
 use borrow.Author.Tests.{eq-eqb, eqb-true}
 use Rattle.meaning.specs.Record.{slots, packPair, pairOf}
+use Rattle.meaning.specs.Soundness.{SecondsBelow}
 use Rattle.meaning.proofs.SoundnessLaws.{slots-used, used, pair-pack}
 use Rattle.meaning.proofs.ListLaws.{clash, and-both}
 use Rattle.learning.specs.Kept.{pairsIn, Pairs}
@@ -144,6 +145,14 @@ module _ (n : ℕ) (xs : List ℕ) where
   pub first-in : (i : ℕ) → i < n → getD (pairsIn n xs) i (0, 0) .0 ≡ getD xs i 0 / 65536
   unfolding pairOf
   first-in i h = ap (λ (z : ℕ × ℕ). z .0) (List·getD-map pairOf (take n xs) i 0) ∙ ap (λ (z : ℕ). z / 65536) (getD-take n xs i 0 h)
+
+-- the second number of each, where all are below 256
+pub count-small : (n i : ℕ) (xs : List ℕ) → SecondsBelow 256 (pairsIn n xs) → i < n → n ≤ length xs → getD xs i 0 % 65536 < 256
+unfolding pairOf
+count-small zero i xs b h l = absurd (omega arith)
+count-small (suc n) i [] b h l = absurd (omega arith)
+count-small (suc n) zero (x ∷ xs) b h l = b .0
+count-small (suc n) (suc i) (x ∷ xs) b h l = count-small n i xs (b .1) (omega arith) (omega arith)
 
 pub pairs-none : (N : ℕ) → Pairs N [] 0 (replicate N 0)
 unfolding slots

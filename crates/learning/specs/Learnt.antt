@@ -1,11 +1,11 @@
 -- What the functions that read a PLT or an MPT promise, in the terms of the definitions: what the arrays hold afterwards, whatever they held.
 use Prim.Native.Nat.{ℕ, suc, max, _+_, _*_, _≤_}
 use mathlib.Core.Path.{_≡_}
-use mathlib.Core.Bool.{Bool, true, false, cond, not, _&&_, _||_}
+use mathlib.Core.Bool.{Bool, true, false, cond, _||_}
 use mathlib.Core.List.{List, [], _∷_, _++_}
-use mathlib.Core.Option.{none, some}
-use lib.ListN.{length, take, drop, getD, set}
-use lib.Dec.{ltb, eqb}
+use mathlib.Core.Option.{Option, none, some}
+use lib.ListN.{length, take, drop, set}
+use lib.Dec.{ltb}
 use Rattle.meaning.specs.Bytes.{Bytes}
 use Rattle.meaning.specs.Readers.{Out}
 use Rattle.meaning.specs.Tables.{Mpt, Package, kindNumber}
@@ -15,7 +15,7 @@ use Rattle.tables.specs.declared.fields.End.{End}
 use Rattle.tables.specs.declared.locations.Carrier.{Carrier}
 use Rattle.tables.specs.declared.packages.Named.{Named}
 use Rattle.learning.specs.Kept.{Pairs, KeptPackages, KeptMaps}
-use Rattle.learning.specs.News.{sameNumbers, packagesNew, listNew}
+use Rattle.learning.specs.News.{sameList, packagesNew, listNew}
 use Rattle.learning.specs.declared.Extent.{Extent}
 
 -- ---- a PLT
@@ -63,7 +63,12 @@ abbrev pub numbersOf : Carrier → Part → List ℕ
 numbersOf Carrier.Nowhere part = []
 numbersOf (Carrier.By p) part = p ∷ kindNumber part ∷ []
 
--- A list of n assets at place i: its head, its numbers, and how many lists there are then. Held already, it changes nothing.
+-- Whether an MPT's body reads and its list is the one that is held, if one is: of that count, at the front of these numbers.
+abbrev pub mptHeld : Out Mpt → Option ℕ → List ℕ → Bool
+mptHeld none o ns = false
+mptHeld (some (m, more)) o ns = sameList o (listed (m .entries)) ns
+
+-- A list of n assets written at place i: its head, its numbers, and how many lists there are then. It is a change.
 pub record HeadsAre (i p n : ℕ) (fresh : List ℕ) (e : Extent) (map-heads map-room : List ℕ) (r : Extent) (map-heads′ map-room′ : List ℕ) : Type 0 where
   pub map-heads-are : map-heads′ ≡ set map-heads i (p * 65536 + n)
   pub map-room-is : map-room′ ≡ over map-room (512 * i) (take (2 * n) fresh)
@@ -73,7 +78,7 @@ pub record HeadsAre (i p n : ℕ) (fresh : List ℕ) (e : Extent) (map-heads map
     «map_count» = max (e .«map_count») (i + 1);
     «fragment_count» = e .«fragment_count»;
     lost = e .lost;
-    changed = e .changed || not (ltb i (e .«map_count») && (eqb (getD map-heads i 0) (p * 65536 + n) && sameNumbers (take (2 * n) (drop (512 * i) map-room)) (take (2 * n) fresh)));
+    changed = true;
   }
 
 abbrev pub lostOne : Extent → Extent

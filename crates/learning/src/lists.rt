@@ -2,14 +2,15 @@
 ghost use mathlib.Core.Path.{_≡_};
 ghost use Prim.Native.Nat.{ℕ, max, _+_, _-_, _*_, _/_, _≤_, _<_};
 ghost use mathlib.Core.Bool.{_&&_};
-ghost use lib.Dec.{ltb, eqb};
+ghost use lib.Dec.{eqb};
 ghost use mathlib.Core.List.{List, _++_};
+ghost use mathlib.Core.Option.{some};
 ghost use lib.ListN.{length, take, drop, getD};
 ghost use Rattle.meaning.specs.Tables.{mpt, kindNumber};
 ghost use Rattle.meaning.specs.Learn.{over, placeFor};
 ghost use Rattle.learning.specs.Kept.{pairsIn, KeptMaps};
-ghost use Rattle.learning.specs.News.{sameNumbers};
-ghost use Rattle.learning.specs.Learnt.{numbersOf, AssetsAre, HeadsAre, MptLearnt};
+ghost use Rattle.learning.specs.News.{countAt};
+ghost use Rattle.learning.specs.Learnt.{numbersOf, AssetsAre, mptHeld, HeadsAre, MptLearnt};
 use crate::Extent;
 use meaning::Part;
 use octets::wide;
@@ -83,21 +84,6 @@ fn assets_of(b: &[u8], fresh: &mut [u16; 510]) -> End
     End::At(n)
 }
 
-// Whether the first `n` numbers are those of the map room from `base` on.
-fn same_list(fresh: &[u16; 510], n: usize, map_room: &[u16], base: usize) -> bool
-    requires { ⌜ (n ≤ 510) × (length (now fresh) ≡ 510) × (base + n ≤ length (now «map_room»)) ⌝ }
-    ensures { λ r. ⌜ r ≡ sameNumbers (take n (drop base (now («map_room» .entry)))) (take n (now (fresh .entry))) ⌝ }
-{
-    let mut i: usize = 0;
-    while i < n {
-        if map_room[base + i] != fresh[i] {
-            return false;
-        }
-        i += 1;
-    }
-    true
-}
-
 // Writes the first `n` numbers to the map room from `base` on.
 fn list_to(fresh: &[u16; 510], n: usize, map_room: &mut [u16], base: usize)
     requires { ⌜ (n ≤ 510) × (length (now fresh) ≡ 510) × (base + n ≤ length (now «map_room»)) ⌝ }
@@ -108,28 +94,6 @@ fn list_to(fresh: &[u16; 510], n: usize, map_room: &mut [u16], base: usize)
         map_room[base + i] = fresh[i];
         i += 1;
     }
-}
-
-// Whether the list at place `i` is held with this head and these numbers.
-fn is_listed(
-    i: usize,
-    head: u32,
-    n: usize,
-    fresh: &[u16; 510],
-    map_count: usize,
-    map_heads: &[u32; 64],
-    map_room: &[u16],
-) -> bool
-    requires { ⌜ (i < 64) × (n ≤ 255) × («map_count» ≤ 64) × (length (now fresh) ≡ 510) × (length (now «map_heads») ≡ 64) × (length (now «map_room») ≡ 32768) ⌝ }
-    ensures { λ r. ⌜ r ≡ (ltb i «map_count» && (eqb (getD (now («map_heads» .entry)) i 0) head && sameNumbers (take (2 * n) (drop (512 * i) (now («map_room» .entry)))) (take (2 * n) (now (fresh .entry))))) ⌝ }
-{
-    if map_count <= i {
-        return false;
-    }
-    if map_heads[i] != head {
-        return false;
-    }
-    same_list(fresh, 2 * n, map_room, 512 * i)
 }
 
 // The head of a list: identifier and count.
@@ -151,7 +115,7 @@ fn count_with(map_count: usize, i: usize) -> usize
     map_count
 }
 
-// The list at place `i`, written where it is not held already.
+// The list written at place `i`: a change.
 fn keep_list(
     i: usize,
     id: u16,
@@ -164,11 +128,7 @@ fn keep_list(
     requires { ⌜ (i < 64) × (n ≤ 255) × (i ≤ e .«map_count») × (e .«map_count» ≤ 64) × (length (now fresh) ≡ 510) × (length (now «map_heads») ≡ 64) × (length (now «map_room») ≡ 32768) ⌝ }
     ensures { λ r. ⌜ HeadsAre i id n (now (fresh .entry)) e (now («map_heads» .entry)) (now («map_room» .entry)) r (now («map_heads» .exit)) (now («map_room» .exit)) ⌝ }
 {
-    let head = head_of(id, n);
-    if is_listed(i, head, n, fresh, e.map_count, map_heads, map_room) {
-        return e;
-    }
-    map_heads[i] = head;
+    map_heads[i] = head_of(id, n);
     list_to(fresh, 2 * n, map_room, 512 * i);
     Extent {
         seen: e.seen,
@@ -180,16 +140,77 @@ fn keep_list(
     }
 }
 
-// An MPT's body: its list takes its identifier's place, or is lost.
+// Whether the asset at `at` in the map room has this identifier and this kind.
+fn is_asset(map_room: &[u16], at: usize, id: u16, part: Part) -> bool
+    requires { ⌜ at + 1 < length (now «map_room») ⌝ }
+    ensures { λ r. ⌜ r ≡ (eqb (getD (now («map_room» .entry)) at 0) id && eqb (getD (now («map_room» .entry)) (at + 1) 0) (kindNumber part)) ⌝ }
+{
+    if map_room[at] != id {
+        return false;
+    }
+    map_room[at + 1] == kind_number(part)
+}
+
+// Whether an MPT's body gives the list of `n` assets that is in the map room from `base` on. Nearly every MPT does, so each asset is
+// compared where it stands, and none is copied.
+fn is_held(b: &[u8], n: usize, map_room: &[u16], base: usize) -> bool
+    requires { ⌜ base + 2 * n ≤ length (now «map_room») ⌝ }
+    ensures { λ r. ⌜ r ≡ mptHeld (mpt (now (b .entry))) (some n) (drop base (now («map_room» .entry))) ⌝ }
+{
+    let End::At(front) = mpt_front(b) else {
+        return false;
+    };
+    if b.len() <= front {
+        return false;
+    }
+    let mut left = wide(b[front]);
+    let mut from = front + 1;
+    let mut at = base;
+    let mut rest = n;
+    while 0 < left {
+        let Asset::Entry { end, part, carrier } = asset_at(b, from) else {
+            return false;
+        };
+        from = end;
+        left -= 1;
+        if let Carrier::By(id) = carrier {
+            if rest == 0 {
+                return false;
+            }
+            if !is_asset(map_room, at, id, part) {
+                return false;
+            }
+            at += 2;
+            rest -= 1;
+        }
+    }
+    rest == 0
+}
+
+// Whether a list is held at place `i`, and an MPT's body gives it.
+fn is_held_at(b: &[u8], i: usize, map_count: usize, map_heads: &[u32; 64], map_room: &[u16]) -> bool
+    requires { ⌜ (length (now «map_room») ≡ 32768) × ((ms : List (ℕ × ℕ)) × KeptMaps ms «map_count» (now «map_heads»)) ⌝ }
+    ensures { λ r. ⌜ r ≡ mptHeld (mpt (now (b .entry))) (countAt i (pairsIn «map_count» (now («map_heads» .entry)))) (drop (512 * i) (now («map_room» .entry))) ⌝ }
+{
+    if map_count <= i {
+        return false;
+    }
+    is_held(b, (map_heads[i] % 65536) as usize, map_room, 512 * i)
+}
+
+// An MPT's body: its list takes its identifier's place, or is lost. One that is held there already changes nothing.
 pub fn mpt(b: &[u8], id: u16, e: Extent, map_heads: &mut [u32; 64], map_room: &mut [u16]) -> Extent
     requires { ⌜ (e .lost < 18446744073709551615) × (length (now «map_room») ≡ 32768) × ((ms : List (ℕ × ℕ)) × KeptMaps ms (e .«map_count») (now «map_heads»)) ⌝ }
     ensures { λ r. ⌜ ((ms : List (ℕ × ℕ)) → KeptMaps ms (e .«map_count») (now («map_heads» .entry)) → MptLearnt id (mpt (now (b .entry))) ms e (now («map_room» .entry)) r (now («map_heads» .exit)) (now («map_room» .exit))) ⌝ }
 {
+    let i = place_for(map_heads, e.map_count, id);
+    if is_held_at(b, i, e.map_count, map_heads, map_room) {
+        return e;
+    }
     let mut fresh = [0u16; 510];
     let End::At(n) = assets_of(b, &mut fresh) else {
         return e;
     };
-    let i = place_for(map_heads, e.map_count, id);
     if 64 <= i {
         return Extent {
             seen: e.seen,

@@ -1,32 +1,29 @@
 -- What no news means: where nothing is new, learning changes at most the held fragments, so what is dropped and whether it is ready stay
--- as they are. Of every state, sound or not. Rests on specs/News, on FoldLaws, and on what the two tests of sameness prove (PairLaws of
--- `learning`).
-use Prim.Native.Nat.{ℕ, zero, suc, _+_, _*_}
-use mathlib.Core.Path.{_≡_, refl, sym, ap, ap₂, _∙_}
+-- as they are. Of every state, sound or not. Rests on specs/News, on FoldLaws, and on what the two tests of sameness prove (PairLaws and
+-- HeldLaws of `learning`).
+use Prim.Native.Nat.{ℕ, zero, suc, _*_}
+use mathlib.Core.Path.{_≡_, refl, sym, ap, _∙_}
 use mathlib.Core.Bool.{Bool, true, false, cond, not, _&&_}
-use mathlib.Core.List.{List, [], _∷_, _++_}
-use mathlib.Core.Option.{Option, none, some, Option·some-injective}
-use native.Mathlib.Omega.{arith}
-use lib.ListN.{length, take, drop, take-append-drop}
-use lib.Seq.{drop-drop}
+use mathlib.Core.List.{List, [], _∷_}
+use mathlib.Core.Option.{Option, none, some}
+use lib.ListN.{drop}
 use lib.Dec.{ltb, eqb}
-use borrow.Author.Tests.{eqb-true, not-false}
+use borrow.Author.Tests.{not-false}
 use Rattle.meaning.specs.Bytes.{Bytes}
 use Rattle.meaning.specs.Sets.{Words, inSet}
 use Rattle.meaning.specs.Readers.{Out}
 use Rattle.meaning.specs.Messages.{Message, messages, indicator}
 use Rattle.meaning.specs.Tables.{Mpt, mpt, Package, plt, Table, isMpt, isPlt, pa}
-use Rattle.meaning.specs.Learn.{Fragment, Known, Learnt, learnt, Listed, assetNumbers, lists, over, placeFor, listed, withList, mptFrom, learnMpt, packagesIn, pltFrom, learnPlt, learnTable, learnTables, paTables, withData, learnMessage, learnMessages, withFragments, without, fragmentOf, holdFirst, fits, middle, joined, lastFor, last, byIndicator, observe}
+use Rattle.meaning.specs.Learn.{Fragment, Known, Learnt, learnt, Listed, lists, placeFor, listed, withList, mptFrom, learnMpt, packagesIn, pltFrom, learnPlt, learnTable, learnTables, paTables, withData, learnMessage, learnMessages, withFragments, without, fragmentOf, holdFirst, fits, middle, joined, lastFor, last, byIndicator, observe}
 use Rattle.meaning.specs.Rules.{inDropSet, drops, ready}
 use Rattle.meaning.specs.declared.Limits.{Limits}
 use Rattle.meaning.specs.declared.Options.{Options}
 use Rattle.meaning.specs.declared.Service.{Service}
 use Rattle.meaning.proofs.SetLaws.{insert-there}
-use Rattle.meaning.proofs.ListLaws.{clash, and-both, or-neither}
-use Rattle.meaning.proofs.SoundnessKept.{putHead, put-is}
-use Rattle.meaning.proofs.SpareLaws.{numbers-length}
-use Rattle.learning.specs.News.{sameNumbers, samePairs, packagesNew, countAt, sameList, listNew}
-use Rattle.learning.proofs.PairLaws.{same-true, pairs-true}
+use Rattle.meaning.proofs.ListLaws.{and-both, or-neither}
+use Rattle.learning.specs.News.{samePairs, packagesNew, countAt, sameList, listNew}
+use Rattle.learning.proofs.PairLaws.{pairs-true}
+use Rattle.learning.proofs.HeldLaws.{list-there}
 use Rattle.observing.specs.News.{mptNew, newsTable, newsMessage, newsMessages, newsTables, newsLast, newsBy, news}
 use Rattle.observing.proofs.FoldLaws.{Folds}
 use Rattle.observing.proofs.TableSteps.{tables-fold}
@@ -39,39 +36,13 @@ known-same k a b c d e = λ i. record { plt-seen = a i; packages = b i; map-head
 
 -- ---- a list that stands in its place
 
--- numbers written over themselves
-over-same : (map-room ns : List ℕ) (at : ℕ) → take (length ns) (drop at map-room) ≡ ns → over map-room at ns ≡ map-room
-unfolding over
-over-same map-room ns at e =
-    ap (λ (z : List ℕ). take at map-room ++ z)
-    (ap₂ (λ (x y : List ℕ). x ++ y) (sym e) (sym (drop-drop (length ns) at map-room)) ∙ take-append-drop (length ns) (drop at map-room))
-    ∙ take-append-drop at map-room
-
--- a head put over itself
-head-there : (p n : ℕ) (ms : List (ℕ × ℕ)) → countAt (placeFor p ms) ms ≡ some n → putHead p n ms ≡ ms
-unfolding placeFor countAt putHead
-head-there p n [] e = clash (cc)
-head-there p n (m ∷ ms) e = go (eqb (m .0) p) refl e (head-there p n ms)
-  where
-    go : (a : Bool) → eqb (m .0) p ≡ a → countAt (cond a 0 (suc (placeFor p ms))) (m ∷ ms) ≡ some n → (countAt (placeFor p ms) ms ≡ some n → putHead p n ms ≡ ms)
-        → cond a ((p, n) ∷ ms) (m ∷ putHead p n ms) ≡ m ∷ ms
-    go true ea e ih = ap₂ (λ (x y : ℕ). (x, y) ∷ ms) (sym (eqb-true _ _ ea)) (sym (Option·some-injective _ _ e))
-    go false ea e ih = ap (λ (l : List (ℕ × ℕ)). m ∷ l) (ih e)
-
 module _ (p : ℕ) (as′ : Listed) (k : Known) where
   abbrev at : ℕ
   at = placeFor p (k .map-heads)
 
-  list-same : (o : Option ℕ) → countAt at (k .map-heads) ≡ o → sameList o as′ (drop (512 * at) (k .map-room)) ≡ true → withList p as′ k at ≡ k
+  list-same : sameList (countAt at (k .map-heads)) as′ (drop (512 * at) (k .map-room)) ≡ true → withList p as′ k at ≡ k
   unfolding withList
-  list-same none e h = clash (cc)
-  list-same (some n) e h =
-      let b = and-both (eqb n (length as′)) (sameNumbers (take (2 * length as′) (drop (512 * at) (k .map-room))) (assetNumbers as′)) h in
-      let heads-put = put-is p (length as′) (k .map-heads) ∙ head-there p (length as′) (k .map-heads) (e ∙ ap some (eqb-true n (length as′) (b .0))) in
-      let numbers =
-      over-same (k .map-room) (assetNumbers as′) (512 * at)
-      (ap (λ (c : ℕ). take c (drop (512 * at) (k .map-room))) (numbers-length as′) ∙ same-true (take (2 * length as′) (drop (512 * at) (k .map-room))) (assetNumbers as′) (b .1)) in
-      known-same k refl refl heads-put numbers refl
+  list-same h = let t = list-there p as′ (k .map-heads) (k .map-room) h in known-same k refl refl (t .0) (t .1) refl
 
   -- it is there, or it is lost
   list-still : listNew p as′ (k .map-heads) (k .map-room) ≡ false → cond (ltb at 64) (learnt (withList p as′ k at)) (record { known = k; lost = 1 }) .known ≡ k
@@ -80,7 +51,7 @@ module _ (p : ℕ) (as′ : Listed) (k : Known) where
     where
       go : (a : Bool) → (a && not (sameList (countAt at (k .map-heads)) as′ (drop (512 * at) (k .map-room)))) ≡ false
           → cond a (learnt (withList p as′ k at)) (record { known = k; lost = 1 }) .known ≡ k
-      go true e = list-same (countAt at (k .map-heads)) refl (not-false _ e)
+      go true e = list-same (not-false _ e)
       go false e = refl
 
 -- ---- a table

@@ -16,10 +16,10 @@ use Rattle.meaning.specs.Wishes.{wanted, ours}
 use Rattle.meaning.specs.Learn.{Listed, assetsIn, listsIn, placeFor}
 use Rattle.meaning.specs.Rules.{listOf, listsIt, keptBy, droppedBy}
 use Rattle.meaning.specs.Record.{pairOf}
-use Rattle.meaning.specs.Soundness.{SecondsBelow}
 use Rattle.meaning.specs.declared.Part.{Part}
 use Rattle.meaning.specs.declared.Options.{Options}
 use Rattle.learning.specs.Kept.{pairsIn}
+use Rattle.learning.proofs.PairLaws.{count-small}
 use Rattle.rules.specs.Changes.{Changed, Inserts, Removes, Packages, MapLists, listsAt}
 use Rattle.rules.proofs.MemberLaws.{Way, inserting, removing, changed-same, changed-none, changed-then, inserts-one}
 use Rattle.rules.proofs.AssetRules.{any-more}
@@ -60,14 +60,6 @@ list-none p (suc n) (m ∷ map-heads) map-room h = go (eqb (m / 65536) p) h (λ 
         → cond b (some (assetsIn (m % 65536) map-room)) (listOf p (listsAt n map-heads (drop 512 map-room))) ≡ none
     go true h ih = absurd (omega arith)
     go false h ih = ih (omega arith)
-
--- a head's count
-count-small : (n i : ℕ) (map-heads : List ℕ) → SecondsBelow 256 (pairsIn n map-heads) → i < n → n ≤ length map-heads → getD map-heads i 0 % 65536 < 256
-unfolding pairOf
-count-small zero i map-heads b h l = absurd (omega arith)
-count-small (suc n) i [] b h l = absurd (omega arith)
-count-small (suc n) zero (m ∷ map-heads) b h l = b .0
-count-small (suc n) (suc i) (m ∷ map-heads) b h l = count-small n i map-heads (b .1) (omega arith) (omega arith)
 
 -- a list that a head tells of is within the room
 pub list-within : (n i : ℕ) (map-heads map-room : List ℕ) → MapLists n map-heads map-room → i < n → 512 * i + 2 * (getD map-heads i 0 % 65536) ≤ length map-room

@@ -1,10 +1,28 @@
-use Rattle.learning.proofs.MapLaws.{list-lost, list-kept}
-use Rattle.learning.proofs.PairLaws.{pairs-length}
-use mathlib.Core.Path.{refl}
 use native.Mathlib.Omega.{arith}
+use mathlib.Core.Path.{refl, sym, _∙_}
+use Rattle.learning.proofs.PairLaws.{pairs-length}
+use Rattle.learning.proofs.MapLaws.{list-lost, list-kept}
+use Rattle.learning.proofs.HeldLaws.{list-held}
 use borrow.Author.Needs.{needs}
 use Rattle.learning.proofs.lists.mpt.Statement.{statement}
 use Rattle.learning.proofs.lists.mpt.Tie as tie
+
+place-for-requires : tie.Need-place-for-requires
+place-for-requires c κs =
+    let k = c .before .before .before .pre .2 .1 .pairs in
+    (omega (arith, k .count, k .few), pairs-length k)
+
+is-held-at-requires : tie.Need-is-held-at-requires
+is-held-at-requires c κs = search needs
+
+same-length : tie.Need-same-length
+same-length c = search needs
+
+returns : tie.Need-returns
+returns c = λ ms k.
+    let a = c .before .before .before .before .before .before .before .before .args in
+    let w = c .before .before .before .before .place-for in
+    list-held (a .id) (w .result) (a .e) (a .map-heads .now) (a .map-room .now) (w .ensures .0) ms k (a .b .now) (sym (c .before .is-held-at .ensures) ∙ c .if1 .taken)
 
 assets-of-requires : tie.Need-assets-of-requires
 assets-of-requires c κs = search needs
@@ -15,56 +33,63 @@ enum-known-n c = search needs
 enum-told : tie.Need-enum-told
 enum-told c = search needs
 
-returns : tie.Need-returns
-returns c = λ ms k. rw (rw (c .enum-told .given .1) at (c .before .before .assets-of .ensures .0)) (k, refl, refl)
-
-place-for-requires : tie.Need-place-for-requires
-place-for-requires c κs =
-    let k = c .before .before .before .before .before .before .before .before .pre .2 .1 .pairs in
-    (omega (arith, k .count, k .few), pairs-length k)
-
-add-t13 : tie.Need-add-t13
-add-t13 c = search needs
+same-length-2 : tie.Need-same-length-2
+same-length-2 c = search needs
 
 returns-2 : tie.Need-returns-2
-returns-2 c = λ ms k.
-    let a = c .before .before .before .before .before .before .before .before .before .before .before .args in
-    let n = c .before .before .before .before .before .n .given in
-    let w = c .before .before .place-for in
-    list-lost (a .b .now) (a .id) (n .0 .0) (w .result) _ (a .e) (a .map-heads .now) (a .map-room .now)
-    (rw (n .1) at (c .before .before .before .before .before .before .before .assets-of .ensures .0)) (w .ensures .0) ms k (omega arith)
+returns-2 c = λ ms k. rw (rw (c .enum-told .given .1) at (c .before .before .assets-of .ensures .0)) (k, refl, refl)
 
-keep-list-requires : tie.Need-keep-list-requires
-keep-list-requires c κs =
-    let p = c .before .before .before .before .before .before .before .before .before .before .before .before .before .pre in
-    let k = p .2 .1 .pairs in
-    let w = c .before .before .before .before .before .before .before .before .before .assets-of .ensures in
-    let n = c .before .before .before .before .before .before .before .n .given in
-    ((omega arith), (rw (n .1) at (w .0)) .0, c .before .before .before .before .place-for .ensures .1, (omega (arith, k .count, k .few)), w .1, pairs-length k, p .1)
+add-t17 : tie.Need-add-t17
+add-t17 c = search needs
 
-same-length : tie.Need-same-length
-same-length c = search needs
+same-length-3 : tie.Need-same-length-3
+same-length-3 c = search needs
 
 returns-3 : tie.Need-returns-3
 returns-3 c = λ ms k.
-    let a = c .before .before .before .before .before .before .before .before .before .before .before .before .before .before .before .before .args in
-    let n = c .before .before .before .before .before .before .before .before .before .before .n .given in
-    let w = c .before .before .before .before .before .before .before .place-for in
-    list-kept (a .b .now) (a .id) (n .0 .0) (w .result) _ (a .e) (a .map-heads .now) (a .map-room .now)
-    (rw (n .1) at (c .before .before .before .before .before .before .before .before .before .before .before .before .assets-of .ensures .0)) (w .ensures .0) ms k (omega arith)
-    _ _ _ (c .before .before .keep-list .ensures)
+    let n = c .before .before .before .n .given in
+    let m = c .before .before .before .before .before in
+    let w = m .before .before .before .before .before .before .place-for in
+    let a = m .before .before .before .before .before .before .before .before .before .before .args in
+    list-lost (a .id) (w .result) (a .e) (a .map-heads .now) (a .map-room .now) (w .ensures .0) ms k (a .b .now) (n .0 .0) _ (rw (n .1) at (m .assets-of .ensures .0)) (omega arith)
+
+keep-list-requires : tie.Need-keep-list-requires
+keep-list-requires c κs =
+    let n = c .before .before .before .before .before .n .given in
+    let m = c .before .before .before .before .before .before .before in
+    let w = m .before .before .before .before .before .before .place-for in
+    let p = m .before .before .before .before .before .before .before .before .before .before .pre in
+    let k = p .2 .1 .pairs in
+    (omega arith, (rw (n .1) at (m .assets-of .ensures .0)) .0, w .ensures .1, omega (arith, k .count, k .few), m .assets-of .ensures .1, pairs-length k, p .1)
+
+same-length-4 : tie.Need-same-length-4
+same-length-4 c = search needs
+
+returns-4 : tie.Need-returns-4
+returns-4 c = λ ms k.
+    let n = c .before .before .before .before .before .before .before .before .n .given in
+    let m = c .before .before .before .before .before .before .before .before .before .before in
+    let w = m .before .before .before .before .before .before .place-for in
+    let a = m .before .before .before .before .before .before .before .before .before .before .args in
+    list-kept (a .id) (w .result) (a .e) (a .map-heads .now) (a .map-room .now) (w .ensures .0) ms k (a .b .now) (n .0 .0) _ (rw (n .1) at (m .assets-of .ensures .0)) (omega arith)
+    (sym (m .before .before .before .is-held-at .ensures) ∙ m .before .before .if1 .left) _ _ _ (c .before .before .keep-list .ensures)
 
 pub mpt-spec : {M : Type 1} → statement M
 mpt-spec =
     tie.close
     (tie.spec
+    place-for-requires
+    is-held-at-requires
+    same-length
+    returns
     assets-of-requires
     enum-known-n
     enum-told
-    returns
-    place-for-requires
-    add-t13
+    same-length-2
     returns-2
+    add-t17
+    same-length-3
+    returns-3
     keep-list-requires
-    same-length
-    returns-3)
+    same-length-4
+    returns-4)
