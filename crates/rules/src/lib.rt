@@ -213,6 +213,18 @@ pub fn first_drops(o: Options, data_set: &[u64; 1024]) -> [u64; 1024]
     *data_set
 }
 
+// The same, written over `set` where it stands: an array that is handed back would be filled first and then copied.
+fn begin_drops(o: Options, data_set: &[u64; 1024], set: &mut [u64; 1024])
+    requires { ⌜ length (now «data_set») ≡ 1024 ⌝ }
+    ensures { λ _. ⌜ SetIs (λ q. not (o .carousel) && inSet (now («data_set» .entry)) q) (now (set .exit)) ⌝ }
+{
+    if !o.carousel {
+        *set = *data_set;
+        return;
+    }
+    *set = [0u64; 1024];
+}
+
 // From there on: all that is dropped, then what is kept taken out, then identifier 0; EIT off drops 0x8000.
 pub fn decide_on(
     o: Options,
@@ -246,8 +258,7 @@ pub fn decide(
     requires { ⌜ ((k : Known) × Keeps k e (now «data_set») (now packages) (now «map_heads») (now «map_room»)) ⌝ }
     ensures { λ _. ⌜ ((k : Known) → Keeps k e (now («data_set» .entry)) (now (packages .entry)) (now («map_heads» .entry)) (now («map_room» .entry)) → SetIs (drops o k) (now (set .exit))) ⌝ }
 {
-    let first = first_drops(o, data_set);
-    *set = first;
+    begin_drops(o, data_set, set);
     decide_on(o, e, packages, map_heads, map_room, set);
 }
 
