@@ -145,101 +145,112 @@ avoids-empty n (x ∷ xs) = rw (empty n x) (avoids-empty n xs)
 -- The identifiers, as f reads them, stand once each exactly if those from i on do and none of them is in the set of those before.
 pub record Once (f : ℕ → ℕ) (n : ℕ) (xs : List ℕ) (ws : Words) (i : ℕ) : Type 0 where
   pub within : i ≤ n
+  pub inside : n ≤ length xs
   pub all-words : length ws ≡ 1024
   pub are : distinct (map f (take n xs)) ≡ (avoids ws (map f (rest n i xs)) && distinct (map f (rest n i xs)))
 
-pub once-begin : (f : ℕ → ℕ) (n : ℕ) (xs : List ℕ) → Once f n xs (replicate 1024 0) 0
-once-begin f n xs =
+pub once-begin : {f : ℕ → ℕ} {n : ℕ} {xs : List ℕ} → n ≤ length xs → Once f n xs (replicate 1024 0) 0
+once-begin {f} {n} {xs} l =
     record {
       within = omega arith;
+      inside = l;
       all-words = refl;
       are = rw (rest-all n xs) (sym (ap (λ (b : Bool). b && distinct (map f (take n xs))) (avoids-empty 1024 (map f (take n xs)))));
     }
 
 module _ {f : ℕ → ℕ} {n : ℕ} {xs : List ℕ} {ws : Words} {i : ℕ} (k : Once f n xs ws i) where
-  -- p is the identifier at index i
-  module _ (h : i < n) (l : n ≤ length xs) {p : ℕ} (e : p ≡ f (getD xs i 0)) where
+  -- p is the identifier at index i, and t tells whether it is in the set
+  module _ (h : i < n) {p : ℕ} (e : p ≡ f (getD xs i 0)) {t : Bool} (a : t ≡ inSet ws p) where
     here : distinct (map f (take n xs)) ≡ (avoids ws (p ∷ map f (rest n (i + 1) xs)) && distinct (p ∷ map f (rest n (i + 1) xs)))
     here =
         k .are
-        ∙ ap (λ (ys : List ℕ). avoids ws ys && distinct ys) (ap (map f) (rest-next n i xs h l) ∙ ap (λ (q : ℕ). q ∷ map f (rest n (i + 1) xs)) (sym e))
+        ∙ ap (λ (ys : List ℕ). avoids ws ys && distinct ys) (ap (map f) (rest-next n i xs h (k .inside)) ∙ ap (λ (q : ℕ). q ∷ map f (rest n (i + 1) xs)) (sym e))
 
-    pub once-next : p < 65536 → inSet ws p ≡ false → {ws′ : Words} → ws′ ≡ withId ws p → Once f n xs ws′ (i + 1)
+    pub once-next : p < 65536 → t ≡ false → {ws′ : Words} → ws′ ≡ withId ws p → Once f n xs ws′ (i + 1)
     unfolding withId
-    once-next b t w =
-        let s : p / 64 < length ws = omega (arith, k .all-words) in
+    once-next b s w =
+        let v : p / 64 < length ws = omega (arith, k .all-words) in
         let g : length (withId ws p) ≡ 1024 = simp length-set (k .all-words) in
         record {
           within = omega arith;
+          inside = k .inside;
           all-words = ap length w ∙ g;
           are =
               here
-              ∙ once-cons ws p s (map f (rest n (i + 1) xs)) t
+              ∙ once-cons ws p v (map f (rest n (i + 1) xs)) (sym a ∙ s)
               ∙ ap (λ (v : Words). avoids v (map f (rest n (i + 1) xs)) && distinct (map f (rest n (i + 1) xs))) (sym w);
         }
 
-    pub once-twice : inSet ws p ≡ true → distinct (map f (take n xs)) ≡ false
-    once-twice t = here ∙ twice-cons ws p (map f (rest n (i + 1) xs)) t
+    pub once-twice : t ≡ true → false ≡ distinct (map f (take n xs))
+    once-twice s = sym (here ∙ twice-cons ws p (map f (rest n (i + 1) xs)) (sym a ∙ s))
 
-  pub once-done : n ≤ i → distinct (map f (take n xs)) ≡ true
+  pub once-done : n ≤ i → true ≡ distinct (map f (take n xs))
   unfolding all distinct
-  once-done h = k .are ∙ ap (λ (ys : List ℕ). avoids ws (map f ys) && distinct (map f ys)) (rest-none n i xs h)
+  once-done h = sym (k .are ∙ ap (λ (ys : List ℕ). avoids ws (map f ys) && distinct (map f ys)) (rest-none n i xs h))
+
+-- What a walk by a set asks at each turn and at each way out.
+pub ruleset passed = (once-next, once-twice, once-done)
 
 -- ---- none twice, by pairs
 
 -- An identifier is among those from i on exactly if it is among those from k on.
 pub record Among (f : ℕ → ℕ) (n : ℕ) (xs : List ℕ) (p i k : ℕ) : Type 0 where
   pub within : k ≤ n
+  pub inside : n ≤ length xs
   pub are : any (eqb p) (map f (rest n i xs)) ≡ any (eqb p) (map f (rest n k xs))
 
-pub among-begin : (f : ℕ → ℕ) (n : ℕ) (xs : List ℕ) (p i : ℕ) → i ≤ n → Among f n xs p i i
-among-begin f n xs p i h = record { within = h; are = refl }
+pub among-begin : {f : ℕ → ℕ} {n : ℕ} {xs : List ℕ} {p i : ℕ} → i ≤ n → n ≤ length xs → Among f n xs p i i
+among-begin h l = record { within = h; inside = l; are = refl }
 
 module _ {f : ℕ → ℕ} {n : ℕ} {xs : List ℕ} {p i k : ℕ} (m : Among f n xs p i k) where
   -- q is the identifier at index k
-  module _ (h : k < n) (l : n ≤ length xs) {q : ℕ} (e : q ≡ f (getD xs k 0)) where
+  module _ (h : k < n) {q : ℕ} (e : q ≡ f (getD xs k 0)) where
     next : any (eqb p) (map f (rest n i xs)) ≡ (eqb p q || any (eqb p) (map f (rest n (k + 1) xs)))
     unfolding any
-    next = m .are ∙ ap (λ (ys : List ℕ). any (eqb p) (map f ys)) (rest-next n k xs h l) ∙ ap (λ (z : ℕ). eqb p z || any (eqb p) (map f (rest n (k + 1) xs))) (sym e)
+    next = m .are ∙ ap (λ (ys : List ℕ). any (eqb p) (map f ys)) (rest-next n k xs h (m .inside)) ∙ ap (λ (z : ℕ). eqb p z || any (eqb p) (map f (rest n (k + 1) xs))) (sym e)
 
-    pub among-here : q ≡ p → any (eqb p) (map f (rest n i xs)) ≡ true
-    among-here s = next ∙ rw (eq-eqb p q (sym s))
+    pub among-here : q ≡ p → true ≡ any (eqb p) (map f (rest n i xs))
+    among-here s = sym (next ∙ rw (eq-eqb p q (sym s)))
 
     pub among-next : (q ≡ p → ⊥) → Among f n xs p i (k + 1)
-    among-next s = record { within = omega arith; are = next ∙ rw (ne-eqb p q (λ z. s (sym z))) }
+    among-next s = record { within = omega arith; inside = m .inside; are = next ∙ rw (ne-eqb p q (λ z. s (sym z))) }
 
-  pub among-none : n ≤ k → any (eqb p) (map f (rest n i xs)) ≡ false
+  pub among-none : n ≤ k → false ≡ any (eqb p) (map f (rest n i xs))
   unfolding any
-  among-none h = m .are ∙ ap (λ (ys : List ℕ). any (eqb p) (map f ys)) (rest-none n k xs h)
+  among-none h = sym (m .are ∙ ap (λ (ys : List ℕ). any (eqb p) (map f ys)) (rest-none n k xs h))
 
 -- The identifiers stand once each exactly if those from i on do.
 pub record Apart (f : ℕ → ℕ) (n : ℕ) (xs : List ℕ) (i : ℕ) : Type 0 where
   pub within : i ≤ n
+  pub inside : n ≤ length xs
   pub are : distinct (map f (take n xs)) ≡ distinct (map f (rest n i xs))
 
-pub apart-begin : (f : ℕ → ℕ) (n : ℕ) (xs : List ℕ) → Apart f n xs 0
-apart-begin f n xs = record { within = omega arith; are = ap (λ (ys : List ℕ). distinct (map f ys)) (sym (rest-all n xs)) }
+pub apart-begin : {f : ℕ → ℕ} {n : ℕ} {xs : List ℕ} → n ≤ length xs → Apart f n xs 0
+apart-begin {f} {n} {xs} l = record { within = omega arith; inside = l; are = ap (λ (ys : List ℕ). distinct (map f ys)) (sym (rest-all n xs)) }
 
 module _ {f : ℕ → ℕ} {n : ℕ} {xs : List ℕ} {i : ℕ} (m : Apart f n xs i) where
   -- p is the identifier at index i, and t tells whether it stands again behind it
-  module _ (h : i < n) (l : n ≤ length xs) {p : ℕ} (e : p ≡ f (getD xs i 0)) {t : Bool} (a : t ≡ any (eqb p) (map f (rest n (i + 1) xs))) where
+  module _ (h : i < n) {p : ℕ} (e : p ≡ f (getD xs i 0)) {t : Bool} (a : t ≡ any (eqb p) (map f (rest n (i + 1) xs))) where
     first-of : distinct (map f (take n xs)) ≡ (not t && distinct (map f (rest n (i + 1) xs)))
     unfolding distinct
     first-of =
         m .are
-        ∙ ap (λ (ys : List ℕ). distinct (map f ys)) (rest-next n i xs h l)
+        ∙ ap (λ (ys : List ℕ). distinct (map f ys)) (rest-next n i xs h (m .inside))
         ∙ ap (λ (q : ℕ). distinct (q ∷ map f (rest n (i + 1) xs))) (sym e)
         ∙ ap (λ (b : Bool). not b && distinct (map f (rest n (i + 1) xs))) (sym a)
 
     pub apart-next : t ≡ false → Apart f n xs (i + 1)
-    apart-next s = record { within = omega arith; are = first-of ∙ rw s }
+    apart-next s = record { within = omega arith; inside = m .inside; are = first-of ∙ rw s }
 
-    pub apart-twice : t ≡ true → distinct (map f (take n xs)) ≡ false
-    apart-twice s = first-of ∙ rw s
+    pub apart-twice : t ≡ true → false ≡ distinct (map f (take n xs))
+    apart-twice s = sym (first-of ∙ rw s)
 
-  pub apart-done : n ≤ i → distinct (map f (take n xs)) ≡ true
+  pub apart-done : n ≤ i → true ≡ distinct (map f (take n xs))
   unfolding distinct
-  apart-done h = m .are ∙ ap (λ (ys : List ℕ). distinct (map f ys)) (rest-none n i xs h)
+  apart-done h = sym (m .are ∙ ap (λ (ys : List ℕ). distinct (map f ys)) (rest-none n i xs h))
+
+-- What a walk by pairs asks at each turn and at each way out.
+pub ruleset pairs = (among-here, among-next, among-none, apart-next, apart-twice, apart-done)
 
 -- ---- the sum, as f reads the numbers
 

@@ -3,7 +3,7 @@
 ghost use mathlib.Core.Path.{_≡_};
 ghost use Prim.Native.Nat.{ℕ, _≤_, _<_};
 ghost use mathlib.Core.List.{map};
-ghost use lib.ListN.{length, take};
+ghost use lib.ListN.{length, take, getD};
 ghost use lib.Dec.{eqb, leb};
 ghost use Rattle.meaning.specs.Sets.{inSet, withId};
 ghost use Rattle.meaning.specs.Lists.{all, any, sum};
@@ -177,6 +177,13 @@ fn map_identifier(head: u32) -> u16
     (head / 65536) as u16
 }
 
+fn map_identifier_at(map_heads: &[u32; 64], i: usize) -> u16
+    requires { ⌜ (i < 64) × (length (now «map_heads») ≡ 64) ⌝ }
+    ensures { λ r. ⌜ (r ≡ pairOf (getD (now («map_heads» .entry)) i 0) .0) × (r < 65536) ⌝ }
+{
+    map_identifier(map_heads[i])
+}
+
 // Whether one of those from `i` on, up to `n`, has the identifier.
 fn map_among(map_heads: &[u32; 64], i: usize, n: usize, id: u16) -> bool
     requires { ⌜ (i ≤ n) × (n ≤ 64) × (length (now «map_heads») ≡ 64) ⌝ }
@@ -184,7 +191,7 @@ fn map_among(map_heads: &[u32; 64], i: usize, n: usize, id: u16) -> bool
 {
     let mut k = i;
     while k < n {
-        if map_identifier(map_heads[k]) == id {
+        if map_identifier_at(map_heads, k) == id {
             return true;
         }
         k += 1;
@@ -199,11 +206,11 @@ fn few_maps_distinct(map_heads: &[u32; 64], n: usize) -> bool
 {
     let mut i: usize = 0;
     while i < n {
-        let id = map_identifier(map_heads[i]);
-        if map_among(map_heads, i + 1, n, id) {
+        let id = map_identifier_at(map_heads, i);
+        i += 1;
+        if map_among(map_heads, i, n, id) {
             return false;
         }
-        i += 1;
     }
     true
 }
@@ -216,7 +223,7 @@ fn many_maps_distinct(map_heads: &[u32; 64], n: usize) -> bool
     let mut set = [0u64; 1024];
     let mut i: usize = 0;
     while i < n {
-        let id = map_identifier(map_heads[i]);
+        let id = map_identifier_at(map_heads, i);
         if seen_before(&mut set, id) {
             return false;
         }
@@ -257,6 +264,13 @@ fn fragment_identifier(head: u64) -> u16
     (head / 281474976710656) as u16
 }
 
+fn fragment_identifier_at(fragment_heads: &[u64; 256], i: usize) -> u16
+    requires { ⌜ (i < 256) × (length (now «fragment_heads») ≡ 256) ⌝ }
+    ensures { λ r. ⌜ (r ≡ fragmentIdentifier (getD (now («fragment_heads» .entry)) i 0)) × (r < 65536) ⌝ }
+{
+    fragment_identifier(fragment_heads[i])
+}
+
 // Whether one of those from `i` on, up to `n`, has the identifier.
 fn fragment_among(fragment_heads: &[u64; 256], i: usize, n: usize, id: u16) -> bool
     requires { ⌜ (i ≤ n) × (n ≤ 256) × (length (now «fragment_heads») ≡ 256) ⌝ }
@@ -264,7 +278,7 @@ fn fragment_among(fragment_heads: &[u64; 256], i: usize, n: usize, id: u16) -> b
 {
     let mut k = i;
     while k < n {
-        if fragment_identifier(fragment_heads[k]) == id {
+        if fragment_identifier_at(fragment_heads, k) == id {
             return true;
         }
         k += 1;
@@ -279,11 +293,11 @@ fn few_fragments_distinct(fragment_heads: &[u64; 256], n: usize) -> bool
 {
     let mut i: usize = 0;
     while i < n {
-        let id = fragment_identifier(fragment_heads[i]);
-        if fragment_among(fragment_heads, i + 1, n, id) {
+        let id = fragment_identifier_at(fragment_heads, i);
+        i += 1;
+        if fragment_among(fragment_heads, i, n, id) {
             return false;
         }
-        i += 1;
     }
     true
 }
@@ -296,7 +310,7 @@ fn many_fragments_distinct(fragment_heads: &[u64; 256], n: usize) -> bool
     let mut set = [0u64; 1024];
     let mut i: usize = 0;
     while i < n {
-        let id = fragment_identifier(fragment_heads[i]);
+        let id = fragment_identifier_at(fragment_heads, i);
         if seen_before(&mut set, id) {
             return false;
         }

@@ -1,14 +1,10 @@
 use Rattle.meaning.specs.Record.{fragmentIdentifier}
-use Rattle.soundness.proofs.SoundnessLaws.{Among, among-begin, among-here, among-next, among-none}
+use Rattle.soundness.proofs.SoundnessLaws.{Among, among-begin, pairs}
 use borrow.Author.Needs.{needs}
 use native.Mathlib.Omega.{arith}
-use mathlib.Core.Path.{sym}
 use Prim.Native.Nat.{_-_}
 use Rattle.soundness.proofs.fragment_among.Statement.{statement}
 use Rattle.soundness.proofs.fragment_among.Tie as tie
-use Rattle.soundness.proofs.fragment_among.Reads as reads
-use Rattle.soundness.proofs.fragment_among.Lts as lts
-use Rattle.soundness.proofs.fragment_identifier.Reads as fragment-identifier-reads
 
 abbrev Inv-loop : tie.InvT-loop
 Inv-loop fragment-heads i n id k₀ k = Among fragmentIdentifier n fragment-heads id i k
@@ -17,20 +13,13 @@ abbrev μ-loop : tie.MeasureT-loop
 μ-loop fragment-heads i n id k₀ k = n - k
 
 loop-holds : tie.Need-loop-holds Inv-loop μ-loop
-loop-holds c = among-begin fragmentIdentifier (c .args .n) (c .args .fragment-heads .now) (c .args .id) (c .args .i) (omega arith)
+loop-holds c = among-begin (omega arith) (omega arith)
 
-mul-fragment-identifier : tie.Need-mul-fragment-identifier Inv-loop μ-loop
-mul-fragment-identifier c = search needs
-
-element-copy-out-fragment-identifier :
-    tie.Need-element-copy-out-fragment-identifier Inv-loop μ-loop
-element-copy-out-fragment-identifier c = search needs
-
-fragment-identifier-requires : tie.Need-fragment-identifier-requires Inv-loop μ-loop
-fragment-identifier-requires c κs = search needs
+fragment-identifier-at-requires : tie.Need-fragment-identifier-at-requires Inv-loop μ-loop
+fragment-identifier-at-requires c κs = search needs
 
 returns : tie.Need-returns Inv-loop μ-loop
-returns c = sym (among-here (c .before .before .before .before .loop .inv) (omega arith) (omega arith) (c .before .fragment-identifier .ensures .0) (c .if1 .taken))
+returns c = search pairs
 
 add-k : tie.Need-add-k Inv-loop μ-loop
 add-k c = search needs
@@ -39,10 +28,10 @@ loop-less : tie.Need-loop-less Inv-loop μ-loop
 loop-less c = search needs
 
 loop-again : tie.Need-loop-again Inv-loop μ-loop
-loop-again c = among-next (c .before .before .before .before .loop .inv) (omega arith) (omega arith) (c .before .fragment-identifier .ensures .0) (c .if1 .left)
+loop-again c = search pairs
 
 returns-2 : tie.Need-returns-2 Inv-loop μ-loop
-returns-2 c = sym (among-none (c .before .loop .inv) (omega arith))
+returns-2 c = search pairs
 
 pub fragment-among-spec : {M : Type 1} → statement M
 fragment-among-spec =
@@ -51,9 +40,7 @@ fragment-among-spec =
     Inv-loop
     μ-loop
     loop-holds
-    mul-fragment-identifier
-    element-copy-out-fragment-identifier
-    fragment-identifier-requires
+    fragment-identifier-at-requires
     returns
     add-k
     loop-less
