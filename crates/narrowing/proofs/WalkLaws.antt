@@ -3,6 +3,7 @@
 use Prim.Native.Nat.{ℕ, _+_, _-_, _*_, _≤_, _<_}
 use mathlib.Core.Path.{_≡_, refl, sym, ap, ap₂, _∙_}
 use mathlib.Core.Bool.{Bool, true, false, _&&_, _||_}
+use mathlib.Core.Logic.{_⊎_, inl, inr}
 use mathlib.Core.List.{List, [], _∷_, _++_, map, flatten, append-assoc, append-nil}
 use mathlib.Core.Option.{Option, none, some, Option·map, Option·getD, Option·some-injective}
 use native.Mathlib.Omega.{arith}
@@ -313,9 +314,10 @@ module _ (o : Options) (p : ℕ) (s : Bytes) (tables : ℕ) (es : List Bytes) (e
       go [] e q = sym (append-nil y) ∙ ap (λ (z : Bytes). y ++ z) (sym (none-left (tablesAfter o p (drop at s)))) ∙ q
       go (x ∷ rest) e q = absurd (omega arith)
 
-  -- no table is left: the other entries stay
-  heads-stop : table (drop at s) ≡ none → y ++ take (tables - entry) (drop entry s) ≡ flatten (relength es (tablesAfter o p (drop tables s)))
-  heads-stop e =
+  -- no entry is left, or no table: the other entries stay
+  heads-stop : (tables ≤ entry) ⊎ (table (drop at s) ≡ none) → y ++ take (tables - entry) (drop entry s) ≡ flatten (relength es (tablesAfter o p (drop tables s)))
+  heads-stop (inl l) = let z : tables - entry ≡ 0 = omega arith in rw z (append-nil y ∙ heads-end l)
+  heads-stop (inr e) =
       ap (λ (z : Bytes). y ++ z) (sym (h .rest-bytes) ∙ sym (same-entries (h .rest)))
       ∙ ap (λ (ts : List Bytes). y ++ flatten (relength (h .rest) ts)) (sym (ap (λ (w : Walk (Table × Bytes)). map (tableAfter o p) (w .found)) (table-stop (drop at s) e))) ∙ h .total
 
@@ -350,6 +352,7 @@ pub record HeadsWritten (o : Options) (p : ℕ) (s : Bytes) (tables : ℕ) (d₀
   pub same : length d ≡ length d₀
   pub room : put + (tables - entry) ≤ length d
   pub fits : tables ≤ length s
+  pub inside : entry ≤ tables
   pub whole : entry < tables → entry + 4 ≤ tables
   pub sofar : Bytes
   pub wrote : Wrote sofar d₀ to d put
@@ -362,6 +365,7 @@ heads-begin o p s tables d to es h r =
       same = refl;
       room = r;
       fits = h .within;
+      inside = h .one;
       whole = four-left o p s tables es 1 tables [] (heads-start o p s tables es h) (h .within);
       sofar = [];
       wrote = wrote-none d to;
@@ -369,8 +373,8 @@ heads-begin o p s tables d to es h r =
     }
 
 module _ (o : Options) (p : ℕ) (s : Bytes) (tables : ℕ) (d₀ : Bytes) (to : ℕ) (d : Bytes) (at entry put : ℕ) (h : HeadsWritten o p s tables d₀ to d at entry put) where
-  pub heads-left : entry < tables → put + length (take (tables - entry) (drop entry s)) ≤ length d
-  heads-left l = omega (arith, h .room, h .fits, length-take-le (tables - entry) (drop entry s) (omega (arith, length-drop entry s, h .fits)))
+  pub heads-left : put + length (take (tables - entry) (drop entry s)) ≤ length d
+  heads-left = omega (arith, h .room, h .fits, length-take-le (tables - entry) (drop entry s) (omega (arith, length-drop entry s, h .fits)))
 
   pub heads-room : entry < tables → put + length (take (entry + 2 - entry) (drop entry s)) ≤ length d
   heads-room l = omega (arith, h .room, h .fits, h .whole l, length-take-le (entry + 2 - entry) (drop entry s) (omega (arith, length-drop entry s, h .fits, h .whole l)))
@@ -380,12 +384,9 @@ module _ (o : Options) (p : ℕ) (s : Bytes) (tables : ℕ) (d₀ : Bytes) (to :
   heads-two l w k =
       omega (arith, w .end, h .room, h .whole l, length-take-le (entry + 2 - entry) (drop entry s) (omega (arith, length-drop entry s, h .fits, h .whole l)))
 
-  pub heads-rest : {d′ : Bytes} {r : ℕ} → table (drop at s) ≡ none → Wrote (take (tables - entry) (drop entry s)) d put d′ r
+  pub heads-rest : {d′ : Bytes} {r : ℕ} → (tables ≤ entry) ⊎ (table (drop at s) ≡ none) → Wrote (take (tables - entry) (drop entry s)) d put d′ r
       → (es : List Bytes) → HeadEntries s tables es → Wrote (flatten (relength es (tablesAfter o p (drop tables s)))) d₀ to d′ r
   heads-rest e w es x = rw (← heads-stop o p s tables es entry at (h .sofar) (h .heads es x) (h .fits) e) (wrote-then (h .wrote) w)
-
-  pub heads-done : tables ≤ entry → (es : List Bytes) → HeadEntries s tables es → Wrote (flatten (relength es (tablesAfter o p (drop tables s)))) d₀ to d put
-  heads-done l es x = rw (← heads-end o p s tables es entry at (h .sofar) (h .heads es x) (h .fits) l) (h .wrote)
 
   -- two bytes and the new length
   pub heads-next : (es : List Bytes) → HeadEntries s tables es → (e n : ℕ) → TableIs (table (drop at s)) s at (To e) → entry < tables
@@ -403,6 +404,7 @@ module _ (o : Options) (p : ℕ) (s : Bytes) (tables : ℕ) (d₀ : Bytes) (to :
         same = k ∙ h .same;
         room = omega (arith, h .room, h .whole l, w .end, length-append (take 2 (drop entry s)) (put16 n), two-long, put-length n);
         fits = h .fits;
+        inside = h .whole l;
         whole = four-left o p s tables es (entry + 4) e (h .sofar ++ (take 2 (drop entry s) ++ put16 n)) (turn es x) (h .fits);
         sofar = h .sofar ++ (take 2 (drop entry s) ++ put16 n);
         wrote = wrote-then (h .wrote) w;

@@ -77,7 +77,8 @@ fn change_at(
     change_of(&s[from + 4..end], s[from], pid, o)
 }
 
-// The head's entries, from the second byte of the body up to the tables, written at `to`.
+// The head's entries, from the second byte of the body up to the tables, written at `to`. Those for which no table is left stay as they
+// are.
 fn heads_to(
     s: &[u8],
     tables: usize,
@@ -96,7 +97,7 @@ fn heads_to(
     while entry < tables {
         let from = at;
         let Table::To(end) = table_at(s, from) else {
-            return copy(&s[entry..tables], out, put);
+            break;
         };
         at = end;
         let b = &s[from + 4..end];
@@ -105,7 +106,7 @@ fn heads_to(
         put = put16(out, put2, n);
         entry += 4;
     }
-    put
+    copy(&s[entry..tables], out, put)
 }
 
 // The tables as narrowing leaves them, and what is left behind them, written at `to`.

@@ -2,8 +2,9 @@ use borrow.Author.Needs.{needs}
 use native.Mathlib.Omega.{arith}
 use Prim.Native.Nat.{_-_}
 use mathlib.Core.Path.{_∙_}
+use mathlib.Core.Logic.{inl, inr}
 use Rattle.meaning.specs.Bytes.{put16}
-use Rattle.narrowing.proofs.WalkLaws.{HeadsWritten, heads-begin, heads-left, heads-room, heads-two, heads-next, heads-rest, heads-done}
+use Rattle.narrowing.proofs.WalkLaws.{HeadsWritten, heads-begin, heads-left, heads-room, heads-two, heads-next, heads-rest}
 use Rattle.tables.proofs.WalkLaws.{no-table}
 use Rattle.narrowing.proofs.pa.heads_to.Statement.{statement}
 use Rattle.narrowing.proofs.pa.heads_to.Tie as tie
@@ -26,32 +27,6 @@ table-at-requires c κs = search needs
 enum-known-end : tie.Need-enum-known-end Inv-loop μ-loop
 enum-known-end c = search needs
 
-sub-copy : tie.Need-sub-copy Inv-loop μ-loop
-sub-copy c = omega (arith, c .before .before .before .loop .inv .fits)
-
-part-copy-start : tie.Need-part-copy-start Inv-loop μ-loop
-part-copy-start c = omega (arith, c .before .before .before .loop .inv .fits)
-
-part-copy-end : tie.Need-part-copy-end Inv-loop μ-loop
-part-copy-end c = omega (arith, c .before .before .before .loop .inv .fits)
-
-copy-requires : tie.Need-copy-requires Inv-loop μ-loop
-copy-requires c κs =
-    let a = c .before .before .before .before .before .before .before .before .args in
-    let l = c .before .before .before .before .before .loop in
-    heads-left (a .o) (a .pid) (a .s .now) (a .tables) (a .out .now) (a .to) (l .out) (l .at) (l .entry) (l .put) (l .inv) (omega arith)
-
-same-length : tie.Need-same-length Inv-loop μ-loop
-same-length c = omega (arith, c .before .before .before .before .before .before .before .before .loop .inv .same, c .before .before .copy .kept .1 .0)
-
-returns : tie.Need-returns Inv-loop μ-loop
-returns c =
-    let a = c .before .before .before .before .before .before .before .before .before .before .before .args in
-    let l = c .before .before .before .before .before .before .before .before .loop in
-    let t = c .before .before .before .before .before .before .table-at in
-    heads-rest (a .o) (a .pid) (a .s .now) (a .tables) (a .out .now) (a .to) (l .out) (l .at) (l .entry) (l .put) (l .inv)
-    (no-table (a .s .now) (l .at) (t .result) (c .before .before .before .before .before .match .keys2) (t .ensures)) (c .before .before .copy .ensures)
-
 add-b : tie.Need-add-b Inv-loop μ-loop
 add-b c = search needs
 
@@ -73,17 +48,17 @@ length-after-requires c κs = (_, c .before .before .before .before .before .bef
 add-copy : tie.Need-add-copy Inv-loop μ-loop
 add-copy c = search needs
 
-sub-copy-2 : tie.Need-sub-copy-2 Inv-loop μ-loop
-sub-copy-2 c = let l = c .before .before .before .before .before .before .before .before .loop .inv in omega (arith, l .fits, l .whole (omega arith))
+sub-copy : tie.Need-sub-copy Inv-loop μ-loop
+sub-copy c = let l = c .before .before .before .before .before .before .before .before .loop .inv in omega (arith, l .fits, l .whole (omega arith))
 
-part-copy-start-2 : tie.Need-part-copy-start-2 Inv-loop μ-loop
-part-copy-start-2 c = let l = c .before .before .before .before .before .before .before .before .loop .inv in omega (arith, l .fits, l .whole (omega arith))
+part-copy-start : tie.Need-part-copy-start Inv-loop μ-loop
+part-copy-start c = let l = c .before .before .before .before .before .before .before .before .loop .inv in omega (arith, l .fits, l .whole (omega arith))
 
-part-copy-end-2 : tie.Need-part-copy-end-2 Inv-loop μ-loop
-part-copy-end-2 c = let l = c .before .before .before .before .before .before .before .before .loop .inv in omega (arith, l .fits, l .whole (omega arith))
+part-copy-end : tie.Need-part-copy-end Inv-loop μ-loop
+part-copy-end c = let l = c .before .before .before .before .before .before .before .before .loop .inv in omega (arith, l .fits, l .whole (omega arith))
 
-copy-requires-2 : tie.Need-copy-requires-2 Inv-loop μ-loop
-copy-requires-2 c κs =
+copy-requires : tie.Need-copy-requires Inv-loop μ-loop
+copy-requires c κs =
     let a = c .before .before .before .before .before .before .before .before .before .before .before .before .before .args in
     let l = c .before .before .before .before .before .before .before .before .before .before .loop in
     heads-room (a .o) (a .pid) (a .s .now) (a .tables) (a .out .now) (a .to) (l .out) (l .at) (l .entry) (l .put) (l .inv) (omega arith)
@@ -92,7 +67,7 @@ put16-requires : tie.Need-put16-requires Inv-loop μ-loop
 put16-requires c κs =
     let a = c .before .before .before .before .before .before .before .before .before .before .before .before .before .before .before .before .before .args in
     let l = c .before .before .before .before .before .before .before .before .before .before .before .before .before .before .loop in
-    let u = c .before .before .before .copy2 in
+    let u = c .before .before .before .copy in
     heads-two (a .o) (a .pid) (a .s .now) (a .tables) (a .out .now) (a .to) (l .out) (l .at) (l .entry) (l .put) (l .inv) (omega arith) (u .ensures) (u .kept .1 .0)
 
 add-entry : tie.Need-add-entry Inv-loop μ-loop
@@ -107,19 +82,38 @@ loop-again c =
     let a = c .before .before .before .before .before .before .before .before .before .before .before .before .before .before .before .before .before .before .before .before .args in
     let l = c .before .before .before .before .before .before .before .before .before .before .before .before .before .before .before .before .before .loop in
     let k = rw (c .before .before .before .before .before .before .before .before .before .before .before .before .before .end .given .1) at (c .before .before .before .before .before .before .before .before .before .before .before .before .before .before .before .table-at .ensures) in
-    let u = c .before .before .before .before .before .before .copy2 in
+    let u = c .before .before .before .before .before .before .copy in
     let v = c .before .before .put16 in
     heads-next (a .o) (a .pid) (a .s .now) (a .tables) (a .out .now) (a .to) (l .out) (l .at) (l .entry) (l .put) (l .inv) (h .0) (h .1) _ _ k (omega arith)
     (c .before .before .before .before .before .before .before .before .before .length-after .ensures _ (a .o) (c .before .before .before .before .before .before .before .before .before .before .change-at .ensures)) _ _ _ _ (u .ensures) (v .ensures) (v .kept .0 ∙ u .kept .1 .0)
 
-same-length-2 : tie.Need-same-length-2 Inv-loop μ-loop
-same-length-2 c = c .before .loop .inv .same
+sub-copy-2 : tie.Need-sub-copy-2 Inv-loop μ-loop
+sub-copy-2 c = omega (arith, c .before .loop .inv .fits, c .before .loop .inv .inside)
 
-returns-2 : tie.Need-returns-2 Inv-loop μ-loop
-returns-2 c =
-    let a = c .before .before .before .before .args in
-    let l = c .before .loop in
-    heads-done (a .o) (a .pid) (a .s .now) (a .tables) (a .out .now) (a .to) (l .out) (l .at) (l .entry) (l .put) (l .inv) (omega arith)
+part-copy-start-2 : tie.Need-part-copy-start-2 Inv-loop μ-loop
+part-copy-start-2 c = omega (arith, c .before .loop .inv .fits, c .before .loop .inv .inside)
+
+part-copy-end-2 : tie.Need-part-copy-end-2 Inv-loop μ-loop
+part-copy-end-2 c = omega (arith, c .before .loop .inv .fits, c .before .loop .inv .inside)
+
+copy-requires-2 : tie.Need-copy-requires-2 Inv-loop μ-loop
+copy-requires-2 c κs =
+    let a = c .before .before .before .before .before .before .args in
+    let l = c .before .before .before .loop in
+    heads-left (a .o) (a .pid) (a .s .now) (a .tables) (a .out .now) (a .to) (l .out) (l .at) (l .entry) (l .put) (l .inv)
+
+same-length : tie.Need-same-length Inv-loop μ-loop
+same-length c = omega (arith, c .before .before .before .before .before .before .loop .inv .same, c .before .before .copy2 .kept .1 .0)
+
+returns : tie.Need-returns Inv-loop μ-loop
+returns c =
+    let a = c .before .before .before .before .before .before .before .before .before .args in
+    let l = c .before .before .before .before .before .before .loop in
+    heads-rest (a .o) (a .pid) (a .s .now) (a .tables) (a .out .now) (a .to) (l .out) (l .at) (l .entry) (l .put) (l .inv)
+    (elim (c .before .before .before .before .before .loop-test .came) [
+      | inl w ↦ inl (w .left)
+      | inr w ↦ inr (no-table (a .s .now) (l .at) (w .1 .result) (w .2 .keys2) (w .1 .ensures))
+    ]) (c .before .before .copy2 .ensures)
 
 pub heads-to-spec : {M : Type 1} → statement M
 heads-to-spec =
@@ -130,12 +124,6 @@ heads-to-spec =
     loop-holds
     table-at-requires
     enum-known-end
-    sub-copy
-    part-copy-start
-    part-copy-end
-    copy-requires
-    same-length
-    returns
     add-b
     sub-b
     part-b-start
@@ -143,13 +131,17 @@ heads-to-spec =
     change-at-requires
     length-after-requires
     add-copy
-    sub-copy-2
-    part-copy-start-2
-    part-copy-end-2
-    copy-requires-2
+    sub-copy
+    part-copy-start
+    part-copy-end
+    copy-requires
     put16-requires
     add-entry
     loop-less
     loop-again
-    same-length-2
-    returns-2)
+    sub-copy-2
+    part-copy-start-2
+    part-copy-end-2
+    copy-requires-2
+    same-length
+    returns)
