@@ -10,9 +10,8 @@ use crate::calls::start_in;
 use crate::records::CLAUSES;
 use crate::records::T_ABOVE;
 use crate::records::lent_with;
-use crate::records::sound_number;
+use crate::records::numbers_of;
 use crate::records::total_sound;
-use crate::records::unsound_number;
 use programs::asked::answer_number;
 use programs::pipe::close_output;
 use programs::pipe::write_all;
@@ -94,10 +93,11 @@ fn put_told(unsound: Told, sound: Told) -> bool {
 
 // A room of 16 MiB does not fit a stack, so of this clause the lengths alone are asked.
 fn put_total(f: Filter) -> bool {
-    if total_sound(f, unsound_number(T_ABOVE)) {
+    let n = numbers_of(T_ABOVE);
+    if total_sound(f, n.unsound) {
         return write_all(b": sound\n");
     }
-    if total_sound(f, sound_number(T_ABOVE)) {
+    if total_sound(f, n.sound) {
         return write_all(b": unsound, sound\n");
     }
     write_all(b": unsound, unsound\n")
@@ -118,9 +118,10 @@ fn one_clause(
     if clause == T_ABOVE {
         return put_total(f);
     }
-    let x = lent_with(f, clause, unsound_number(clause));
+    let n = numbers_of(clause);
+    let x = lent_with(f, clause, n.unsound);
     let unsound = calls_with(x, work, bodies, map_room, out);
-    let y = lent_with(f, clause, sound_number(clause));
+    let y = lent_with(f, clause, n.sound);
     let sound = calls_with(y, work, bodies, map_room, out);
     put_told(unsound, sound)
 }

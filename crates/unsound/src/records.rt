@@ -26,53 +26,38 @@ pub struct Lent {
     pub map_room: usize,
 }
 
-// The number that makes a clause's record unsound.
-pub fn unsound_number(clause: usize) -> usize {
-    match clause {
-        0 | 1 => 4097,
-        2 | 3 => 17,
-        4 => 32769,
-        5 => 32767,
-        6 => 4095,
-        7 => 131079,
-        8 => 0,
-        T_ABOVE => 16777217,
-        10 => 0,
-        11 => 17,
-        12 => 2048,
-        13 => 1,
-        14 => 256,
-        15 => 257,
-        16 => 65,
-        17 => 256,
-        18 => 2,
-        19 => 1,
-        20 | 21 => 7,
-        _ => 9,
-    }
+// The number that makes a clause's record unsound, and the nearest with which it is sound.
+pub struct Numbers {
+    pub unsound: usize,
+    pub sound: usize,
 }
 
-// The nearest number with which it is sound.
-pub fn sound_number(clause: usize) -> usize {
+fn two(unsound: usize, sound: usize) -> Numbers {
+    Numbers { unsound, sound }
+}
+
+pub fn numbers_of(clause: usize) -> Numbers {
     match clause {
-        0 | 1 => 4096,
-        2 | 3 => 16,
-        4 | 5 => 32768,
-        6 => 4096,
-        7 => 131078,
-        8 => 1,
-        T_ABOVE => 16777216,
-        10 => 1,
-        11 => 16,
-        12 => 2047,
-        13 => 0,
-        14 => 255,
-        15 => 256,
-        16 => 64,
-        17 => 255,
-        18 | 19 => 3,
-        20 | 21 => 8,
-        _ => 8,
+        0 | 1 => two(4097, 4096),
+        2 | 3 => two(17, 16),
+        4 => two(32769, 32768),
+        5 => two(32767, 32768),
+        6 => two(4095, 4096),
+        7 => two(131079, 131078),
+        8 => two(0, 1),
+        T_ABOVE => two(16777217, 16777216),
+        10 => two(0, 1),
+        11 => two(17, 16),
+        12 => two(2048, 2047),
+        13 => two(1, 0),
+        14 => two(256, 255),
+        15 => two(257, 256),
+        16 => two(65, 64),
+        17 => two(256, 255),
+        18 => two(2, 3),
+        19 => two(1, 3),
+        20 | 21 => two(7, 8),
+        _ => two(9, 8),
     }
 }
 
