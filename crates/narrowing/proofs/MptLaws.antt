@@ -8,7 +8,7 @@ use mathlib.Core.Option.{Option, none, some, IsSome, Option·getD}
 use native.Mathlib.Nat.{mod-eq-of-lt, sub-zero}
 use native.Mathlib.Omega.{arith}
 use lib.ListN.{length, take, drop, getD, length-append, length-drop}
-use lib.Seq.{length-take-le}
+use lib.Seq.{length-take-le, drop-drop, take-add}
 use Rattle.meaning.specs.Bytes.{Bytes}
 use Rattle.meaning.specs.Writing.{Wrote}
 use Rattle.meaning.specs.Lists.{keep, all}
@@ -171,22 +171,45 @@ module _ (o : Options) (b : Bytes) (at count : ℕ) where
 
 -- ---- the copy
 
--- The wanted ones of those read were written at `to` of d, which is d′ now.
-pub record Writing (o : Options) (b : Bytes) (at count : ℕ) (d : Bytes) (to : ℕ) (d′ : Bytes) (from left put : ℕ) : Type 0 where
+-- Of the wanted ones of those read, these bytes were written at `to` of d, which is d′ now; the others stand one behind the other from `row` on.
+pub record Writing (o : Options) (b : Bytes) (at count : ℕ) (d : Bytes) (to : ℕ) (d′ : Bytes) (from left put row : ℕ) : Type 0 where
   pub pre : List Entry
   pub sofar : Sofar b at count from left pre
-  pub wrote : Wrote (bytesOf (keep (wantedEntry o) pre)) d to d′ put
+  pub written : Bytes
+  pub split : bytesOf (keep (wantedEntry o) pre) ≡ written ++ take (from - row) (drop row b)
+  pub forth : row ≤ from
+  pub wrote : Wrote written d to d′ put
   pub same : length d′ ≡ length d
 
-module _ (o : Options) (b : Bytes) (at count : ℕ) (d : Bytes) (to : ℕ) where
-  pub write-start : at ≤ length b → Writing o b at count d to d at count to
-  unfolding keep flatten
-  write-start h = record { pre = []; sofar = none-read b at count h; wrote = wrote-none d to; same = refl }
+-- a part, and the part behind it
+part-part : (a m e : ℕ) (b : Bytes) → a ≤ m → m ≤ e → take (m - a) (drop a b) ++ take (e - m) (drop m b) ≡ take (e - a) (drop a b)
+part-part a m e b h k =
+    let n : a + (m - a) ≡ m = omega arith in
+    let z : m - a + (e - m) ≡ e - a = omega arith in
+    ap (λ (i : ℕ). take (m - a) (drop a b) ++ take (e - m) (drop i b)) (sym n) ∙ ap (λ (l : Bytes). take (m - a) (drop a b) ++ take (e - m) l) (sym (drop-drop (m - a) a b))
+    ∙ sym (take-add (m - a) (e - m) (drop a b)) ∙ ap (λ (i : ℕ). take i (drop a b)) z
 
-  module _ (d′ : Bytes) (from left put : ℕ) (i : Writing o b at count d to d′ from left put) where
+no-part : (a : ℕ) (b : Bytes) → take (a - a) (drop a b) ≡ []
+no-part a b = ap (λ (i : ℕ). take i (drop a b)) (let z : a - a ≡ 0 = omega arith in z)
+
+module _ (o : Options) (b : Bytes) (at count : ℕ) (d : Bytes) (to : ℕ) where
+  pub write-start : at ≤ length b → Writing o b at count d to d at count to at
+  unfolding keep flatten
+  write-start h = record { pre = []; sofar = none-read b at count h; written = []; split = sym (no-part at b); forth = omega arith; wrote = wrote-none d to; same = refl }
+
+  module _ (d′ : Bytes) (from left put row : ℕ) (i : Writing o b at count d to d′ from left put row) where
     -- all can be read
     pub write-cut : 0 < left → entry (drop from b) ≡ none → IsSome (many count entry (drop at b)) → ⊥
     write-cut h q s = rw (cut b at count from left (i .pre) (i .sofar) h q) at s
+
+    pub write-room : IsSome (many count entry (drop at b)) → to + length (keptBytes o (many count entry (drop at b))) ≤ length d → put + length (take (from - row) (drop row b)) ≤ length d′
+    write-room s r =
+        let k = kept-short b at count from left (i .pre) (i .sofar) o s in
+        omega (arith, k, ap length (i .split), length-append (i .written) (take (from - row) (drop row b)), i .wrote .end, i .same)
+
+    -- the row is written
+    row-written : (d″ : Bytes) (p : ℕ) → Wrote (take (from - row) (drop row b)) d′ put d″ p → Wrote (bytesOf (keep (wantedEntry o) (i .pre))) d to d″ p
+    row-written d″ p w = rw (i .split) (wrote-then (i .wrote) w)
 
     module _ (e : ℕ) (part : Part) (c : Carrier) (h : 0 < left) (l : AssetIs b from (Asset.Entry e part c)) where
       abbrev copied : Entry
@@ -195,26 +218,31 @@ module _ (o : Options) (b : Bytes) (at count : ℕ) (d : Bytes) (to : ℕ) where
       next-read : Sofar b at count e (left - 1) (i .pre ++ copied ∷ [])
       next-read = one-read b at count from left (i .pre) (i .sofar) e part c h l
 
-      module _ (q : wanted o part ≡ true) where
-        pub write-room : IsSome (many count entry (drop at b)) → to + length (keptBytes o (many count entry (drop at b))) ≤ length d
-            → put + length (take (e - from) (drop from b)) ≤ length d′
-        write-room s r =
-            let k = simp length-append at (rw (bytes-one (wantedEntry o) (i .pre) copied q) at (kept-short b at count e (left - 1) _ next-read o s)) in
-            omega (arith, k, i .wrote .end, i .same)
+      pub write-kept : wanted o part ≡ true → Writing o b at count d to d′ e (left - 1) put row
+      write-kept q = record {
+        pre = _;
+        sofar = next-read;
+        written = i .written;
+        split = bytes-one (wantedEntry o) (i .pre) copied q ∙ ap (λ (y : Bytes). y ++ take (e - from) (drop from b)) (i .split)
+            ∙ append-assoc (i .written) (take (from - row) (drop row b)) (take (e - from) (drop from b)) ∙ ap (λ (y : Bytes). i .written ++ y) (part-part row from e b (i .forth) (omega (arith, l .1)));
+        forth = omega (arith, i .forth, l .1);
+        wrote = i .wrote;
+        same = i .same;
+      }
 
-        pub write-kept : (d″ : Bytes) (p : ℕ) → Wrote (take (e - from) (drop from b)) d′ put d″ p → length d″ ≡ length d′ → Writing o b at count d to d″ e (left - 1) p
-        write-kept d″ p w s = record {
-          pre = _;
-          sofar = next-read;
-          wrote = rw (bytes-one (wantedEntry o) (i .pre) copied q) (wrote-then (i .wrote) w);
-          same = s ∙ i .same;
-        }
+      pub write-gone : wanted o part ≡ false → (d″ : Bytes) (p : ℕ) → Wrote (take (from - row) (drop row b)) d′ put d″ p → length d″ ≡ length d′ → Writing o b at count d to d″ e (left - 1) p e
+      write-gone q d″ p w s = record {
+        pre = _;
+        sofar = next-read;
+        written = bytesOf (keep (wantedEntry o) (i .pre));
+        split = ap bytesOf (keep-gone (wantedEntry o) (i .pre) copied q) ∙ sym (append-nil (bytesOf (keep (wantedEntry o) (i .pre)))) ∙ ap (λ (y : Bytes). bytesOf (keep (wantedEntry o) (i .pre)) ++ y) (sym (no-part e b));
+        forth = omega arith;
+        wrote = row-written d″ p w;
+        same = s ∙ i .same;
+      }
 
-      pub write-gone : wanted o part ≡ false → Writing o b at count d to d′ e (left - 1) put
-      write-gone q = record { pre = _; sofar = next-read; wrote = rw (keep-gone (wantedEntry o) (i .pre) copied q) (i .wrote); same = i .same }
-
-    pub write-end : left ≡ 0 → Wrote (keptBytes o (many count entry (drop at b))) d to d′ put
-    write-end z = rw (all-read b at count from left (i .pre) (i .sofar) z) (i .wrote)
+    pub write-end : left ≡ 0 → (d″ : Bytes) (p : ℕ) → Wrote (take (from - row) (drop row b)) d′ put d″ p → Wrote (keptBytes o (many count entry (drop at b))) d to d″ p
+    write-end z d″ p w = rw (all-read b at count from left (i .pre) (i .sofar) z) (row-written d″ p w)
 
 -- ---- the body without what is not wanted
 

@@ -78,7 +78,7 @@ pub fn entries(b: &[u8], at: usize, count: usize, o: Options) -> EntryWalk
     }
 }
 
-// The wanted ones of `count` entries, written at `to`.
+// The wanted ones of `count` entries, written at `to`: each row of them, from `row` on, in one copy.
 fn entries_to(b: &[u8], at: usize, count: usize, o: Options, out: &mut [u8], to: usize) -> usize
     requires { ⌜ (at ≤ length (now b)) × IsSome (many count entry (drop at (now b))) × (to + length (keptBytes o (many count entry (drop at (now b)))) ≤ length (now out)) ⌝ }
     ensures { λ r. ⌜ Wrote (keptBytes o (many count entry (drop at (now (b .entry))))) (now (out .entry)) to (now (out .exit)) r ⌝ }
@@ -86,6 +86,7 @@ fn entries_to(b: &[u8], at: usize, count: usize, o: Options, out: &mut [u8], to:
     let mut from = at;
     let mut left = count;
     let mut put = to;
+    let mut row = at;
     while 0 < left {
         let start = from;
         let Asset::Entry { end, part, .. } = asset_at(b, start) else {
@@ -93,11 +94,12 @@ fn entries_to(b: &[u8], at: usize, count: usize, o: Options, out: &mut [u8], to:
         };
         from = end;
         left -= 1;
-        if wanted(o, part) {
-            put = copy(&b[start..end], out, put);
+        if !wanted(o, part) {
+            put = copy(&b[row..start], out, put);
+            row = end;
         }
     }
-    put
+    copy(&b[row..from], out, put)
 }
 
 // What narrowing makes of an MPT's body.
