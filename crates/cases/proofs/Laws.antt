@@ -1,11 +1,11 @@
 -- The lengths of an answer's parts, and what each case kind changes.
-use Prim.Native.Nat.{ℕ, _≤_}
+use Prim.Native.Nat.{ℕ, _+_, _≤_}
 use mathlib.Core.Path.{_≡_, refl}
 use mathlib.Core.List.{List}
 use mathlib.Core.Option.{Option}
 use lib.ListN.{length, getD}
 use borrow.Author.Tests.{eq-eqb, ne-eqb}
-use Rattle.meaning.specs.Bytes.{Bytes, be16At, put16, put32}
+use Rattle.meaning.specs.Bytes.{Bytes, be16At, be32At, put16, put32}
 use Rattle.meaning.specs.Narrow.{Change, changeTable, changePayload, changePacket}
 use Rattle.meaning.specs.Refusals.{narrowingLength}
 use Rattle.meaning.specs.Programs.{optionsOf}
@@ -13,7 +13,8 @@ use Rattle.meaning.specs.declared.Narrowing.{Narrowing}
 use Rattle.meaning.specs.declared.Options.{Options}
 use Rattle.narrowing.specs.Answers.{NarrowedAs}
 use Rattle.programs.proofs.LineLaws.{wrote-within}
-use Rattle.cases.specs.Answers.{threeBytes, rowBytes, frontBytes, changeAs}
+use Rattle.cases.specs.declared.Asked.{Asked}
+use Rattle.cases.specs.Answers.{threeBytes, rowBytes, frontBytes, changeAs, narrowingAt}
 
 pub three-long : (a b c : ℕ) → length (threeBytes a b c) ≡ 12
 unfolding threeBytes put32 put16
@@ -27,18 +28,23 @@ pub six : (n : Narrowing) → length (frontBytes n) ≡ 6
 unfolding frontBytes put32 put16
 six n = refl
 
-module _ (case-kind : ℕ) (head input : Bytes) (o : Options) (s : ℕ) (i : s ≡ be16At head 1) (e : o ≡ optionsOf (getD head 0 0) s) where
-  pub case-table : case-kind ≡ 1 → changeAs case-kind head input ≡ changeTable o input
+module _ (case-kind : ℕ) (o : Options) (id : ℕ) (input : Bytes) where
+  pub case-table : case-kind ≡ 1 → changeAs case-kind o id input ≡ changeTable o input
   unfolding changeAs
-  case-table k = rw (e, i, eq-eqb case-kind 1 k)
+  case-table k = rw (eq-eqb case-kind 1 k)
 
-  pub case-payload : (p : ℕ) → p ≡ be16At head 3 → (case-kind ≡ 1 → ⊥) → case-kind ≡ 2 → changeAs case-kind head input ≡ changePayload o p input
+  pub case-payload : (case-kind ≡ 1 → ⊥) → case-kind ≡ 2 → changeAs case-kind o id input ≡ changePayload o id input
   unfolding changeAs
-  case-payload p j n k = rw (e, i, j, ne-eqb case-kind 1 n, eq-eqb case-kind 2 k)
+  case-payload n k = rw (ne-eqb case-kind 1 n, eq-eqb case-kind 2 k)
 
-  pub case-packet : (case-kind ≡ 1 → ⊥) → (case-kind ≡ 2 → ⊥) → changeAs case-kind head input ≡ changePacket o input
+  pub case-packet : (case-kind ≡ 1 → ⊥) → (case-kind ≡ 2 → ⊥) → changeAs case-kind o id input ≡ changePacket o input
   unfolding changeAs
-  case-packet n m = rw (e, i, ne-eqb case-kind 1 n, ne-eqb case-kind 2 m)
+  case-packet n m = rw (ne-eqb case-kind 1 n, ne-eqb case-kind 2 m)
+
+pub narrowing-is : (s : Bytes) (at : ℕ) {o : Options} {p id out input : ℕ} → p ≡ be16At s at → o ≡ optionsOf (getD s 0 0) p → id ≡ be16At s (at + 2) → out ≡ be32At s (at + 4)
+    → input ≡ be32At s (at + 8) → _≡_ {A = Asked} (record { options = o; id = id; out = out; input = input }) (narrowingAt s at)
+unfolding narrowingAt
+narrowing-is s at i o d x n = rw (o, i, d, x, n)
 
 pub told-within : (x : ℕ) (n : Option Change) (d d′ : Bytes) (r : Narrowing) (s w : List ℕ) → NarrowedAs x n d d′ r s w → narrowingLength r ≤ length d′
 told-within x n d d′ r s w h = wrote-within (h .written)

@@ -12,7 +12,7 @@ use Rattle.meaning.specs.Bytes.{Bytes, be16At, be32At}
 use Rattle.meaning.specs.Programs.{optionsOf}
 use Rattle.meaning.specs.declared.Options.{Options}
 use Rattle.cases.specs.declared.streams.Asked.{Asked}
-use Rattle.cases.specs.Streams.{headOf, headFits, LengthsFit}
+use Rattle.cases.specs.Streams.{askedAt, headFits, LengthsFit}
 
 module _ {s : Bytes} {most : ℕ} where
   pub fit-none : LengthsFit s 0 most
@@ -39,11 +39,11 @@ module _ {s : Bytes} {most : ℕ} where
   pub not-fit : {n i len : ℕ} → i < n → len ≡ be32At s (4 * i) → most < len → LengthsFit s n most → ⊥
   not-fit {n} {i} {len} h e l f = let z : len ≤ most = fit-one f h e in omega arith
 
-pub head-is : (s : Bytes) {o : Options} {p work total most map-room out calls : ℕ} → p ≡ be16At s 1 → o ≡ optionsOf (getD s 0 0) p → work ≡ be32At s 3
-    → total ≡ be32At s 7 → most ≡ be32At s 11 → map-room ≡ be32At s 15 → out ≡ be32At s 19 → calls ≡ be16At s 23
-    → _≡_ {A = Asked} (record { options = o; work = work; total = total; most = most; «map_room» = map-room; out = out; calls = calls }) (headOf s)
-unfolding headOf
-head-is s i o w t m n x k = rw (o, i, w, t, m, n, x, k)
+pub asked-is : (s : Bytes) (at : ℕ) {o : Options} {p work total most map-room out calls : ℕ} → p ≡ be16At s at → o ≡ optionsOf (getD s 0 0) p → work ≡ be32At s (at + 2)
+    → total ≡ be32At s (at + 6) → most ≡ be32At s (at + 10) → map-room ≡ be32At s (at + 14)
+    → _≡_ {A = Asked} (record { options = o; work = work; total = total; most = most; «map_room» = map-room; out = out; calls = calls }) (askedAt s at out calls)
+unfolding askedAt
+asked-is s at i o w t m n = rw (o, i, w, t, m, n)
 
 -- Each room is as long as is asked for, and there are no more calls than the program has lengths for.
 pub record Roomy (h : Asked) (work total map-room out : ℕ) : Type 0 where

@@ -1,15 +1,17 @@
 -- The bytes of an answer's head, and what a case asks for: docs/ARCHITECTURE.md, "Format of cases and answers".
-use Prim.Native.Nat.{ℕ}
+use Prim.Native.Nat.{ℕ, _+_}
 use mathlib.Core.Bool.{cond}
 use mathlib.Core.List.{List, [], _∷_, _++_}
 use mathlib.Core.Option.{Option}
 use lib.Dec.{eqb}
 use lib.ListN.{getD}
-use Rattle.meaning.specs.Bytes.{Bytes, be16At, put32}
+use Rattle.meaning.specs.Bytes.{Bytes, be16At, be32At, put32}
 use Rattle.meaning.specs.Narrow.{Change, changeTable, changePayload, changePacket}
 use Rattle.meaning.specs.Refusals.{narrowingNumber, narrowingChanged, narrowingLength}
 use Rattle.meaning.specs.Programs.{optionsOf}
 use Rattle.meaning.specs.declared.Narrowing.{Narrowing}
+use Rattle.meaning.specs.declared.Options.{Options}
+use Rattle.cases.specs.declared.Asked.{Asked}
 
 unfoldable pub changedFlag : Narrowing → ℕ
 unfolding narrowingChanged
@@ -29,8 +31,10 @@ frontBytes n = (narrowingNumber n ∷ []) ++ ((changedFlag n ∷ []) ++ put32 (n
 unfoldable pub headBytes : Narrowing → List ℕ → List ℕ → Bytes
 headBytes n stayed went = frontBytes n ++ (rowBytes stayed ++ rowBytes went)
 
--- What a case of a case kind changes, by its head from the flags on.
-unfoldable pub changeAs : ℕ → Bytes → Bytes → Option Change
-changeAs case-kind head input =
-    let o = optionsOf (getD head 0 0) (be16At head 1) in
-    cond (eqb case-kind 1) (changeTable o input) (cond (eqb case-kind 2) (changePayload o (be16At head 3) input) (changePacket o input))
+-- What a narrowing of a case kind, a table, a payload or else a packet, changes; the identifier is read for a payload alone.
+unfoldable pub changeAs : ℕ → Options → ℕ → Bytes → Option Change
+changeAs case-kind o id input = cond (eqb case-kind 1) (changeTable o input) (cond (eqb case-kind 2) (changePayload o id input) (changePacket o input))
+
+-- What the head of a narrowing asks for: flags or wishes first; from an offset on service, identifier, and the lengths of output and input.
+unfoldable pub narrowingAt : Bytes → ℕ → Asked
+narrowingAt s at = record { options = optionsOf (getD s 0 0) (be16At s at); id = be16At s (at + 2); out = be32At s (at + 4); input = be32At s (at + 8) }

@@ -1,6 +1,6 @@
 -- What the head of a stream asks for, whether lengths fit, and the bytes before those of a call: docs/ARCHITECTURE.md, "Format of cases
 -- and answers".
-use Prim.Native.Nat.{ℕ, _*_, _≤_, _<_}
+use Prim.Native.Nat.{ℕ, _+_, _*_, _≤_, _<_}
 use mathlib.Core.Path.{_≡_}
 use mathlib.Core.Bool.{Bool, true, false, _&&_}
 use mathlib.Core.List.{List, [], _∷_, _++_}
@@ -16,16 +16,16 @@ use Rattle.recorder.specs.Calls.{PushedAs}
 use Rattle.cases.specs.declared.streams.Asked.{Asked}
 use Rattle.cases.specs.Answers.{threeBytes}
 
--- Flags, service, W, T, M, the lengths of the map room and of the output, the number of calls.
-unfoldable pub headOf : Bytes → Asked
-headOf s = record {
-  options = optionsOf (getD s 0 0) (be16At s 1);
-  work = be32At s 3;
-  total = be32At s 7;
-  most = be32At s 11;
-  «map_room» = be32At s 15;
-  out = be32At s 19;
-  calls = be16At s 23;
+-- Flags or wishes first; from an offset on service, W, T, M and the length of the map room. Output and number of calls stand elsewhere.
+unfoldable pub askedAt : Bytes → ℕ → ℕ → ℕ → Asked
+askedAt s at out calls = record {
+  options = optionsOf (getD s 0 0) (be16At s at);
+  work = be32At s (at + 2);
+  total = be32At s (at + 6);
+  most = be32At s (at + 10);
+  «map_room» = be32At s (at + 14);
+  out = out;
+  calls = calls;
 }
 
 -- Whether it fits the program's rooms, by their lengths: work room, fragment room, map room, output.

@@ -1,6 +1,7 @@
-// Answers to a batch of cases on standard input, in the format of docs/ARCHITECTURE.md: a stream (case kind 0, in `streams`) or a narrowing
-// (case kinds 1 to 3). No contract can say which bytes are read or written, so the promises stop at what is read from and written to the
-// arrays here. A read or a write that fails ends the program; `programs.pipe` tells it.
+// Answers to a batch of cases on standard input, in the format of docs/ARCHITECTURE.md: a stream (case kind 0, in `streams`), calls (case
+// kind 4, in `calls`), or a narrowing (case kinds 1 to 3, and 7 to 9 with modes). No contract can say which bytes are read or written, so
+// the promises stop at what is read from and written to the arrays here. A read or a write that fails ends the program; `programs.pipe`
+// tells it.
 ghost use mathlib.Core.Path.{_≡_};
 ghost use Prim.Native.Nat.{_+_, _≤_};
 ghost use lib.ListN.{length};
@@ -8,12 +9,15 @@ ghost use Rattle.meaning.specs.Writing.{Wrote};
 ghost use Rattle.meaning.specs.Narrow.{narrowRefusal};
 ghost use Rattle.meaning.specs.Refusals.{narrowingNumber, narrowingLength};
 ghost use Rattle.narrowing.specs.Answers.{NarrowedAs};
-ghost use Rattle.cases.specs.Answers.{changedFlag, threeBytes, rowBytes, frontBytes, headBytes, changeAs};
+ghost use Rattle.cases.specs.Answers.{changedFlag, threeBytes, rowBytes, frontBytes, headBytes, changeAs, narrowingAt};
 
+mod calls;
 mod streams;
 
+use crate::calls::calls;
 use crate::streams::stream;
 use meaning::Narrowing;
+use meaning::Options;
 use narrowing::narrow::Narrowed;
 use narrowing::narrow::narrow_packet;
 use narrowing::narrow::narrow_payload;
@@ -123,34 +127,65 @@ fn tell(r: Narrowed, out: &[u8]) -> bool
     write_all(&out[0..len])
 }
 
-// The answer to a case of case kind 1 to 3, by the rest of its head.
-fn narrow(case_kind: u8, head: &[u8], input: &[u8], out: &mut [u8]) -> Narrowed
-    requires { ⌜ 5 ≤ length (now head) ⌝ }
-    ensures { λ r. ⌜ NarrowedAs (narrowRefusal (length (now (input .entry))) (length (now (out .entry)))) (changeAs «case_kind» (now (head .entry)) (now (input .entry))) (now (out .entry)) (now (out .exit)) (r .narrowing) (r .stayed) (r .went) ⌝ }
+// The answer to a case of case kind 1 to 3, or to one of 7 to 9 that is the same with modes.
+fn narrow(case_kind: u8, o: Options, id: u16, input: &[u8], out: &mut [u8]) -> Narrowed
+    ensures { λ r. ⌜ NarrowedAs (narrowRefusal (length (now (input .entry))) (length (now (out .entry)))) (changeAs «case_kind» o id (now (input .entry))) (now (out .entry)) (now (out .exit)) (r .narrowing) (r .stayed) (r .went) ⌝ }
 {
-    let o = options_of(head[0], id16(head, 1));
     if case_kind == 1 {
         return narrow_table(input, o, out);
     }
     if case_kind == 2 {
-        return narrow_payload(input, id16(head, 3), o, out);
+        return narrow_payload(input, id, o, out);
     }
     narrow_packet(input, o, out)
 }
 
 // The input of a case, its narrowing and the answer; answers whether another may follow.
-fn answer_case(case_kind: u8, head: &[u8], input: &mut [u8], out: &mut [u8]) -> bool
-    requires { ⌜ 5 ≤ length (now head) ⌝ }
-{
+fn answer_case(case_kind: u8, o: Options, id: u16, input: &mut [u8], out: &mut [u8]) -> bool {
     if !fill_all(input) {
         return false;
     }
-    let r = narrow(case_kind, head, input, out);
+    let r = narrow(case_kind, o, id, input, out);
     tell(r, out)
 }
 
-// One case of case kind 1 to 3, within the rooms that are lent; answers whether another may follow.
-fn one_narrowing(case_kind: u8, input: &mut [u8], out: &mut [u8]) -> bool {
+// What the head of a narrowing asks for: service and wishes, the identifier, and the lengths of the output and of the input.
+pub struct Asked {
+    pub options: Options,
+    pub id: u16,
+    pub out: usize,
+    pub input: usize,
+}
+
+// What a head asks for whose service, identifier and lengths stand from `at` on, behind flags or wishes.
+fn asked_at(head: &[u8], at: usize) -> Asked
+    requires { ⌜ at + 12 ≤ length (now head) ⌝ }
+    ensures { λ r. ⌜ r ≡ narrowingAt (now (head .entry)) at ⌝ }
+{
+    Asked {
+        options: options_of(head[0], id16(head, at)),
+        id: id16(head, at + 2),
+        out: be32(head, at + 4),
+        input: be32(head, at + 8),
+    }
+}
+
+// One narrowing, within the rooms that are lent; answers whether another case may follow.
+fn one_narrowing(case_kind: u8, h: Asked, input: &mut [u8], out: &mut [u8]) -> bool {
+    let n = h.out;
+    let len = h.input;
+    if out.len() < n {
+        return false;
+    }
+    if input.len() < len {
+        return false;
+    }
+    let o = h.options;
+    answer_case(case_kind, o, h.id, &mut input[0..len], &mut out[0..n])
+}
+
+// One case of case kind 1 to 3.
+fn plain_case(case_kind: u8, input: &mut [u8; INPUT], out: &mut [u8; OUTPUT]) -> bool {
     let mut head = [0u8; 13];
     if !fill_all(&mut head) {
         return false;
@@ -158,24 +193,22 @@ fn one_narrowing(case_kind: u8, input: &mut [u8], out: &mut [u8]) -> bool {
     if 15 < head[0] {
         return false;
     }
-    let out_length = be32(&head, 5);
-    let len = be32(&head, 9);
-    if out.len() < out_length {
-        return false;
-    }
-    if input.len() < len {
-        return false;
-    }
-    answer_case(
-        case_kind,
-        &head,
-        &mut input[0..len],
-        &mut out[0..out_length],
-    )
+    one_narrowing(case_kind, asked_at(&head, 1), input, out)
 }
 
-fn in_rooms(case_kind: u8, input: &mut [u8; INPUT], out: &mut [u8; OUTPUT]) -> bool {
-    one_narrowing(case_kind, input, out)
+// One case of case kind 7 to 9, which are 1 to 3 with the wishes of case kind 4 and a byte of modes: there is no mode yet.
+fn case_with_modes(case_kind: u8, input: &mut [u8; INPUT], out: &mut [u8; OUTPUT]) -> bool {
+    let mut head = [0u8; 14];
+    if !fill_all(&mut head) {
+        return false;
+    }
+    if 31 < head[0] {
+        return false;
+    }
+    if head[1] != 0 {
+        return false;
+    }
+    one_narrowing(case_kind % 6, asked_at(&head, 2), input, out)
 }
 
 // One case after its case kind; answers whether another may follow.
@@ -187,13 +220,13 @@ fn one_case(
     map_room: &mut [u16; MAP_ROOM],
     out: &mut [u8; OUTPUT],
 ) -> bool {
-    if case_kind == 0 {
-        return stream(input, work, bodies, map_room, out);
+    match case_kind {
+        0 => stream(input, work, bodies, map_room, out),
+        1 | 2 | 3 => plain_case(case_kind, input, out),
+        4 => calls(input, work, bodies, map_room, out),
+        7 | 8 | 9 => case_with_modes(case_kind, input, out),
+        _ => false,
     }
-    if 3 < case_kind {
-        return false;
-    }
-    in_rooms(case_kind, input, out)
 }
 
 // The cases in turn, in rooms that the caller lends: a loop beside large arrays of its own takes long to prove.

@@ -1,11 +1,11 @@
 // Cases of case kind 0: a stream, cut into calls of the filter of `recorder`. A case is a head, the length of each call's chunk, and the
 // chunks; each is read when its turn comes, so that a chunk that is cut short ends the program after the answers before it.
 ghost use mathlib.Core.Path.{_≡_};
-ghost use Prim.Native.Nat.{_*_, _≤_};
+ghost use Prim.Native.Nat.{_+_, _*_, _≤_};
 ghost use lib.ListN.{length};
 ghost use Rattle.meaning.specs.Writing.{Wrote};
 ghost use Rattle.recorder.specs.Filter.{recordIn};
-ghost use Rattle.cases.specs.Streams.{headOf, headFits, FitTold, LengthsFit, callBytes, CallAs};
+ghost use Rattle.cases.specs.Streams.{askedAt, headFits, FitTold, LengthsFit, callBytes, CallAs};
 use crate::BODIES;
 use crate::INPUT;
 use crate::MAP_ROOM;
@@ -31,7 +31,7 @@ use recorder::start;
 const CALLS: usize = 1024;
 
 // What the head of a case asks for: service and wishes, the lengths of the rooms and of the output, the most bytes of one message, and how
-// many calls follow.
+// many calls follow. In a case of case kind 4 each call has an output of its own, and none is asked for here.
 pub struct Asked {
     pub options: Options,
     pub work: usize,
@@ -48,24 +48,24 @@ pub struct Handed {
     pub filter: Filter,
 }
 
-// The fields of a head.
-fn head_of(head: &[u8; 25]) -> Asked
-    requires { ⌜ length (now head) ≡ 25 ⌝ }
-    ensures { λ r. ⌜ r ≡ headOf (now (head .entry)) ⌝ }
+// What a head asks for whose service and rooms stand from `at` on; output and number of calls have a place of their own in each case kind.
+pub fn asked_at(head: &[u8], at: usize, out: usize, calls: usize) -> Asked
+    requires { ⌜ at + 18 ≤ length (now head) ⌝ }
+    ensures { λ r. ⌜ r ≡ askedAt (now (head .entry)) at out calls ⌝ }
 {
     Asked {
-        options: options_of(head[0], id16(head, 1)),
-        work: be32(head, 3),
-        total: be32(head, 7),
-        most: be32(head, 11),
-        map_room: be32(head, 15),
-        out: be32(head, 19),
-        calls: be16(head, 23),
+        options: options_of(head[0], id16(head, at)),
+        work: be32(head, at + 2),
+        total: be32(head, at + 6),
+        most: be32(head, at + 10),
+        map_room: be32(head, at + 14),
+        out,
+        calls,
     }
 }
 
 // Whether rooms of these lengths hold what is asked for.
-fn head_fits(h: Asked, work: usize, total: usize, map_room: usize, out: usize) -> bool
+pub fn head_fits(h: Asked, work: usize, total: usize, map_room: usize, out: usize) -> bool
     ensures { λ r. ⌜ r ≡ headFits h work total «map_room» out ⌝ }
 {
     if work < h.work {
@@ -84,10 +84,10 @@ fn head_fits(h: Asked, work: usize, total: usize, map_room: usize, out: usize) -
 }
 
 // The next bytes of the input, to the front of a room; answers whether there were so many.
-fn read_front(map_room: &mut [u8], len: usize) -> bool
-    requires { ⌜ len ≤ length (now «map_room») ⌝ }
+pub fn read_front(room: &mut [u8], len: usize) -> bool
+    requires { ⌜ len ≤ length (now room) ⌝ }
 {
-    fill_all(&mut map_room[0..len])
+    fill_all(&mut room[0..len])
 }
 
 // Whether each of the first `n` lengths is at most `most`.
@@ -133,7 +133,7 @@ fn tell(p: Pushed, out: &[u8]) -> bool
 }
 
 // One call and its answer; hands back the record for the next. The program goes on where the answer was taken.
-fn one_call(
+pub fn one_call(
     f: Filter,
     chunk: &[u8],
     work: &mut [u8],
@@ -287,7 +287,7 @@ fn one_stream(
     if 15 < head[0] {
         return false;
     }
-    let h = head_of(&head);
+    let h = asked_at(&head, 1, be32(&head, 19), be16(&head, 23));
     if !head_fits(h, work.len(), bodies.len(), map_room.len(), out.len()) {
         return false;
     }

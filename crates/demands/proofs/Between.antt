@@ -10,6 +10,7 @@ use lib.Dec.{eqb, leb}
 use borrow.Author.Tests.{eqb-true, leb-true, eq-eqb}
 use Rattle.meaning.specs.Bytes.{Bytes}
 use Rattle.meaning.specs.Writing.{Wrote}
+use Rattle.meaning.specs.Wishes.{wantsAssets}
 use Rattle.meaning.specs.Rooms.{goodWorkRoom, goodFragmentRoom, goodMapRoom}
 use Rattle.meaning.specs.Refusals.{answerNumber}
 use Rattle.meaning.specs.Record.{State, Record, recordOf, stateOf, bodiesOf}
@@ -43,19 +44,20 @@ pub record Between (L : Limits) (o : Options) (st : State) (s : Recorder) : Type
 
 -- ---- a start
 
-good-start : (L : Limits) (n : ℕ) → startRefusal (L .work) (L .total) (L .most) n ≡ 0 → Good L × (n ≡ 32768)
+good-start : (L : Limits) (n : ℕ) (o : Options) → startRefusal (L .work) (L .total) (L .most) n o ≡ 0 → Good L × (n ≡ 32768) × (wantsAssets o ≡ true)
 unfolding startRefusal goodMapRoom
-good-start L n e = go (goodWorkRoom (L .work)) refl (goodFragmentRoom (L .total) (L .most)) refl (goodMapRoom n) refl e
+good-start L n o e = go (goodWorkRoom (L .work)) refl (goodFragmentRoom (L .total) (L .most)) refl (goodMapRoom n) refl (wantsAssets o) e
   where
     go : (a : Bool) → goodWorkRoom (L .work) ≡ a → (b : Bool) → goodFragmentRoom (L .total) (L .most) ≡ b → (c : Bool) → goodMapRoom n ≡ c
-        → _≡_ {A = ℕ} (cond a (cond b (cond c 0 3) 2) 1) 0 → Good L × (n ≡ 32768)
-    go true p true q true s e = (record { work-good = p; fragments-good = q }, eqb-true n 32768 s)
-    go true p true q false s e = absurd (omega (arith, e))
-    go true p false q c s e = absurd (omega (arith, e))
-    go false p b q c s e = absurd (omega (arith, e))
+        → (d : Bool) → _≡_ {A = ℕ} (cond a (cond b (cond c (cond d 0 9) 3) 2) 1) 0 → Good L × (n ≡ 32768) × (d ≡ true)
+    go true p true q true s true e = (record { work-good = p; fragments-good = q }, eqb-true n 32768 s, refl)
+    go true p true q true s false e = absurd (omega (arith, e))
+    go true p true q false s d e = absurd (omega (arith, e))
+    go true p false q c s d e = absurd (omega (arith, e))
+    go false p b q c s d e = absurd (omega (arith, e))
 
 started-handed : (L : Limits) (o : Options) (map-room : List ℕ) → started L o map-room .number ≡ 0
-    → (startRefusal (L .work) (L .total) (L .most) (length map-room) ≡ 0) × (started L o map-room .handed ≡ recordOf L o (fresh map-room))
+    → (startRefusal (L .work) (L .total) (L .most) (length map-room) o ≡ 0) × (started L o map-room .handed ≡ recordOf L o (fresh map-room))
 unfolding started
 started-handed L o map-room e = (e, rw e)
 
@@ -77,8 +79,8 @@ state-fresh L o work bodies map-room few h = state-back L o (fresh map-room) few
 pub begins : (L : Limits) (o : Options) (s : Recorder) → Begun L o s → Between L o (fresh (s .map-room)) s
 begins L o s b =
     let h = started-handed L o (s .map-room) (sym (b .1 .answer-is) ∙ b .2) in
-    let g = good-start L (length (s .map-room)) (h .0) in
-    let k = fresh-holds L o (s .map-room) (omega (arith, good-limit (L .work) (g .0 .work-good))) (g .1) in
+    let g = good-start L (length (s .map-room)) o (h .0) in
+    let k = fresh-holds L o (s .map-room) (omega (arith, good-limit (L .work) (g .0 .work-good))) (g .1) (g .2) in
     let r : s .handed ≡ recordOf L o (fresh (s .map-room)) = b .3 ∙ b .1 .handed-is ∙ h .1 in
     record {
       good = g .0;

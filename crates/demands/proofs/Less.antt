@@ -12,7 +12,7 @@ use borrow.Author.Tests.{eq-eqb}
 use Rattle.meaning.specs.Bytes.{Bytes}
 use Rattle.meaning.specs.Lists.{count}
 use Rattle.meaning.specs.Packets.{cut}
-use Rattle.meaning.specs.Wishes.{everyService, copiesAll}
+use Rattle.meaning.specs.Wishes.{everyService, copiesAll, captionsOnly}
 use Rattle.meaning.specs.Narrow.{narrowedPacket, changeTable, changePayload, changePacket}
 use Rattle.meaning.specs.Rooms.{packetLimit}
 use Rattle.meaning.specs.Refusals.{answerNumber}
@@ -26,6 +26,7 @@ use Rattle.meaning.specs.Recount.{packetsOf, Sized, Written, observedMpts, lost
 use Rattle.meaning.specs.Less.{Fewer, Thinned}
 use Rattle.meaning.specs.declared.Limits.{Limits}
 use Rattle.meaning.specs.declared.Options.{Options}
+use Rattle.meaning.specs.declared.Service.{Service}
 use Rattle.meaning.specs.declared.Counts.{Counts}
 use Rattle.meaning.proofs.CutLaws.{lengths}
 use Rattle.meaning.proofs.Statements.{bytes-add-up}
@@ -200,18 +201,31 @@ recount = record {
 -- ---- in the user's words
 
 fewer-captions : (o : Options) → Fewer (withoutCaptions o) o
-fewer-captions o = record { service-same = refl; caption-too = λ e. absurd (false≢true e); carousel-too = λ e. e; eit-too = λ e. e }
+fewer-captions o = record { service-same = refl; caption-too = λ e. absurd (false≢true e); carousel-too = λ e. e; eit-too = λ e. e; other-too = λ e. e }
 
 clean-some : (o : Options) → copiesAll (withoutCaptions o) ≡ false
 unfolding copiesAll
-clean-some o = go (everyService (o .service)) (o .carousel) (o .eit)
+clean-some o = go (everyService (o .service)) (o .carousel) (o .eit) (o .other)
   where
-    go : (a b c : Bool) → (a && false && b && c) ≡ false
-    go true b c = refl
-    go false b c = refl
+    go : (a b c d : Bool) → (a && false && b && c && d) ≡ false
+    go true b c d = refl
+    go false b c d = refl
+
+fewer-alone : (o : Options) → o .caption ≡ true → Fewer (captionsOnly (o .service)) o
+unfolding captionsOnly
+fewer-alone o e = record { service-same = refl; caption-too = λ z. e; carousel-too = λ z. absurd (false≢true z); eit-too = λ z. absurd (false≢true z); other-too = λ z. absurd (false≢true z) }
+
+alone-some : (s : Service) → copiesAll (captionsOnly s) ≡ false
+unfolding copiesAll captionsOnly
+alone-some s = go (everyService s)
+  where
+    go : (a : Bool) → (a && true && false && false && false) ≡ false
+    go true = refl
+    go false = refl
 
 pub in-words : InWords
 in-words = record {
   clean = λ L o xs₁ xs₂ b some-wishes. less L (withoutCaptions o) o xs₁ xs₂ b (fewer-captions o) (clean-some o) some-wishes .0;
+  captions-and-tables = λ L o xs₁ xs₂ b e some-wishes. less L (captionsOnly (o .service)) o xs₁ xs₂ b (fewer-alone o e) (alone-some (o .service)) some-wishes .0;
   nothing-lost = λ s chunk out x out′ t a e some-wishes. adds-up s chunk out x out′ t a some-wishes e;
 }

@@ -1,14 +1,14 @@
--- No statement is empty: its hypotheses are met. Of any calls there is a series, from a start with any wishes, and two such series beside each
+-- No statement is empty: its hypotheses are met. Of any calls there is a series, from a start with any wishes that it takes, and two such series beside each
 -- other; the wishes of demand 3, an output that is long enough and a change that is told are computed. Rests on Total.
 use Prim.Native.Nat.{ℕ, _≤_}
 use mathlib.Core.Path.{_≡_, refl, sym, ap, _∙_}
-use mathlib.Core.Bool.{true, false}
+use mathlib.Core.Bool.{Bool, true, false, cond}
 use mathlib.Core.List.{List, [], _∷_, map}
 use mathlib.Core.Option.{some}
 use native.Mathlib.Omega.{arith}
 use lib.ListN.{length, replicate, length-replicate}
 use Rattle.meaning.specs.Bytes.{Bytes}
-use Rattle.meaning.specs.Wishes.{copiesAll}
+use Rattle.meaning.specs.Wishes.{wantsAssets, copiesAll, captionsOnly}
 use Rattle.meaning.specs.Narrow.{Change, changeTable}
 use Rattle.meaning.specs.Rooms.{goodWorkRoom, goodFragmentRoom, goodMapRoom}
 use Rattle.meaning.specs.Refusals.{answerNumber}
@@ -32,15 +32,15 @@ limits = record { work = 4096; total = 1; most = 1 }
 abbrev room : List ℕ
 room = replicate 32768 0
 
-start-accepted : (o : Options) → started limits o room .number ≡ 0
+start-accepted : (o : Options) → wantsAssets o ≡ true → started limits o room .number ≡ 0
 unfolding started startRefusal goodWorkRoom goodFragmentRoom goodMapRoom
-start-accepted o = ap (startRefusal 4096 1 1) (length-replicate {A = ℕ} 32768 0)
+start-accepted o w = ap (λ (n : ℕ). startRefusal 4096 1 1 n o) (length-replicate {A = ℕ} 32768 0) ∙ ap (λ (b : Bool). cond b 0 9) w
 
-pub begun : (o : Options) → (s : Recorder) × Begun limits o s × (s .work ≡ replicate 4096 0) × (s .bodies ≡ 0 ∷ []) × (s .map-room ≡ room)
-begun o =
+pub begun : (o : Options) → wantsAssets o ≡ true → (s : Recorder) × Begun limits o s × (s .work ≡ replicate 4096 0) × (s .bodies ≡ 0 ∷ []) × (s .map-room ≡ room)
+begun o w =
     let x = total .start limits o room in (
       record { handed = recordIn (x .0 .filter); work = replicate 4096 0; bodies = 0 ∷ []; map-room = room },
-      (x .0, x .1, x .1 .answer-is ∙ start-accepted o, refl, sym (length-replicate {A = ℕ} 4096 0), refl),
+      (x .0, x .1, x .1 .answer-is ∙ start-accepted o w, refl, sym (length-replicate {A = ℕ} 4096 0), refl),
       refl,
       refl,
       refl,
@@ -53,10 +53,10 @@ series s (c ∷ cs) =
     let r = series (x .1) cs in
     (x .0 ∷ r .0, r .1, (x .1, x .2, r .2))
 
-pub beside : (o₁ o₂ : Options) (cs : List Call) → (xs₁ : List Result) × (xs₂ : List Result) × Beside limits o₁ o₂ xs₁ xs₂
-beside o₁ o₂ cs =
-    let a = begun o₁ in
-    let b = begun o₂ in
+pub beside : (o₁ o₂ : Options) → wantsAssets o₁ ≡ true → wantsAssets o₂ ≡ true → (cs : List Call) → (xs₁ : List Result) × (xs₂ : List Result) × Beside limits o₁ o₂ xs₁ xs₂
+beside o₁ o₂ w₁ w₂ cs =
+    let a = begun o₁ w₁ in
+    let b = begun o₂ w₂ in
     let r = series (a .0) cs in
     let q = series (b .0) cs in (
       r .0,
@@ -69,17 +69,22 @@ beside o₁ o₂ cs =
       },
     )
 
--- ---- wishes: without captions, and with them; neither copies all
+-- ---- wishes: without captions, and with them; neither copies all, and a start takes both
 
 abbrev captions : Options
-captions = record { service = Only 0x0401; caption = true; carousel = false; eit = true }
+captions = record { service = Only 0x0401; caption = true; carousel = false; eit = true; other = true }
 
 abbrev none-of-them : Options
-none-of-them = record { service = Only 0x0401; caption = false; carousel = false; eit = true }
+none-of-them = record { service = Only 0x0401; caption = false; carousel = false; eit = true; other = true }
 
-pub wishes : Fewer none-of-them captions × (copiesAll none-of-them ≡ false) × (copiesAll captions ≡ false)
-unfolding copiesAll
-wishes = (record { service-same = refl; caption-too = λ e. refl; carousel-too = λ e. e; eit-too = λ e. e }, refl, refl)
+pub wishes : Fewer none-of-them captions × (copiesAll none-of-them ≡ false) × (copiesAll captions ≡ false) × (wantsAssets none-of-them ≡ true) × (wantsAssets captions ≡ true)
+unfolding copiesAll wantsAssets
+wishes = (record { service-same = refl; caption-too = λ e. refl; carousel-too = λ e. e; eit-too = λ e. e; other-too = λ e. e }, refl, refl, refl, refl)
+
+-- captions and tables alone
+pub captions-alone : (wantsAssets (captionsOnly (Only 0x0401)) ≡ true) × (captions .caption ≡ true)
+unfolding wantsAssets captionsOnly
+captions-alone = (refl, refl)
 
 -- ---- a change that is told: example 1
 

@@ -9,6 +9,7 @@ use lib.Dec.{eqb, leb, ltb}
 use borrow.Author.Tests.{eqb-true}
 use Rattle.meaning.specs.Bytes.{Bytes}
 use Rattle.meaning.specs.Writing.{Wrote}
+use Rattle.meaning.specs.Wishes.{wantsAssets}
 use Rattle.meaning.specs.Rooms.{packetLimit, goodWorkRoom, goodFragmentRoom, goodMapRoom}
 use Rattle.meaning.specs.Rules.{dropped}
 use Rattle.meaning.specs.Refusals.{answerNumber}
@@ -50,10 +51,19 @@ lowest-one x false = refl
 
 -- ---- a start
 
+-- The first of four.
+lowest-start : (a b c d : Bool) → cond a (cond b (cond c (cond d 0 9) 3) 2) 1 ≡ lowest ((1, not a) ∷ (2, not b) ∷ (3, not c) ∷ (9, not d) ∷ [])
+unfolding lowest
+lowest-start true true true true = refl
+lowest-start true true true false = refl
+lowest-start true true false d = refl
+lowest-start true false c d = refl
+lowest-start false b c d = refl
+
 start-number : (L : Limits) (o : Options) (map-room : List ℕ) → started L o map-room .number
-    ≡ lowest ((1, not (goodWorkRoom (L .work))) ∷ (2, not (goodFragmentRoom (L .total) (L .most))) ∷ (3, not (goodMapRoom (length map-room))) ∷ [])
+    ≡ lowest ((1, not (goodWorkRoom (L .work))) ∷ (2, not (goodFragmentRoom (L .total) (L .most))) ∷ (3, not (goodMapRoom (length map-room))) ∷ (9, not (wantsAssets o)) ∷ [])
 unfolding started startRefusal
-start-number L o map-room = lowest-of 1 2 3 (goodWorkRoom (L .work)) (goodFragmentRoom (L .total) (L .most)) (goodMapRoom (length map-room))
+start-number L o map-room = lowest-start (goodWorkRoom (L .work)) (goodFragmentRoom (L .total) (L .most)) (goodMapRoom (length map-room)) (wantsAssets o)
 
 start-blank : (L : Limits) (o : Options) (map-room : List ℕ) → eqb (started L o map-room .number) 0 ≡ false → started L o map-room .handed ≡ blank
 unfolding started

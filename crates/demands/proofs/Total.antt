@@ -11,7 +11,7 @@ use borrow.Author.Tests.{eqb-true}
 use Rattle.meaning.specs.Bytes.{Bytes}
 use Rattle.meaning.specs.Writing.{Wrote}
 use Rattle.meaning.specs.Lists.{sum}
-use Rattle.meaning.specs.Wishes.{copiesAll}
+use Rattle.meaning.specs.Wishes.{wantsAssets, copiesAll}
 use Rattle.meaning.specs.Rooms.{packetLimit, goodWorkRoom, goodFragmentRoom, goodMapRoom}
 use Rattle.meaning.specs.Learn.{Fragment, fragmentBytes}
 use Rattle.meaning.specs.Refusals.{numberOf, answerNumber}
@@ -27,7 +27,7 @@ use Rattle.meaning.specs.declared.Options.{Options}
 use Rattle.meaning.specs.declared.Counts.{Counts}
 use Rattle.meaning.specs.declared.Answer.{Answer}
 use Rattle.meaning.specs.declared.Answer.the-variants.{Done, Refused}
-use Rattle.meaning.specs.declared.Refusal.the-variants.{WorkRoom, FragmentRoom, MapRoom, Unsound, Long, Short, Tally, Input}
+use Rattle.meaning.specs.declared.Refusal.the-variants.{WorkRoom, FragmentRoom, MapRoom, Unsound, Long, Short, Tally, Input, Wishes}
 use Rattle.meaning.proofs.Writes.{wrote-none}
 use Rattle.meaning.proofs.SoundnessLaws.{HoldsState, state-holds, push-holds, state-back, good-limit}
 use Rattle.recorder.specs.Filter.{recordIn}
@@ -43,7 +43,7 @@ use Rattle.demands.proofs.Once.{filterOf}
 
 -- ---- an answer with a number
 
-answer-with : (n : ℕ) → n ≤ 8 → (a : Answer) × (answerNumber a ≡ n)
+answer-with : (n : ℕ) → n ≤ 9 → (a : Answer) × (answerNumber a ≡ n)
 unfolding answerNumber numberOf
 answer-with zero h = (Done, refl)
 answer-with (suc zero) h = (Refused WorkRoom, refl)
@@ -54,29 +54,33 @@ answer-with (suc (suc (suc (suc (suc zero))))) h = (Refused Long, refl)
 answer-with (suc (suc (suc (suc (suc (suc zero)))))) h = (Refused Short, refl)
 answer-with (suc (suc (suc (suc (suc (suc (suc zero))))))) h = (Refused Tally, refl)
 answer-with (suc (suc (suc (suc (suc (suc (suc (suc zero)))))))) h = (Refused Input, refl)
-answer-with (suc (suc (suc (suc (suc (suc (suc (suc (suc n))))))))) h = absurd (omega (arith, h))
+answer-with (suc (suc (suc (suc (suc (suc (suc (suc (suc zero))))))))) h = (Refused Wishes, refl)
+answer-with (suc (suc (suc (suc (suc (suc (suc (suc (suc (suc n)))))))))) h = absurd (omega (arith, h))
 
-at-most : (a : Bool) (x y : ℕ) → x ≤ 8 → y ≤ 8 → cond a x y ≤ 8
+at-most : (a : Bool) (x y : ℕ) → x ≤ 9 → y ≤ 9 → cond a x y ≤ 9
 at-most true x y h k = h
 at-most false x y h k = k
 
-start-few : (L : Limits) (o : Options) (map-room : List ℕ) → started L o map-room .number ≤ 8
+start-few : (L : Limits) (o : Options) (map-room : List ℕ) → started L o map-room .number ≤ 9
 unfolding started startRefusal
 start-few L o map-room =
-    at-most (goodWorkRoom (L .work)) (cond (goodFragmentRoom (L .total) (L .most)) (cond (goodMapRoom (length map-room)) 0 3) 2) 1
-    (at-most (goodFragmentRoom (L .total) (L .most)) (cond (goodMapRoom (length map-room)) 0 3) 2 (at-most (goodMapRoom (length map-room)) 0 3 (omega arith) (omega arith)) (omega arith)) (omega arith)
+    let d = wantsAssets o in
+    let c = goodMapRoom (length map-room) in
+    let b = goodFragmentRoom (L .total) (L .most) in
+    at-most (goodWorkRoom (L .work)) (cond b (cond c (cond d 0 9) 3) 2) 1
+    (at-most b (cond c (cond d 0 9) 3) 2 (at-most c (cond d 0 9) 3 (at-most d 0 9 (omega arith) (omega arith)) (omega arith)) (omega arith)) (omega arith)
 
-push-few : (r : Record) (W T map-length n out-length : ℕ) → pushRefusal r W T map-length n out-length ≤ 8
+push-few : (r : Record) (W T map-length n out-length : ℕ) → pushRefusal r W T map-length n out-length ≤ 9
 unfolding pushRefusal lengthRefusal
 push-few r W T map-length n out-length =
     at-most (sound r W T map-length) (cond (leb n (W - packetLimit W)) (cond (leb (r .held-count + n) out-length) 0 6) 5) 4
     (at-most (leb n (W - packetLimit W)) (cond (leb (r .held-count + n) out-length) 0 6) 5 (at-most (leb (r .held-count + n) out-length) 0 6 (omega arith) (omega arith)) (omega arith)) (omega arith)
 
-ask-few : (r : Record) (W T n : ℕ) → soundRefusal r W T n ≤ 8
+ask-few : (r : Record) (W T n : ℕ) → soundRefusal r W T n ≤ 9
 unfolding soundRefusal
 ask-few r W T n = at-most (sound r W T n) 0 4 (omega arith) (omega arith)
 
-tally-few : (t c : Counts) → tallyRefusal t c ≤ 8
+tally-few : (t c : Counts) → tallyRefusal t c ≤ 9
 unfolding tallyRefusal
 tally-few t c = at-most (fits64 (addCounts t c)) 0 7 (omega arith) (omega arith)
 

@@ -2,7 +2,7 @@
 -- which results of a call it allows; each statement speaks of all of them. Every name is from `meaning`, a promise, or this file.
 use Prim.Native.Nat.{ℕ, _+_, _-_, _≤_}
 use mathlib.Core.Path.{_≡_}
-use mathlib.Core.Bool.{Bool, false, cond, not}
+use mathlib.Core.Bool.{Bool, true, false, cond, not}
 use mathlib.Core.List.{List, [], _∷_, _++_, map, flatten, List·Memᴰ}
 use mathlib.Core.Option.{Option, none, some}
 use lib.ListN.{length, take}
@@ -10,7 +10,7 @@ use lib.Dec.{eqb, ltb}
 use Rattle.meaning.specs.Bytes.{Bytes}
 use Rattle.meaning.specs.Lists.{sum}
 use Rattle.meaning.specs.Packets.{cut}
-use Rattle.meaning.specs.Wishes.{copiesAll}
+use Rattle.meaning.specs.Wishes.{wantsAssets, copiesAll, captionsOnly}
 use Rattle.meaning.specs.Narrow.{Change, narrowedPacket, changeTable, changePayload, changePacket, narrowRefusal, noneOfEach}
 use Rattle.meaning.specs.Rooms.{packetLimit, goodWorkRoom, goodFragmentRoom, goodMapRoom}
 use Rattle.meaning.specs.Refusals.{answerNumber, narrowingNumber, narrowingChanged, narrowingLength}
@@ -104,7 +104,7 @@ unsound s = not (sound (s .handed) (length (s .work)) (length (s .bodies)) (leng
 -- A call that is refused changes nothing.
 pub record Refusing : Type 0 where
   pub start : (L : Limits) (o : Options) (map-room : List ℕ) (x : started.Started) → StartedAs L o map-room x
-      → (answerNumber (x .answer) ≡ lowest ((1, not (goodWorkRoom (L .work))) ∷ (2, not (goodFragmentRoom (L .total) (L .most))) ∷ (3, not (goodMapRoom (length map-room))) ∷ []))
+      → (answerNumber (x .answer) ≡ lowest ((1, not (goodWorkRoom (L .work))) ∷ (2, not (goodFragmentRoom (L .total) (L .most))) ∷ (3, not (goodMapRoom (length map-room))) ∷ (9, not (wantsAssets o)) ∷ []))
       × (eqb (answerNumber (x .answer)) 0 ≡ false → recordIn (x .filter) ≡ blank)
   -- which is no record: every call refuses it
   pub no-record : (W T n : ℕ) → sound blank W T n ≡ false
@@ -175,12 +175,15 @@ LessIsLess =
 
 -- ---- in the user's words
 abbrev pub withoutCaptions : Options → Options
-withoutCaptions o = record { service = o .service; caption = false; carousel = o .carousel; eit = o .eit }
+withoutCaptions o = record { service = o .service; caption = false; carousel = o .carousel; eit = o .eit; other = o .other }
 
 pub record InWords : Type 0 where
   -- the clean recording is the captioned one less its captions
   pub clean : (L : Limits) (o : Options) (xs₁ xs₂ : List Result) → Beside L (withoutCaptions o) o xs₁ xs₂ → copiesAll o ≡ false
       → Thinned (narrowedPacket (withoutCaptions o)) (recording xs₁) (recording xs₂)
+  -- a recording of captions and tables is any that has captions, of the same service, less all else: 02 [1]
+  pub captions-and-tables : (L : Limits) (o : Options) (xs₁ xs₂ : List Result) → Beside L (captionsOnly (o .service)) o xs₁ xs₂ → o .caption ≡ true → copiesAll o ≡ false
+      → Thinned (narrowedPacket (captionsOnly (o .service))) (recording xs₁) (recording xs₂)
   -- nothing is lost silently: held before + chunk = accepted packets' bytes + skipped + held after, and `lost` counts each MPT that finds no place
   pub nothing-lost : (s : Recorder) (chunk out : Bytes) (x : pushed.Pushed) (out′ : Bytes) (t : Recorder) → Allows s (Push chunk out) (Pushed x out′) t
       → answerNumber (x .answer) ≡ 0 → copiesAll (s .handed .options) ≡ false → let k = stateOf (s .handed) (s .work) (s .bodies) (s .map-room) .known in

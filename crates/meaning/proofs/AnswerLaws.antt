@@ -9,7 +9,7 @@ use borrow.Author.Tests.{eqb-false, eq-eqb}
 use Rattle.meaning.specs.Refusals.{numberOf, answerNumber, narrowingNumber, narrowingChanged, narrowingLength}
 use Rattle.meaning.specs.Narrow.{Change, changeMade}
 use Rattle.meaning.specs.declared.Refusal.{Refusal}
-use Rattle.meaning.specs.declared.Refusal.the-variants.{WorkRoom, FragmentRoom, MapRoom, Unsound, Long, Short, Tally, Input}
+use Rattle.meaning.specs.declared.Refusal.the-variants.{WorkRoom, FragmentRoom, MapRoom, Unsound, Long, Short, Tally, Input, Wishes}
 use Rattle.meaning.specs.declared.Narrowing.{Narrowing}
 use Rattle.meaning.specs.declared.Answer.{Answer}
 use Rattle.meaning.specs.declared.Answer.the-variants.{Done, Refused}
@@ -24,7 +24,8 @@ refusal n =
     (cond (eqb n 4) Unsound
     (cond (eqb n 5) Long
     (cond (eqb n 6) Short
-    (cond (eqb n 7) Tally Input))))))
+    (cond (eqb n 7) Tally
+    (cond (eqb n 8) Input Wishes)))))))
 
 again : (r : Refusal) → (refusal (numberOf r) ≡ r) × (eqb (numberOf r) 0 ≡ false)
 unfolding numberOf
@@ -36,6 +37,7 @@ again Long = (refl, refl)
 again Short = (refl, refl)
 again Tally = (refl, refl)
 again Input = (refl, refl)
+again Wishes = (refl, refl)
 
 pub number-told : (a b : Refusal) → numberOf a ≡ numberOf b → a ≡ b
 number-told a b e = sym (again a .0) ∙ ap refusal e ∙ again b .0

@@ -38,7 +38,7 @@ known = record {
 }
 
 abbrev only : ℕ → Bool → Bool → Bool → Options
-only s caption carousel eit = record { service = Only s; caption = caption; carousel = carousel; eit = eit }
+only s caption carousel eit = record { service = Only s; caption = caption; carousel = carousel; eit = eit; other = true }
 
 pub record Rules : Type 0 where
   -- an asset that both services list stays: kept beats dropped
@@ -101,7 +101,7 @@ abbrev payload : Bytes
 payload = 0x00 ∷ 0x00 ∷ 0x00 ∷ 0x00 ∷ 0x07 ∷ 0x00 ∷ 0x00 ∷ 0x00 ∷ 0x34 ∷ 0x01 ∷ 0x20 ∷ 0x05 ∷ 0x00 ∷ 0x09 ∷ mpt1
 
 abbrev noCaptions : Options
-noCaptions = record { service = Every; caption = false; carousel = true; eit = true }
+noCaptions = record { service = Every; caption = false; carousel = true; eit = true; other = true }
 
 -- the tables are walked by their own heads, and the entry takes the new length
 pub own-heads : narrowPayload noCaptions 0x100 payload

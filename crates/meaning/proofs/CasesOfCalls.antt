@@ -56,10 +56,10 @@ abbrev limits : Limits
 limits = record { work = 65536; total = 65536; most = 65536 }
 
 abbrev all-on : Options
-all-on = record { service = Every; caption = true; carousel = true; eit = true }
+all-on = record { service = Every; caption = true; carousel = true; eit = true; other = true }
 
 abbrev no-eit : Options
-no-eit = record { service = Every; caption = true; carousel = true; eit = false }
+no-eit = record { service = Every; caption = true; carousel = true; eit = false; other = true }
 
 abbrev start : State
 start = fresh (0 ∷ 0 ∷ 0 ∷ 0 ∷ [])

@@ -37,7 +37,7 @@ abbrev pub packages : Bytes
 packages = 3 ∷ at0 ++ (at5 ++ (2 ∷ 4 ∷ 2 ∷ 0 ∷ 0xF0 ∷ 0x02 ∷ more))
 
 abbrev all-on : Options
-all-on = record { service = Every; caption = true; carousel = true; eit = true }
+all-on = record { service = Every; caption = true; carousel = true; eit = true; other = true }
 
 pub record Bodies : Type 0 where
   pub captions : (wanted noCaptions Caption ≡ false) × (wanted noCaptions Carousel ≡ true) × (wanted noCaptions Other ≡ true)

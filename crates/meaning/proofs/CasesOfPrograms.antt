@@ -7,7 +7,8 @@ use mathlib.Core.Option.{none, some}
 use lib.ListN.{length, take, drop, replicate}
 use Rattle.meaning.specs.Bytes.{Bytes}
 use Rattle.meaning.specs.Series.{Series}
-use Rattle.meaning.specs.Programs.{optionsOf, inputRefused, inputOptions, chunk, programLimits, programLent, programCalls, digits, item, refusedLine, sumsLine, filterWrites, sumsWrites}
+use Rattle.meaning.specs.Wishes.{wantsAssets}
+use Rattle.meaning.specs.Programs.{optionsOf, inputRefused, inputOptions, inputRefusal, chunk, programLimits, programLent, programCalls, digits, item, refusedLine, sumsLine, filterWrites, sumsWrites}
 use Rattle.meaning.specs.declared.Service.the-variants.{Every, Only}
 use Rattle.meaning.specs.declared.Options.{Options}
 use Rattle.meaning.specs.declared.Counts.{Counts}
@@ -17,30 +18,37 @@ use Rattle.meaning.proofs.CasesOfCalls.{video, captions, signal, plt, n
 -- ---- the input
 
 abbrev wishes : Bool → Bool → Bool → Options
-wishes caption carousel eit = record { service = Every; caption = caption; carousel = carousel; eit = eit }
+wishes caption carousel eit = record { service = Every; caption = caption; carousel = carousel; eit = eit; other = true }
 
 pub record Input : Type 0 where
   pub bit0 : optionsOf 0x01 7 ≡ wishes true false false
   pub bit1 : optionsOf 0x02 7 ≡ wishes false true false
   pub bit2 : optionsOf 0x04 7 ≡ wishes false false true
-  pub bit3 : optionsOf 0x08 7 ≡ record { service = Only 7; caption = false; carousel = false; eit = false }
+  pub bit3 : optionsOf 0x08 7 ≡ record { service = Only 7; caption = false; carousel = false; eit = false; other = true }
   pub under-three : (inputRefused [] ≡ true) × (inputRefused (0 ∷ 0 ∷ []) ≡ true) × (inputRefused (0 ∷ 0 ∷ 0 ∷ []) ≡ false)
-  pub above-bit-3 : (inputRefused (0x0F ∷ 0 ∷ 0 ∷ []) ≡ false) × (inputRefused (0x10 ∷ 0 ∷ 0 ∷ []) ≡ true)
+  pub bit4 : optionsOf 0x11 7 ≡ record { service = Every; caption = true; carousel = false; eit = false; other = false }
+  pub above-bit-4 : (inputRefused (0x1F ∷ 0 ∷ 0 ∷ []) ≡ false) × (inputRefused (0x20 ∷ 0 ∷ 0 ∷ []) ≡ true)
+  pub numbers : (inputRefusal (0x11 ∷ 0 ∷ 0 ∷ []) ≡ 0) × (inputRefusal (0x10 ∷ 0 ∷ 0 ∷ []) ≡ 9) × (inputRefusal (0x20 ∷ 0 ∷ 0 ∷ []) ≡ 8)
+  -- what cannot be read has no wishes
+  pub unread-first : (inputRefusal (0x30 ∷ 0 ∷ 0 ∷ []) ≡ 8) × (inputRefusal (0x10 ∷ 0 ∷ []) ≡ 8)
   pub in-chunks : chunk (replicate 32769 7) ≡ some (replicate 32768 7, 7 ∷ [])
   pub last-chunk : (chunk (7 ∷ []) ≡ some (7 ∷ [], [])) × (chunk [] ≡ none)
-  pub asked : inputOptions (0x0E ∷ 4 ∷ 1 ∷ 9 ∷ []) ≡ record { service = Only 0x0401; caption = false; carousel = true; eit = true }
+  pub asked : inputOptions (0x0E ∷ 4 ∷ 1 ∷ 9 ∷ []) ≡ record { service = Only 0x0401; caption = false; carousel = true; eit = true; other = true }
   pub limits : programLimits ≡ record { work = 65536; total = 65536; most = 65536 }
   pub lent : programLent (7 ∷ []) ≡ (7 ∷ [], 65536)
 
 pub input : Input
-unfolding optionsOf inputRefused inputOptions chunk programLimits
+unfolding optionsOf inputRefused inputOptions inputRefusal wantsAssets chunk programLimits
 input = record {
   bit0 = refl;
   bit1 = refl;
   bit2 = refl;
   bit3 = refl;
   under-three = (refl, refl, refl);
-  above-bit-3 = (refl, refl);
+  bit4 = refl;
+  above-bit-4 = (refl, refl);
+  numbers = (refl, refl, refl);
+  unread-first = (refl, refl);
   in-chunks = refl;
   last-chunk = (refl, refl);
   asked = refl;
@@ -98,7 +106,7 @@ pub record Written : Type 0 where
   pub not-there : filterWrites (0x0E ∷ 4 ∷ 2 ∷ stream) ≡ plt
   pub second-list : filterWrites (0x06 ∷ 0 ∷ 0 ∷ two-lists ++ (signal 0x48 7 0x30 M ++ captions)) ≡ two-lists ++ signal 0x36 7 0x1E M₁
   pub copied : filterWrites (0x07 ∷ 0 ∷ 0 ∷ 0x55 ∷ []) ≡ 0x55 ∷ []
-  pub filter-refused : filterWrites (0x10 ∷ 0 ∷ 0 ∷ stream) ≡ refused8
+  pub filter-refused : filterWrites (0x20 ∷ 0 ∷ 0 ∷ stream) ≡ refused8
   pub summed : sumsWrites (0x06 ∷ 0 ∷ 0 ∷ stream) ≡ line 0x35 0x33 0x31 0x30 0x31 0x30
   pub ours-summed : sumsWrites (0x0E ∷ 4 ∷ 1 ∷ stream) ≡ line 0x35 0x33 0x32 0x30 0x31 0x30
   pub sums-refused : sumsWrites (0 ∷ 0 ∷ []) ≡ refused8

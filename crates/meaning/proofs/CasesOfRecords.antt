@@ -49,7 +49,7 @@ abbrev limits : Limits
 limits = record { work = 4096; total = 10; most = 9 }
 
 abbrev options : Options
-options = record { service = Only 1; caption = true; carousel = true; eit = true }
+options = record { service = Only 1; caption = true; carousel = true; eit = true; other = true }
 
 abbrev state : State
 state = record {

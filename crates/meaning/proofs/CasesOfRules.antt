@@ -14,7 +14,7 @@ use Rattle.meaning.specs.declared.Service.the-variants.{Every, Only}
 use Rattle.meaning.specs.declared.Options.{Options}
 
 abbrev wishes : Service → Bool → Bool → Bool → Options
-wishes s caption carousel eit = record { service = s; caption = caption; carousel = carousel; eit = eit }
+wishes s caption carousel eit = record { service = s; caption = caption; carousel = carousel; eit = eit; other = true }
 
 pub record Services : Type 0 where
   pub each-is : ours Every 7 ≡ true

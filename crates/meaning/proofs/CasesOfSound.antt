@@ -15,14 +15,14 @@ use Rattle.meaning.specs.declared.Options.{Options}
 use Rattle.meaning.proofs.ListLaws.{clash}
 
 abbrev wanting-one : Options
-wanting-one = record { service = Only 1; caption = false; carousel = true; eit = false }
+wanting-one = record { service = Only 1; caption = false; carousel = true; eit = false; other = true }
 
 abbrev wanting-two : Options
-wanting-two = record { service = Only 1; caption = true; carousel = true; eit = false }
+wanting-two = record { service = Only 1; caption = true; carousel = true; eit = false; other = true }
 
 -- the second wants captions too
 pub captions-too : Fewer wanting-one wanting-two
-captions-too = record { service-same = refl; caption-too = λ e. refl; carousel-too = λ e. refl; eit-too = λ e. e }
+captions-too = record { service-same = refl; caption-too = λ e. refl; carousel-too = λ e. refl; eit-too = λ e. e; other-too = λ e. e }
 
 -- the second of two, without its first byte
 pub one-of-two : Thinned (drop 1) ((8 ∷ []) ∷ []) ((9 ∷ []) ∷ (7 ∷ 8 ∷ []) ∷ [])
@@ -56,7 +56,7 @@ pub record TooMany : Type 0 where
   pub fragment-bytes : (T : ℕ) (fs : List Fragment) → fragmentBytes fs ≡ T + 1 → HoldsFragments T fs → ⊥
   pub fragment-flags : HoldsFragments 9 (record { identifier = 7; flags = 256; body = [] } ∷ []) → ⊥
   -- the first wants EIT, the second does not
-  pub wishes : Fewer (record { service = Only 1; caption = true; carousel = true; eit = true }) (record { service = Only 1; caption = true; carousel = true; eit = false }) → ⊥
+  pub wishes : Fewer (record { service = Only 1; caption = true; carousel = true; eit = true; other = true }) (record { service = Only 1; caption = true; carousel = true; eit = false; other = true }) → ⊥
 
 pub too-many : TooMany
 too-many = record {

@@ -1,4 +1,4 @@
--- Each way to be unsound: every clause of 01's "Unsound" in its order and its words, as a record that is unsound by this clause alone and
+-- Each way to be unsound: every clause of 01's "Unsound" in its order and its words, and that of 02 [1], as a record that is unsound by this clause alone and
 -- the nearest one that is sound: the two differ in one number, by one where a note says no other. The program `unsound` runs the same.
 use Prim.Native.Nat.{ℕ, zero, suc, _+_, _-_, _*_}
 use mathlib.Core.Path.{_≡_, refl}
@@ -20,10 +20,14 @@ abbrev no-slots : Slots
 no-slots = (0, [])
 
 abbrev one-service : Options
-one-service = record { service = Only 1; caption = true; carousel = true; eit = true }
+one-service = record { service = Only 1; caption = true; carousel = true; eit = true; other = true }
+
+-- no captions, and other assets or not
+abbrev without-captions : Bool → Options
+without-captions other = record { service = Only 1; caption = false; carousel = true; eit = true; other = other }
 
 abbrev copy-all : Options
-copy-all = record { service = Every; caption = true; carousel = true; eit = true }
+copy-all = record { service = Every; caption = true; carousel = true; eit = true; other = true }
 
 abbrev recording : Limits → Options → ℕ → Slots → Slots → Slots → Record
 recording L o held-count packages map-heads fragment-heads = record {
@@ -106,6 +110,8 @@ pub record Unsound : Type 0 where
       (of-fragments 3 (0x7000000000001 ∷ 0x9000000000001 ∷ 0x8000000000001 ∷ []))
   -- "fragment lengths adding up to more than T"
   pub fragment-lengths : Beside (of-fragments 2 (0x7000000000008 ∷ 0x9000000000009 ∷ [])) (of-fragments 2 (0x7000000000008 ∷ 0x9000000000008 ∷ []))
+  -- 02 [1]: "a record with this wish and captions both off"
+  pub wishes : Beside (of-held (without-captions false) 0) (of-held (without-captions true) 0)
   -- what slots hold that are not used makes nothing unsound
   pub unused : (of-packages 1 (0x20007 ∷ 0x10009 ∷ []) ≡ true) × (of-maps 1 (0x70001 ∷ 0x70100 ∷ []) ≡ true) × (of-fragments 1 (0x7000000000008 ∷ 0x7000000000009 ∷ []) ≡ true)
 
@@ -136,5 +142,6 @@ unsound = record {
   map-twice = (refl, refl);
   fragment-twice = (refl, refl);
   fragment-lengths = (refl, refl);
+  wishes = (refl, refl);
   unused = (refl, refl, refl);
 }

@@ -44,7 +44,7 @@ abbrev other : ℕ → Known
 other p = record { plt-seen = true; packages = (2, p) ∷ []; map-heads = []; map-room = []; data-set = []; fragments = [] }
 
 abbrev first : Options
-first = record { service = Only 1; caption = true; carousel = true; eit = true }
+first = record { service = Only 1; caption = true; carousel = true; eit = true; other = true }
 
 drops-it : (p q : ℕ) → 0 < p → drops first (other p) q ≡ eqb p q
 unfolding drops
@@ -65,7 +65,7 @@ abbrev nobody : Known
 nobody = record { plt-seen = false; packages = []; map-heads = []; map-room = []; data-set = []; fragments = [] }
 
 abbrev no-eit : Options
-no-eit = record { service = Only 1; caption = true; carousel = true; eit = false }
+no-eit = record { service = Only 1; caption = true; carousel = true; eit = false; other = true }
 
 drops-eit : (q : ℕ) → drops no-eit nobody q ≡ eqb 0x8000 q
 unfolding drops

@@ -58,13 +58,13 @@ abbrev pub oneService : ℕ → Bytes
 oneService low = 0x80 ∷ 0x01 ∷ 0x00 ∷ 0x08 ∷ 0x01 ∷ 0x02 ∷ 0x04 ∷ low ∷ 0x00 ∷ 0xF0 ∷ 0x01 ∷ 0x00 ∷ []
 
 abbrev pub noCaptions : Options
-noCaptions = record { service = Every; caption = false; carousel = true; eit = true }
+noCaptions = record { service = Every; caption = false; carousel = true; eit = true; other = true }
 
 abbrev pub noCarousels : Options
-noCarousels = record { service = Every; caption = true; carousel = false; eit = true }
+noCarousels = record { service = Every; caption = true; carousel = false; eit = true; other = true }
 
 abbrev pub service : ℕ → Options
-service n = record { service = Only n; caption = true; carousel = true; eit = true }
+service n = record { service = Only n; caption = true; carousel = true; eit = true; other = true }
 
 abbrev limits : Limits
 limits = record { work = 131078; total = 65536; most = 65536 }

@@ -19,6 +19,7 @@ pub mod CasesOfSound
 pub mod CasesOfCalls
 pub mod CasesOfStarts
 pub mod CasesOfPrograms
+pub mod CasesOfCaptions
 pub mod CasesOfRecount
 pub mod CasesOfLost
 pub mod ListLaws

@@ -2,7 +2,7 @@
 -- SoundnessLaws, for how many bytes can be held, and on SeriesLaws.
 use Prim.Native.Nat.{ℕ, zero, suc, _+_, _-_, _≤_, _<_}
 use mathlib.Core.Path.{_≡_, refl, sym, ap, _∙_, subst}
-use mathlib.Core.Bool.{true, _||_}
+use mathlib.Core.Bool.{true, _||_, cond}
 use mathlib.Core.List.{List, [], _∷_, _++_, map, map-append}
 use native.Mathlib.Omega.{arith}
 use lib.ListN.{length, take, drop, replicate, length-take, length-replicate}
@@ -17,17 +17,18 @@ use Rattle.meaning.specs.Calls.{countsOf}
 use Rattle.meaning.specs.Start.{fresh}
 use Rattle.meaning.specs.Push.{push, lengthRefusal}
 use Rattle.meaning.specs.Series.{callRefusal, series}
-use Rattle.meaning.specs.Programs.{inputRefused, inputOptions, chunk, programLimits, programLent, programCalls, Chunks}
+use Rattle.meaning.specs.Wishes.{wantsAssets}
+use Rattle.meaning.specs.Programs.{inputRefused, inputOptions, inputRefusal, chunk, programLimits, programLent, programCalls, Chunks}
 use Rattle.meaning.specs.declared.Options.{Options}
 use Rattle.meaning.proofs.SoundnessLaws.{HoldsState, fresh-holds, series-holds}
 use Rattle.meaning.proofs.SeriesLaws.{joined, alone, series-one}
 
 -- ---- the first three bytes
 
-by-flags : (n flags : ℕ) → 2 ≤ n → (ltb n 2 || ltb 15 flags) ≡ ltb 15 flags
+by-flags : (n flags : ℕ) → 2 ≤ n → (ltb n 2 || ltb 31 flags) ≡ ltb 31 flags
 by-flags n flags h = rw (le-ltb n 2 h)
 
-pub refused-by-three : (s : Bytes) → inputRefused (take 3 s) ≡ inputRefused s
+refused-by-three : (s : Bytes) → inputRefused (take 3 s) ≡ inputRefused s
 unfolding inputRefused
 refused-by-three [] = refl
 refused-by-three (a ∷ []) = refl
@@ -38,6 +39,10 @@ pub options-by-three : (s : Bytes) → inputOptions (take 3 s) ≡ inputOptions 
 unfolding inputOptions be16At
 options-by-three s =
     rw (getD-take 3 s 0 0 (omega arith), getD-take 3 s 1 0 (omega arith), getD-take 3 s 2 0 (omega arith))
+
+pub refusal-by-three : (s : Bytes) → inputRefusal (take 3 s) ≡ inputRefusal s
+unfolding inputRefusal
+refusal-by-three s = λ i. cond (refused-by-three s i) 8 (cond (wantsAssets (options-by-three s i)) 0 9)
 
 -- ---- chunks
 
@@ -70,11 +75,15 @@ limit-is : packetLimit (programLimits .work) ≡ 32768
 unfolding packetLimit programLimits
 limit-is = refl
 
-module _ (o : Options) where
+pub calls-none : (o : Options) → programCalls o [] ≡ record { out = []; counts = countsOf 0; state = fresh (replicate 32768 0) }
+unfolding programCalls series
+calls-none o = refl
+
+module _ (o : Options) (w : wantsAssets o ≡ true) where
   pub calls-hold : (cs : List Bytes) → HoldsState programLimits o (programCalls o cs .state)
   unfolding programCalls
   calls-hold cs =
-      series-holds programLimits o (fresh (replicate 32768 0)) (map programLent cs) (omega (arith, limit-is)) (fresh-holds programLimits o (replicate 32768 0) (omega (arith, limit-is)) (length-replicate {A = ℕ} 32768 0))
+      series-holds programLimits o (fresh (replicate 32768 0)) (map programLent cs) (omega (arith, limit-is)) (fresh-holds programLimits o (replicate 32768 0) (omega (arith, limit-is)) (length-replicate {A = ℕ} 32768 0) w)
 
   short-taken : (st : State) (c : Bytes) → length (st .held) < 32768 → length c ≤ 32768 → callRefusal programLimits st (programLent c) ≡ 0
   unfolding callRefusal lengthRefusal packetLimit programLimits
@@ -92,10 +101,6 @@ module _ (o : Options) where
       (h .0, h .1, call-taken before c (h .1))
 
   -- ---- one chunk more
-
-  pub calls-none : programCalls o [] ≡ record { out = []; counts = countsOf 0; state = fresh (replicate 32768 0) }
-  unfolding programCalls series
-  calls-none = refl
 
   pub calls-one : (cs : List Bytes) (c : Bytes) → length c ≤ 32768
       → programCalls o (cs ++ (c ∷ [])) ≡ joined (programCalls o cs) (alone (push programLimits o (programCalls o cs .state) c))

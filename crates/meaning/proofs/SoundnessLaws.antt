@@ -13,7 +13,7 @@ use Rattle.meaning.specs.Bytes.{Bytes}
 use Rattle.meaning.specs.Lists.{all, sum}
 use Rattle.meaning.specs.Packets.{cut}
 use Rattle.meaning.specs.Mmtp.{mmtpOf}
-use Rattle.meaning.specs.Wishes.{copiesAll}
+use Rattle.meaning.specs.Wishes.{wantsAssets, copiesAll}
 use Rattle.meaning.specs.Narrow.{narrowPacket}
 use Rattle.meaning.specs.Rooms.{packetLimit, goodWorkRoom, goodFragmentRoom, goodMapRoom}
 use Rattle.meaning.specs.Learn.{Fragment, Known, learn, fragmentBytes}
@@ -32,15 +32,17 @@ use Rattle.meaning.proofs.SoundnessKept.{held-next, learn-holds}
 pub record HoldsState (L : Limits) (o : Options) (st : State) : Type 0 where
   pub held-few : length (st .held) < packetLimit (L .work)
   pub held-none : copiesAll o ≡ true → length (st .held) ≡ 0
+  pub wants-assets : wantsAssets o ≡ true
   pub known-holds : Holds (L .total) (st .known)
 
 -- ---- a start
 
-pub fresh-holds : (L : Limits) (o : Options) (map-room : List ℕ) → 0 < packetLimit (L .work) → length map-room ≡ 32768 → HoldsState L o (fresh map-room)
+pub fresh-holds : (L : Limits) (o : Options) (map-room : List ℕ) → 0 < packetLimit (L .work) → length map-room ≡ 32768 → wantsAssets o ≡ true → HoldsState L o (fresh map-room)
 unfolding fresh rising distinct fragmentBytes sum
-fresh-holds L o map-room h m = record {
+fresh-holds L o map-room h m w = record {
   held-few = h;
   held-none = λ e. refl;
+  wants-assets = w;
   known-holds = record {
     packages-hold = record { few = omega arith; rise = refl; small = tt };
     maps-hold = record { few = omega arith; once = refl; small = tt };
@@ -51,10 +53,10 @@ fresh-holds L o map-room h m = record {
 
 -- What a refused start hands back is unsound, whatever the rooms.
 pub blank-unsound : (W T n : ℕ) → sound blank W T n ≡ false
-unfolding sound blank soundHeld packetLimit
+unfolding sound blank wantsAssets soundHeld packetLimit
 blank-unsound W T n = go (soundRooms (blank .limits) W T n)
   where
-    go : (a : Bool) → (a && false && soundPackages 0 (blank .packages) && soundMaps 0 (blank .map-heads) && soundFragments T 0 (blank .fragment-heads)) ≡ false
+    go : (a : Bool) → (a && false && false && soundPackages 0 (blank .packages) && soundMaps 0 (blank .map-heads) && soundFragments T 0 (blank .fragment-heads)) ≡ false
     go true = refl
     go false = refl
 
@@ -81,6 +83,7 @@ push-holds L o st chunk four h = go (copiesAll o) refl
         (record {
           held-few = held-below (packetLimit (L .work)) four (st .held ++ chunk);
           held-none = λ c. clash (let z : false ≡ true = sym e ∙ c in cc);
+          wants-assets = h .wants-assets;
           known-holds = pass-holds L o (st .known) (cut (packetLimit (L .work)) (st .held ++ chunk) .packets) (h .known-holds);
         })
 
@@ -206,7 +209,7 @@ module _ (L : Limits) (o : Options) (st : State) (work-good : goodWorkRoom (L .w
 
   pub record-sound : sound (recordOf L o st) (L .work) (L .total) 32768 ≡ true
   unfolding sound recordOf
-  record-sound = rw (rooms-sound, held-sound, packages-sound, maps-sound) fragments-sound
+  record-sound = rw (rooms-sound, h .wants-assets, held-sound, packages-sound, maps-sound) fragments-sound
 
 -- ---- a sound record with its rooms has a sound state
 
@@ -305,20 +308,22 @@ unfolding sound stateOf soundRooms goodMapRoom
 state-holds r work bodies map-room e =
     let W = length work in
     let T = length bodies in
-    let h₄ = and-both (soundRooms (r .limits) W T (length map-room) && soundHeld (r .limits) (r .options) (r .held-count) && soundPackages (r .package-count) (r .packages) && soundMaps (r .map-count) (r .map-heads)) (soundFragments T (r .fragment-count) (r .fragment-heads)) e in
-    let h₃ = and-both (soundRooms (r .limits) W T (length map-room) && soundHeld (r .limits) (r .options) (r .held-count) && soundPackages (r .package-count) (r .packages)) (soundMaps (r .map-count) (r .map-heads)) (h₄ .0) in
-    let h₂ = and-both (soundRooms (r .limits) W T (length map-room) && soundHeld (r .limits) (r .options) (r .held-count)) (soundPackages (r .package-count) (r .packages)) (h₃ .0) in
-    let h₁ = and-both (soundRooms (r .limits) W T (length map-room)) (soundHeld (r .limits) (r .options) (r .held-count)) (h₂ .0) in
+    let h₄ = and-both (soundRooms (r .limits) W T (length map-room) && wantsAssets (r .options) && soundHeld (r .limits) (r .options) (r .held-count) && soundPackages (r .package-count) (r .packages) && soundMaps (r .map-count) (r .map-heads)) (soundFragments T (r .fragment-count) (r .fragment-heads)) e in
+    let h₃ = and-both (soundRooms (r .limits) W T (length map-room) && wantsAssets (r .options) && soundHeld (r .limits) (r .options) (r .held-count) && soundPackages (r .package-count) (r .packages)) (soundMaps (r .map-count) (r .map-heads)) (h₄ .0) in
+    let h₂ = and-both (soundRooms (r .limits) W T (length map-room) && wantsAssets (r .options) && soundHeld (r .limits) (r .options) (r .held-count)) (soundPackages (r .package-count) (r .packages)) (h₃ .0) in
+    let h₁ = and-both (soundRooms (r .limits) W T (length map-room) && wantsAssets (r .options)) (soundHeld (r .limits) (r .options) (r .held-count)) (h₂ .0) in
+    let h₀ = and-both (soundRooms (r .limits) W T (length map-room)) (wantsAssets (r .options)) (h₁ .0) in
     let held = held-from (r .limits) (r .options) (r .held-count) work (h₁ .1) in
     record {
       held-few = held .0;
       held-none = held .1;
+      wants-assets = h₀ .1;
       known-holds = record {
         packages-hold = packages-from (r .package-count) (r .packages) (h₂ .1);
         maps-hold = maps-from (r .map-count) (r .map-heads) (h₃ .1);
-        fragments-hold = subst (λ (t : ℕ). HoldsFragments t (fragmentsIn (take (r .fragment-count) (r .fragment-heads)) bodies)) (sym (rooms-are (h₁ .0) .0))
+        fragments-hold = subst (λ (t : ℕ). HoldsFragments t (fragmentsIn (take (r .fragment-count) (r .fragment-heads)) bodies)) (sym (rooms-are (h₀ .0) .0))
             (fragments-from (r .fragment-count) (r .fragment-heads) T bodies (h₄ .1));
-        map-room-all = rooms-are (h₁ .0) .1;
+        map-room-all = rooms-are (h₀ .0) .1;
       };
     }
   where

@@ -35,7 +35,7 @@ bytes-add-up L o st chunk e = rw e (byte-equation (packetLimit (L .work)) (st .h
 -- ---- a narrowed table
 
 pub same-wishes : (o : Options) → Fewer o o
-same-wishes o = record { service-same = refl; caption-too = λ e. e; carousel-too = λ e. e; eit-too = λ e. e }
+same-wishes o = record { service-same = refl; caption-too = λ e. e; carousel-too = λ e. e; eit-too = λ e. e; other-too = λ e. e }
 
 -- Its entries are those of the old table that are wanted, in order, and its count is their number.
 pub entries-are-wanted : (o : Options) (b : Bytes) (m : Mpt) (more : Bytes) → mpt b ≡ some (m, more)

@@ -52,7 +52,7 @@ nothing-narrows = record { twice = λ s. refl; more = λ s e. e; shorter = λ s 
 pub wanted-under : {o₁ o₂ : Options} → Fewer o₁ o₂ → (part : Part) → wanted o₁ part ≡ true → wanted o₂ part ≡ true
 wanted-under f Caption e = f .caption-too e
 wanted-under f Carousel e = f .carousel-too e
-wanted-under f Other e = refl
+wanted-under f Other e = f .other-too e
 
 -- ---- reading an MPT
 

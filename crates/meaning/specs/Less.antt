@@ -11,6 +11,7 @@ pub record Fewer (o₁ o₂ : Options) : Type 0 where
   pub caption-too : o₁ .caption ≡ true → o₂ .caption ≡ true
   pub carousel-too : o₁ .carousel ≡ true → o₂ .carousel ≡ true
   pub eit-too : o₁ .eit ≡ true → o₂ .eit ≡ true
+  pub other-too : o₁ .other ≡ true → o₂ .other ≡ true
 
 -- Each of xs comes from one of ys, in the same order, and is that one changed by f.
 pub record Thinned (f : Bytes → Bytes) (xs ys : List Bytes) : Type 0 where

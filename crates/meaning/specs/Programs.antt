@@ -1,12 +1,13 @@
 -- What the two programs write for what they read: 01, the paragraph after the examples.
 use Prim.Native.Nat.{ℕ, _+_, _/_, _%_, zero, suc, _≤_}
-use mathlib.Core.Bool.{Bool, cond, true, _||_}
+use mathlib.Core.Bool.{Bool, cond, true, _||_, not}
 use mathlib.Core.List.{List, [], _∷_, _++_, map, flatten}
 use mathlib.Core.Option.{none, some}
 use lib.ListN.{length, take, drop, getD, replicate}
 use lib.Dec.{eqb, ltb}
 use Rattle.meaning.specs.Bytes.{Bytes, be16At}
 use Rattle.meaning.specs.Readers.{Reader, walk}
+use Rattle.meaning.specs.Wishes.{wantsAssets}
 use Rattle.meaning.specs.Start.{fresh}
 use Rattle.meaning.specs.Series.{Lent, Series, series}
 use Rattle.meaning.specs.declared.Service.{Service}
@@ -24,22 +25,28 @@ abbrev pub serviceIf : ℕ → ℕ → Service
 serviceIf zero s = Every
 serviceIf (suc f) s = Only s
 
--- Bits 0 to 3: caption, carousel, EIT, service named.
+-- Bits 0 to 3: caption, carousel, EIT, service named; bit 4 turns other assets off. 02 [1].
 unfoldable pub optionsOf : ℕ → ℕ → Options
 optionsOf flags s = record {
   service = serviceIf (flags / 8 % 2) s;
   caption = isOne (flags % 2);
   carousel = isOne (flags / 2 % 2);
   eit = isOne (flags / 4 % 2);
+  other = not (isOne (flags / 16 % 2));
 }
 
 unfoldable pub inputRefused : Bytes → Bool
 inputRefused [] = true
-inputRefused (flags ∷ s) = ltb (length s) 2 || ltb 15 flags
+inputRefused (flags ∷ s) = ltb (length s) 2 || ltb 31 flags
 
 unfoldable pub inputOptions : Bytes → Options
 unfolding optionsOf be16At
 inputOptions s = optionsOf (getD s 0 0) (be16At s 1)
+
+-- The number of its refusal, 0 for none: a head that cannot be read, or wishes that no start takes. 02 [1].
+unfoldable pub inputRefusal : Bytes → ℕ
+unfolding inputRefused inputOptions wantsAssets
+inputRefusal s = cond (inputRefused s) 8 (cond (wantsAssets (inputOptions s)) 0 9)
 
 -- Chunks of 32,768 bytes; the end of the input ends the last one.
 unfoldable pub chunk : Reader Bytes
@@ -103,9 +110,9 @@ sumsLine c held-count =
 
 -- The filtered stream; bytes held at the end are not written.
 unfoldable pub filterWrites : Bytes → Bytes
-unfolding inputRefused refusedLine sumsOf flatten
-filterWrites s = cond (inputRefused s) (refusedLine 8) (flatten (sumsOf s .out))
+unfolding inputRefusal refusedLine sumsOf flatten
+filterWrites s = cond (eqb (inputRefusal s) 0) (flatten (sumsOf s .out)) (refusedLine (inputRefusal s))
 
 unfoldable pub sumsWrites : Bytes → Bytes
-unfolding inputRefused refusedLine sumsLine sumsOf
-sumsWrites s = cond (inputRefused s) (refusedLine 8) (sumsLine (sumsOf s .counts) (length (sumsOf s .state .held)))
+unfolding inputRefusal refusedLine sumsLine sumsOf
+sumsWrites s = cond (eqb (inputRefusal s) 0) (sumsLine (sumsOf s .counts) (length (sumsOf s .state .held))) (refusedLine (inputRefusal s))

@@ -1,8 +1,8 @@
--- Refusal numbers: 01, "Refusal numbers". The lowest that applies is given, 0 for none.
+-- Refusal numbers: 01, "Refusal numbers"; 9: 02 [1]. The lowest that applies is given, 0 for none.
 use Prim.Native.Nat.{ℕ}
 use mathlib.Core.Bool.{Bool, true, false}
 use Rattle.meaning.specs.declared.Refusal.{Refusal}
-use Rattle.meaning.specs.declared.Refusal.the-variants.{WorkRoom, FragmentRoom, MapRoom, Unsound, Long, Short, Tally, Input}
+use Rattle.meaning.specs.declared.Refusal.the-variants.{WorkRoom, FragmentRoom, MapRoom, Unsound, Long, Short, Tally, Input, Wishes}
 use Rattle.meaning.specs.declared.Narrowing.{Narrowing}
 use Rattle.meaning.specs.declared.Answer.{Answer}
 use Rattle.meaning.specs.declared.Answer.the-variants.{Done, Refused}
@@ -17,6 +17,7 @@ numberOf Long = 5
 numberOf Short = 6
 numberOf Tally = 7
 numberOf Input = 8
+numberOf Wishes = 9
 
 unfoldable pub answerNumber : Answer → ℕ
 unfolding numberOf

@@ -7,7 +7,7 @@ use mathlib.Core.List.{List, [], _∷_, map}
 use lib.ListN.{length, take}
 use lib.Dec.{eqb, leb, ltb}
 use Rattle.meaning.specs.Lists.{all, any, sum}
-use Rattle.meaning.specs.Wishes.{copiesAll}
+use Rattle.meaning.specs.Wishes.{wantsAssets, copiesAll}
 use Rattle.meaning.specs.Rooms.{packetLimit, goodWorkRoom, goodFragmentRoom, goodMapRoom}
 use Rattle.meaning.specs.Learn.{Fragment, Known, fragmentBytes}
 use Rattle.meaning.specs.Record.{Record, pairOf, fragmentIdentifier, fragmentLength}
@@ -53,9 +53,10 @@ soundFragments T n fs = leb n 256 && distinct (map fragmentIdentifier (take n fs
 
 -- The record with the lengths of the lent work, fragment and map room.
 unfoldable pub sound : Record → ℕ → ℕ → ℕ → Bool
-unfolding soundRooms soundHeld soundPackages soundMaps soundFragments
+unfolding soundRooms wantsAssets soundHeld soundPackages soundMaps soundFragments
 sound r W T n =
     soundRooms (r .limits) W T n
+    && wantsAssets (r .options)
     && soundHeld (r .limits) (r .options) (r .held-count)
     && soundPackages (r .package-count) (r .packages)
     && soundMaps (r .map-count) (r .map-heads)

@@ -5,6 +5,7 @@ use mathlib.Core.List.{List, []}
 use lib.ListN.{length, replicate}
 use lib.Dec.{eqb}
 use Rattle.meaning.specs.Sets.{Words}
+use Rattle.meaning.specs.Wishes.{wantsAssets}
 use Rattle.meaning.specs.Rooms.{goodWorkRoom, goodFragmentRoom, goodMapRoom}
 use Rattle.meaning.specs.Record.{State, Record, recordOf}
 use Rattle.meaning.specs.Calls.{countsOf, Called}
@@ -22,17 +23,17 @@ fresh map-room = record {
   known = record { plt-seen = false; packages = []; map-heads = []; map-room = map-room; data-set = noWords; fragments = [] };
 }
 
--- Of a start: W, T, M and the length of the map room.
-unfoldable pub startRefusal : ℕ → ℕ → ℕ → ℕ → ℕ
-unfolding goodWorkRoom goodFragmentRoom goodMapRoom
-startRefusal W T M n = cond (goodWorkRoom W) (cond (goodFragmentRoom T M) (cond (goodMapRoom n) 0 3) 2) 1
+-- Of a start: W, T, M, the length of the map room, and the wishes.
+unfoldable pub startRefusal : ℕ → ℕ → ℕ → ℕ → Options → ℕ
+unfolding goodWorkRoom goodFragmentRoom goodMapRoom wantsAssets
+startRefusal W T M n o = cond (goodWorkRoom W) (cond (goodFragmentRoom T M) (cond (goodMapRoom n) (cond (wantsAssets o) 0 9) 3) 2) 1
 
 -- All zero: what a refused start hands back. It is unsound, so it can be used for nothing.
 unfoldable pub blank : Record
 unfolding noWords
 blank = record {
   limits = record { work = 0; total = 0; most = 0 };
-  options = record { service = Every; caption = false; carousel = false; eit = false };
+  options = record { service = Every; caption = false; carousel = false; eit = false; other = false };
   held-count = 0;
   plt-seen = false;
   package-count = 0;
@@ -48,5 +49,5 @@ blank = record {
 unfoldable pub started : Limits → Options → List ℕ → Called
 unfolding startRefusal recordOf fresh blank
 started L o map-room =
-    let x = startRefusal (L .work) (L .total) (L .most) (length map-room) in
+    let x = startRefusal (L .work) (L .total) (L .most) (length map-room) o in
     record { number = x; out = []; counts = countsOf 0; handed = cond (eqb x 0) (recordOf L o (fresh map-room)) blank }

@@ -1,6 +1,6 @@
--- What a recording wants: a service or each, and three wishes. 01, "Keep, drop, ready"; for copy-all "Finding packets".
+-- What a recording wants: a service or each, and four wishes. 01, "Keep, drop, ready"; for copy-all "Finding packets".
 use Prim.Native.Nat.{ℕ}
-use mathlib.Core.Bool.{Bool, true, false, _&&_}
+use mathlib.Core.Bool.{Bool, true, false, _&&_, _||_}
 use lib.Dec.{eqb}
 use Rattle.meaning.specs.Tables.{Entry}
 use Rattle.meaning.specs.declared.Part.{Part}
@@ -12,7 +12,7 @@ use Rattle.meaning.specs.declared.Options.{Options}
 abbrev pub wanted : Options → Part → Bool
 wanted o Caption = o .caption
 wanted o Carousel = o .carousel
-wanted o Other = true
+wanted o Other = o .other
 
 abbrev pub wantedEntry : Options → Entry → Bool
 wantedEntry o e = wanted o (e .part)
@@ -26,6 +26,14 @@ abbrev pub everyService : Service → Bool
 everyService Every = true
 everyService (Only n) = false
 
--- Copy-all: no service, all three wishes on.
+-- Captions or other assets: a recording of neither is refused. 02 [1].
+unfoldable pub wantsAssets : Options → Bool
+wantsAssets o = o .caption || o .other
+
+-- The captions-only profile: captions and tables of a service, or of each. 02 [1].
+unfoldable pub captionsOnly : Service → Options
+captionsOnly s = record { service = s; caption = true; carousel = false; eit = false; other = false }
+
+-- Copy-all: no service, all four wishes on.
 unfoldable pub copiesAll : Options → Bool
-copiesAll o = everyService (o .service) && o .caption && o .carousel && o .eit
+copiesAll o = everyService (o .service) && o .caption && o .carousel && o .eit && o .other

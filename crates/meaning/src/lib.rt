@@ -6,12 +6,13 @@ pub enum Service {
     Only(u16),
 }
 
-// What is wanted: a service, and the three wishes.
+// What is wanted: a service, and the four wishes; `other` are assets that are neither captions nor carousels.
 pub struct Options {
     pub service: Service,
     pub caption: bool,
     pub carousel: bool,
     pub eit: bool,
+    pub other: bool,
 }
 
 // The limits of a start: the lengths of the work room and of the fragment room, and the most bytes of one message.
@@ -55,6 +56,7 @@ pub enum Refusal {
     Short,
     Tally,
     Input,
+    Wishes,
 }
 
 // What a call answers.

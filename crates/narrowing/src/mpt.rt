@@ -46,7 +46,7 @@ pub fn wanted(o: Options, part: Part) -> bool
     match part {
         Part::Caption => o.caption,
         Part::Carousel => o.carousel,
-        Part::Other => true,
+        Part::Other => o.other,
     }
 }
 

@@ -11,6 +11,7 @@ use borrow.Author.Tests.{eqb-true}
 use Rattle.meaning.specs.Bytes.{Bytes}
 use Rattle.meaning.specs.Writing.{Wrote}
 use Rattle.meaning.specs.Refusals.{numberOf, answerNumber}
+use Rattle.meaning.specs.Wishes.{wantsAssets}
 use Rattle.meaning.specs.Rooms.{goodWorkRoom, goodFragmentRoom, goodMapRoom}
 use Rattle.meaning.specs.Record.{State, Record, recordOf, stateOf}
 use Rattle.meaning.specs.Calls.{Called}
@@ -19,13 +20,16 @@ use Rattle.meaning.specs.Push.{push, called}
 use Rattle.meaning.specs.Tally.{addCounts, fits64, tallyRefusal, tallied}
 use Rattle.meaning.specs.Series.{Series}
 use Rattle.meaning.specs.Readers.{walk}
-use Rattle.meaning.specs.Programs.{inputRefused, inputOptions, chunk, programLimits, programCalls, sumsOf, refusedLine, sumsLine, filterWrites, sumsWrites}
+use Rattle.meaning.specs.Programs.{inputRefused, inputRefusal, inputOptions, chunk, programLimits, programCalls, sumsOf, refusedLine, sumsLine, filterWrites, sumsWrites}
 use Rattle.meaning.specs.declared.Limits.{Limits}
 use Rattle.meaning.specs.declared.Options.{Options}
 use Rattle.meaning.specs.declared.Counts.{Counts}
+use Rattle.meaning.specs.declared.Refusal.{Refusal}
+use Rattle.meaning.specs.declared.Refusal.the-variants.{Input}
+use Rattle.meaning.proofs.AnswerLaws.{refused-told, not-zero}
 use Rattle.meaning.proofs.SoundnessLaws.{HoldsState}
 use Rattle.meaning.proofs.SeriesLaws.{joined, alone, fresh-back, called-taken}
-use Rattle.meaning.proofs.ProgramLaws.{refused-by-three, options-by-three, chunks-append, limits-good, calls-hold, call-taken, calls-none, calls-one}
+use Rattle.meaning.proofs.ProgramLaws.{refusal-by-three, options-by-three, chunks-append, limits-good, calls-hold, call-taken, calls-none, calls-one}
 use Rattle.recorder.specs.declared.Started.{Started}
 use Rattle.recorder.specs.Filter.{recordIn}
 use Rattle.recorder.specs.Calls.{StartedAs, RoomsAfter}
@@ -37,21 +41,21 @@ use Rattle.programs.specs.Pipe.{cameOf}
 use Rattle.programs.specs.Asked.{askedOf}
 use Rattle.programs.specs.Lines.{lineBy, lastLine}
 use Rattle.programs.specs.Stream.{firstOf, toWrite, TakenAs, endedAs, NextAs, goesOn, sumsRefusal, Come, Goes, begunAs, endingOf, unaskedAs, runRefusal, Ran, RanBy, lineFor, Told}
-use Rattle.programs.proofs.AskedLaws.{nothing-asked, asked-options}
+use Rattle.programs.proofs.AskedLaws.{refusal-asked, options-asked}
 
 -- ---- a start
 
-program-start : (n : ℕ) → n ≡ 32768 → startRefusal (programLimits .work) (programLimits .total) (programLimits .most) n ≡ 0
+program-start : (n : ℕ) (o : Options) → n ≡ 32768 → wantsAssets o ≡ true → startRefusal (programLimits .work) (programLimits .total) (programLimits .most) n o ≡ 0
 unfolding startRefusal goodWorkRoom goodFragmentRoom goodMapRoom programLimits
-program-start n e = rw e
+program-start n o e w = rw (e, w)
 
-module _ (o : Options) (map-room : List ℕ) (zeros : map-room ≡ replicate 32768 0) where
+module _ (o : Options) (w : wantsAssets o ≡ true) (map-room : List ℕ) (zeros : map-room ≡ replicate 32768 0) where
   map-room-long : length map-room ≡ 32768
   map-room-long = ap length zeros ∙ length-replicate {A = ℕ} 32768 0
 
   start-done : started programLimits o map-room .number ≡ 0
   unfolding started
-  start-done = program-start (length map-room) map-room-long
+  start-done = program-start (length map-room) o map-room-long w
 
   start-handed : started programLimits o map-room .handed ≡ recordOf programLimits o (fresh map-room)
   unfolding started
@@ -74,19 +78,20 @@ module _ (o : Options) (map-room : List ℕ) (zeros : map-room ≡ replicate 327
 
   pub come-start : (work bodies : Bytes) (s : Started) → length work ≡ 65536 → length bodies ≡ 65536
       → StartedAs (record { work = length work; total = length bodies; most = 65536 }) o map-room s → Come o [] (begunAs s) work bodies map-room
-  come-start work bodies s w b p =
-      let q = subst (λ (L : Limits). StartedAs L o map-room s) (limits-are (length work) (length bodies) w b) p in
+  come-start work bodies s l b p =
+      let q = subst (λ (L : Limits). StartedAs L o map-room s) (limits-are (length work) (length bodies) l b) p in
       let r : recordIn (s .filter) ≡ recordOf programLimits o (fresh map-room) = q .handed-is ∙ start-handed in
       record {
+        wants-assets = w;
         chunks-are = tt;
         answer-is = q .answer-is ∙ start-done ∙ sym none-summed;
         sums-are = λ done. ap (λ (z : Series). z .counts) (sym (calls-none o));
         record-is = r ∙ ap (recordOf programLimits o) (sym fresh-is);
         state-is =
             ap (λ (z : Record). stateOf z work bodies map-room) r
-            ∙ fresh-back programLimits o work bodies map-room total-few (subst (HoldsState programLimits o) fresh-is (calls-hold o []))
+            ∙ fresh-back programLimits o work bodies map-room total-few (subst (HoldsState programLimits o) fresh-is (calls-hold o w []))
             ∙ sym fresh-is;
-        work-long = w;
+        work-long = l;
         bodies-long = b;
         map-room-long = map-room-long;
       }
@@ -127,14 +132,14 @@ module _ (o : Options) (cs : List Bytes) (x y : Standing) (work bodies : Bytes) 
   st = programCalls o cs .state
 
   one : programCalls o (cs ++ (chunk ∷ [])) ≡ joined (programCalls o cs) (alone (push programLimits o st chunk))
-  one = calls-one o cs chunk few
+  one = calls-one o (h .wants-assets) cs chunk few
 
   call-is : called (recordIn (x .filter)) work bodies map-room chunk (length out)
       ≡ record { number = 0; out = push programLimits o st chunk .out; counts = push programLimits o st chunk .counts; handed = recordOf programLimits o (push programLimits o st chunk .state) }
   call-is =
       ap (λ (n : ℕ). called (recordIn (x .filter)) work bodies map-room chunk n) out-long
-      ∙ called-taken programLimits o st (limits-good .0) (limits-good .1) (calls-hold o cs) (recordIn (x .filter)) work bodies map-room (chunk, 65536)
-      (h .record-is) (h .state-is) (h .work-long ∙ sym (room-long .0)) (h .bodies-long ∙ sym (room-long .1)) (h .map-room-long) (call-taken o cs chunk few)
+      ∙ called-taken programLimits o st (limits-good .0) (limits-good .1) (calls-hold o (h .wants-assets) cs) (recordIn (x .filter)) work bodies map-room (chunk, 65536)
+      (h .record-is) (h .state-is) (h .work-long ∙ sym (room-long .0)) (h .bodies-long ∙ sym (room-long .1)) (h .map-room-long) (call-taken o (h .wants-assets) cs chunk few)
 
   answered : answerNumber (t .call .answer) ≡ 0
   answered = t .pushed .answer-is ∙ ap (λ (z : Called). z .number) call-is
@@ -154,6 +159,7 @@ module _ (o : Options) (cs : List Bytes) (x y : Standing) (work bodies : Bytes) 
 
   pub come-next : length work′ ≡ length work → length bodies′ ≡ length bodies → length map-room′ ≡ length map-room → Come o (cs ++ (chunk ∷ [])) y work′ bodies′ map-room′
   come-next w b m = record {
+    wants-assets = h .wants-assets;
     chunks-are = chunks-append cs (chunk ∷ []) (h .chunks-are) (some-bytes, few, tt);
     answer-is = told ∙ tally-sums _ _ ∙ ap (λ (z : Series). sumsRefusal (z .counts)) (sym one);
     sums-are = λ e.
@@ -181,6 +187,7 @@ module _ {x₀ x : Standing} {work₀ bodies₀ work bodies : Bytes} {map-room�
       let z = k .1 in (
         k .0,
         record {
+          wants-assets = z .wants-assets;
           chunks-are = z .chunks-are;
           answer-is = z .answer-is;
           sums-are = z .sums-are;
@@ -221,8 +228,8 @@ going x came e = go (eqb (cameOf came) 0) (x .failed) e
 
 -- ---- an input
 
-refused-empty : inputRefused [] ≡ true
-unfolding inputRefused
+refused-empty : inputRefusal [] ≡ numberOf Input
+unfolding inputRefusal inputRefused numberOf
 refused-empty = refl
 
 held-by : (o : Options) (st : State) (x : Standing) → recordIn (x .filter) ≡ recordOf programLimits o st → x .filter .«held_count» ≡ length (st .held)
@@ -230,18 +237,18 @@ unfolding recordIn recordOf
 held-by o st x e = ap (λ (r : Record). r .held-count) e
 
 module _ (head : Bytes) {work bodies : Bytes} {map-room : List ℕ} where
-  ran-unasked : (failed : Bool) → inputRefused head ≡ true → length head ≤ 3 → Ran head [] work bodies map-room (unaskedAs failed) work bodies map-room
-  unfolding runRefusal answerNumber numberOf
-  ran-unasked failed e short = record {
+  ran-unasked : (failed : Bool) (r : Refusal) → inputRefusal head ≡ numberOf r → length head ≤ 3 → Ran head [] work bodies map-room (unaskedAs failed r) work bodies map-room
+  unfolding runRefusal answerNumber
+  ran-unasked failed r e short = record {
     head-short = short;
     chunks-are = tt;
-    answer-is = rw e;
-    sums-are = λ z. absurd (omega (arith, z));
-    held-is = λ z. absurd (omega (arith, z));
-    rooms = rw e (refl, refl, refl);
+    answer-is = rw (e, refused-told r);
+    sums-are = λ z. not-zero r z;
+    held-is = λ z. not-zero r z;
+    rooms = rw (e, refused-told r) (refl, refl, refl);
   }
 
-  ran-stream : {cs : List Bytes} {x : Standing} {work′ bodies′ : Bytes} {map-room′ : List ℕ} → inputRefused head ≡ false → length head ≤ 3
+  ran-stream : {cs : List Bytes} {x : Standing} {work′ bodies′ : Bytes} {map-room′ : List ℕ} → inputRefusal head ≡ 0 → length head ≤ 3
       → Come (inputOptions head) cs x work′ bodies′ map-room′ → Ran head cs work bodies map-room (endingOf x) work′ bodies′ map-room′
   unfolding runRefusal
   ran-stream {cs} {x} {work′} {bodies′} {map-room′} e short h = record {
@@ -258,20 +265,23 @@ module _ {came : Filled} {n : ℕ} (s : Bytes) (is : came ≡ Filled.Bytes n) (s
   part-short : length (take n s) ≤ 3
   part-short = simp length-take (omega arith)
 
-  pub by-nothing : askedOf (take n s) ≡ Asked.Nothing → RanBy came s work bodies map-room (unaskedAs false) work bodies map-room
-  by-nothing e = rw is (([], ran-unasked (take n s) false (nothing-asked (take n s) e) part-short), λ z. refl)
+  pub by-refusal : {r : Refusal} → askedOf (take n s) ≡ Asked.Refused r → RanBy came s work bodies map-room (unaskedAs false r) work bodies map-room
+  by-refusal {r} e = rw is (([], ran-unasked (take n s) false r (refusal-asked (take n s) e) part-short), λ z. refl)
+
+  pub asked-assets : {o : Options} → askedOf (take n s) ≡ Asked.For o → wantsAssets o ≡ true
+  asked-assets e = options-asked (take n s) e .2
 
   pub by-stream : {o : Options} {x : Standing} {work′ bodies′ : Bytes} {map-room′ : List ℕ} → askedOf (take n s) ≡ Asked.For o → ((cs : List Bytes) × Come o cs x work′ bodies′ map-room′)
       → RanBy came s work bodies map-room (endingOf x) work′ bodies′ map-room′
   by-stream {o} e h =
-      let k = asked-options (take n s) e in
-      rw is ((h .0, ran-stream (take n s) (k .0) part-short (rw (k .1) at (h .1))), λ z. absurd (false≢true (sym (k .0) ∙ z)))
+      let k = options-asked (take n s) e in
+      rw is ((h .0, ran-stream (take n s) (k .0) part-short (rw (k .1) at (h .1))), λ z. absurd (false≢true (sym z ∙ ap (λ (m : ℕ). eqb m 0) (k .0))))
 
 -- There is a head.
 pub ran-some : (came : Filled) (s : Bytes) {work bodies : Bytes} {map-room : List ℕ} {e : Ending} {work′ bodies′ : Bytes} {map-room′ : List ℕ}
     → RanBy came s work bodies map-room e work′ bodies′ map-room′ → (head : Bytes) × (cs : List Bytes) × Ran head cs work bodies map-room e work′ bodies′ map-room′
 ran-some (Filled.Bytes n) s r = (take n s, r .0 .0, r .0 .1)
-ran-some Filled.Failed s r = rw (r .0, r .1, r .2, r .3) ([], [], ran-unasked [] true refused-empty (omega arith))
+ran-some Filled.Failed s r = rw (r .0, r .1, r .2, r .3) ([], [], ran-unasked [] true Input refused-empty (omega arith))
 
 -- ---- the last line
 
@@ -312,28 +322,26 @@ module _ (s : Bytes) (fits : fits64 (sumsOf s .counts) ≡ true) where
   unfolding sumsOf
   calls-are = ap (λ (o : Options). programCalls o (walk chunk (drop 3 s) .found)) (options-by-three s)
 
-  refusal-is : runRefusal (take 3 s) (walk chunk (drop 3 s) .found) ≡ cond (inputRefused s) 8 0
+  refusal-is : runRefusal (take 3 s) (walk chunk (drop 3 s) .found) ≡ inputRefusal s
   unfolding runRefusal sumsRefusal
-  refusal-is = rw (refused-by-three s, calls-are, fits)
-
-  line-by : (writes : Bool) → lineFor writes (take 3 s) (walk chunk (drop 3 s) .found)
-      ≡ cond (inputRefused s) (refusedLine 8) (cond writes [] (sumsLine (sumsOf s .counts) (length (sumsOf s .state .held))))
-  unfolding lineFor
-  line-by writes = rw (refusal-is, calls-are) (go (inputRefused s))
+  refusal-is = rw (refusal-by-three s, calls-are, fits) (go (eqb (inputRefusal s) 0) refl)
     where
-      go : (b : Bool) → cond (eqb (cond b 8 0) 0) (cond writes [] (sumsLine (sumsOf s .counts) (length (sumsOf s .state .held)))) (refusedLine (cond b 8 0))
-          ≡ cond b (refusedLine 8) (cond writes [] (sumsLine (sumsOf s .counts) (length (sumsOf s .state .held))))
-      go true = refl
-      go false = refl
+      go : (b : Bool) → eqb (inputRefusal s) 0 ≡ b → cond b 0 (inputRefusal s) ≡ inputRefusal s
+      go true e = sym (eqb-true (inputRefusal s) 0 e)
+      go false e = refl
+
+  line-by : (writes : Bool) → lineFor writes (take 3 s) (walk chunk (drop 3 s) .found) ≡ lineBy (inputRefusal s) writes (sumsOf s .counts) (length (sumsOf s .state .held))
+  unfolding lineFor
+  line-by writes = rw (refusal-is, calls-are)
 
   pub sums-last : lineFor false (take 3 s) (walk chunk (drop 3 s) .found) ≡ sumsWrites s
   unfolding sumsWrites
   sums-last = line-by false
 
-  pub filter-last : cond (inputRefused s) [] (flatten (sumsOf s .out)) ++ lineFor true (take 3 s) (walk chunk (drop 3 s) .found) ≡ filterWrites s
+  pub filter-last : cond (eqb (inputRefusal s) 0) (flatten (sumsOf s .out)) [] ++ lineFor true (take 3 s) (walk chunk (drop 3 s) .found) ≡ filterWrites s
   unfolding filterWrites
-  filter-last = ap (λ (l : Bytes). cond (inputRefused s) [] (flatten (sumsOf s .out)) ++ l) (line-by true) ∙ go (inputRefused s)
+  filter-last = ap (λ (l : Bytes). cond (eqb (inputRefusal s) 0) (flatten (sumsOf s .out)) [] ++ l) (line-by true) ∙ go (eqb (inputRefusal s) 0)
     where
-      go : (b : Bool) → cond b [] (flatten (sumsOf s .out)) ++ cond b (refusedLine 8) [] ≡ cond b (refusedLine 8) (flatten (sumsOf s .out))
-      go true = refl
-      go false = append-nil (flatten (sumsOf s .out))
+      go : (b : Bool) → cond b (flatten (sumsOf s .out)) [] ++ cond b [] (refusedLine (inputRefusal s)) ≡ cond b (flatten (sumsOf s .out)) (refusedLine (inputRefusal s))
+      go true = append-nil (flatten (sumsOf s .out))
+      go false = refl

@@ -2,20 +2,22 @@
 -- read. Which bytes they have no contract can say, so they are said to be there.
 use Prim.Native.Nat.{ℕ, _≤_}
 use mathlib.Core.Path.{_≡_}
-use mathlib.Core.Bool.{Bool, cond, not, true, false}
+use mathlib.Core.Bool.{Bool, cond, true, false}
 use mathlib.Core.List.{List, [], _++_}
 use lib.ListN.{length, take, replicate}
 use lib.Dec.{eqb}
 use Rattle.meaning.specs.Bytes.{Bytes}
 use Rattle.meaning.specs.Writing.{Wrote}
+use Rattle.meaning.specs.Wishes.{wantsAssets}
 use Rattle.meaning.specs.Refusals.{answerNumber}
 use Rattle.meaning.specs.Record.{Record, recordOf, stateOf}
 use Rattle.meaning.specs.Calls.{countsOf}
 use Rattle.meaning.specs.Tally.{fits64, tallyRefusal, tallied}
-use Rattle.meaning.specs.Programs.{inputRefused, inputOptions, programLimits, programCalls, Chunks, refusedLine, sumsLine}
+use Rattle.meaning.specs.Programs.{inputRefusal, inputOptions, programLimits, programCalls, Chunks, refusedLine, sumsLine}
 use Rattle.meaning.specs.declared.Options.{Options}
 use Rattle.meaning.specs.declared.Counts.{Counts}
 use Rattle.meaning.specs.declared.Answer.the-variants.{Refused}
+use Rattle.meaning.specs.declared.Refusal.{Refusal}
 use Rattle.meaning.specs.declared.Refusal.the-variants.{Input}
 use Rattle.recorder.specs.declared.Pushed.{Pushed}
 use Rattle.recorder.specs.declared.Started.{Started}
@@ -74,6 +76,7 @@ sumsRefusal c = cond (fits64 c) 0 7
 
 -- After the calls of these chunks: the answer, the sums where they fit, the record, and rooms that hold its state.
 pub record Come (o : Options) (cs : List Bytes) (x : Standing) (work bodies : Bytes) (map-room : List ℕ) : Type 0 where
+  pub wants-assets : wantsAssets o ≡ true
   pub chunks-are : Chunks cs
   pub answer-is : answerNumber (x .answer) ≡ sumsRefusal (programCalls o cs .counts)
   pub sums-are : answerNumber (x .answer) ≡ 0 → x .sums ≡ programCalls o cs .counts
@@ -109,20 +112,20 @@ pub record Rooms (chunk work bodies : Bytes) (map-room : List ℕ) (out : Bytes)
 abbrev pub endingOf : Standing → Ending
 endingOf x = record { failed = x .failed; answer = x .answer; sums = x .sums; «held_count» = x .filter .«held_count» }
 
-abbrev pub unaskedAs : Bool → Ending
-unaskedAs failed = record { failed = failed; answer = Refused Input; sums = countsOf 0; «held_count» = 0 }
+abbrev pub unaskedAs : Bool → Refusal → Ending
+unaskedAs failed r = record { failed = failed; answer = Refused r; sums = countsOf 0; «held_count» = 0 }
 
--- The refusal of an input with this head and these chunks: 8, or that of its sums.
+-- The refusal of an input with this head and these chunks: that of the head, or that of its sums.
 unfoldable pub runRefusal : Bytes → List Bytes → ℕ
-unfolding inputRefused inputOptions programCalls sumsRefusal
-runRefusal head cs = cond (inputRefused head) 8 (sumsRefusal (programCalls (inputOptions head) cs .counts))
+unfolding inputRefusal inputOptions programCalls sumsRefusal
+runRefusal head cs = firstOf (inputRefusal head) (sumsRefusal (programCalls (inputOptions head) cs .counts))
 
 -- The rooms after such an input: refused, they are as they were; else they and the state's record hold the state that its calls came to.
 abbrev pub RoomsLeft : Bytes → List Bytes → Bytes → Bytes → List ℕ → Bytes → Bytes → List ℕ → Type 0
 RoomsLeft head cs =
     let o = inputOptions head in
     let st = programCalls o cs .state in
-    RoomsAfter (not (inputRefused head)) st (recordOf programLimits o st)
+    RoomsAfter (eqb (inputRefusal head) 0) st (recordOf programLimits o st)
 
 pub record Ran (head : Bytes) (cs : List Bytes) (work bodies : Bytes) (map-room : List ℕ) (e : Ending) (work′ bodies′ : Bytes) (map-room′ : List ℕ) : Type 0 where
   pub head-short : length head ≤ 3
@@ -141,8 +144,8 @@ pub record HeadIn (came : Filled) (head : Bytes) : Type 0 where
 -- and no room changes.
 abbrev pub RanBy : Filled → Bytes → Bytes → Bytes → List ℕ → Ending → Bytes → Bytes → List ℕ → Type 0
 RanBy (Filled.Bytes n) s work bodies map-room e work′ bodies′ map-room′ =
-    ((cs : List Bytes) × Ran (take n s) cs work bodies map-room e work′ bodies′ map-room′) × (inputRefused (take n s) ≡ true → e .failed ≡ false)
-RanBy Filled.Failed s work bodies map-room e work′ bodies′ map-room′ = (e ≡ unaskedAs true) × (work′ ≡ work) × (bodies′ ≡ bodies) × (map-room′ ≡ map-room)
+    ((cs : List Bytes) × Ran (take n s) cs work bodies map-room e work′ bodies′ map-room′) × (eqb (inputRefusal (take n s)) 0 ≡ false → e .failed ≡ false)
+RanBy Filled.Failed s work bodies map-room e work′ bodies′ map-room′ = (e ≡ unaskedAs true Input) × (work′ ≡ work) × (bodies′ ≡ bodies) × (map-room′ ≡ map-room)
 
 -- The last line of a program that writes the stream, or of one that does not, for an input with this head and these chunks.
 unfoldable pub lineFor : Bool → Bytes → List Bytes → Bytes

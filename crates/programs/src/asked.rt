@@ -1,4 +1,4 @@
-// What the head of an input, its first three bytes, asks for, and the number of what is answered. Over `inputRefused` and `inputOptions`
+// What the head of an input, its first three bytes, asks for, and the number of what is answered. Over `inputRefusal` and `inputOptions`
 // of `meaning`, specs/Programs.antt, and `answerNumber` of its specs/Refusals.antt.
 ghost use mathlib.Core.Path.{_≡_};
 ghost use Prim.Native.Nat.{_/_, _%_};
@@ -11,6 +11,7 @@ use meaning::Options;
 use meaning::Refusal;
 use meaning::Service;
 use octets::id16;
+use soundness::wants_assets;
 
 fn service_of(flags: u8, service: u16) -> Service
     ensures { λ r. ⌜ r ≡ serviceIf (flags / 8 % 2) service ⌝ }
@@ -21,7 +22,7 @@ fn service_of(flags: u8, service: u16) -> Service
     Service::Every
 }
 
-// Bits 0 to 3 of the flags: caption, carousel, EIT, service named.
+// Bits 0 to 3 of the flags: caption, carousel, EIT, service named; bit 4 turns other assets off.
 pub fn options_of(flags: u8, service: u16) -> Options
     ensures { λ r. ⌜ r ≡ optionsOf flags service ⌝ }
 {
@@ -30,13 +31,14 @@ pub fn options_of(flags: u8, service: u16) -> Options
         caption: flags % 2 == 1,
         carousel: flags / 2 % 2 == 1,
         eit: flags / 4 % 2 == 1,
+        other: flags / 16 % 2 != 1,
     }
 }
 
-// What a head asks for; nothing where it is too short, or a flag is set that nothing is named by.
+// What a head asks for, or its refusal: it is too short, a flag is set that nothing is named by, or no start takes these wishes.
 pub enum Asked {
     For(Options),
-    Nothing,
+    Refused(Refusal),
 }
 
 // A head, or any input: what comes behind the third byte does not matter.
@@ -44,12 +46,16 @@ pub fn asked_of(head: &[u8]) -> Asked
     ensures { λ r. ⌜ r ≡ askedOf (now (head .entry)) ⌝ }
 {
     if head.len() < 3 {
-        return Asked::Nothing;
+        return Asked::Refused(Refusal::Input);
     }
-    if 15 < head[0] {
-        return Asked::Nothing;
+    if 31 < head[0] {
+        return Asked::Refused(Refusal::Input);
     }
-    Asked::For(options_of(head[0], id16(head, 1)))
+    let o = options_of(head[0], id16(head, 1));
+    if !wants_assets(o) {
+        return Asked::Refused(Refusal::Wishes);
+    }
+    Asked::For(o)
 }
 
 // The number of a refusal.
@@ -65,6 +71,7 @@ pub fn number_of(r: Refusal) -> u8
         Refusal::Short => 6,
         Refusal::Tally => 7,
         Refusal::Input => 8,
+        Refusal::Wishes => 9,
     }
 }
 

@@ -3,10 +3,11 @@
 // whatever was read, sums, record, rooms and last line are the definition's for it. A read or a write that fails ends the program.
 ghost use mathlib.Core.Path.{_≡_};
 ghost use Prim.Native.Nat.{_≤_};
-ghost use mathlib.Core.Bool.{false};
+ghost use mathlib.Core.Bool.{true, false};
 ghost use mathlib.Core.List.{List};
 ghost use lib.ListN.{length};
 ghost use Rattle.meaning.specs.Bytes.{Bytes};
+ghost use Rattle.meaning.specs.Wishes.{wantsAssets};
 ghost use Rattle.meaning.specs.Refusals.{answerNumber};
 ghost use Rattle.meaning.specs.Calls.{countsOf};
 ghost use Rattle.recorder.specs.Filter.{recordIn};
@@ -230,7 +231,7 @@ fn begun(s: Started) -> Standing
     }
 }
 
-// A start, which these rooms allow, then all chunks.
+// A start, which these rooms and wishes allow, then all chunks.
 fn started(
     o: Options,
     writes: bool,
@@ -240,7 +241,7 @@ fn started(
     map_room: &mut [u16; MAP_ROOM],
     out: &mut [u8; ROOM],
 ) -> Standing
-    requires { ⌜ Rooms (now chunk) (now work) (now bodies) (now «map_room») (now out) ⌝ }
+    requires { ⌜ (wantsAssets o ≡ true) × Rooms (now chunk) (now work) (now bodies) (now «map_room») (now out) ⌝ }
     ensures { λ r. ⌜ ((cs : List Bytes) × Come o cs r (now (work .exit)) (now (bodies .exit)) (now («map_room» .exit))) ⌝ }
 {
     let s = start(work, bodies, map_room, ROOM, o);
@@ -264,13 +265,13 @@ fn ending(x: Standing) -> Ending
     }
 }
 
-// An input whose head asks for nothing that can be done, or could not be read.
-fn unasked(failed: bool) -> Ending
-    ensures { λ r. ⌜ r ≡ unaskedAs failed ⌝ }
+// An input whose head is refused, or could not be read.
+fn unasked(failed: bool, refusal: Refusal) -> Ending
+    ensures { λ r. ⌜ r ≡ unaskedAs failed refusal ⌝ }
 {
     Ending {
         failed,
-        answer: Answer::Refused(Refusal::Input),
+        answer: Answer::Refused(refusal),
         sums: no_counts(),
         held_count: 0,
     }
@@ -291,14 +292,15 @@ fn by_head(
     ensures { λ r. ⌜ RanBy came (now (head .entry)) (now (work .entry)) (now (bodies .entry)) (now («map_room» .entry)) r (now (work .exit)) (now (bodies .exit)) (now («map_room» .exit)) ⌝ }
 {
     let Filled::Bytes(n) = came else {
-        return unasked(true);
+        return unasked(true, Refusal::Input);
     };
-    let asked = asked_of(&head[0..n]);
-    let Asked::For(o) = asked else {
-        return unasked(false);
-    };
-    let x = started(o, writes, chunk, work, bodies, map_room, out);
-    ending(x)
+    match asked_of(&head[0..n]) {
+        Asked::Refused(refusal) => unasked(false, refusal),
+        Asked::For(o) => {
+            let x = started(o, writes, chunk, work, bodies, map_room, out);
+            ending(x)
+        }
+    }
 }
 
 // An input, head and stream.

@@ -2,6 +2,7 @@
 // `call` for a push, on `soundness` for what is asked of rooms and record, on `rules` for the number of dropped identifiers.
 mod call;
 mod front;
+pub mod profiles;
 mod slots;
 pub mod sound;
 
@@ -35,6 +36,7 @@ use rules::dropped;
 use soundness::good_fragment_room;
 use soundness::good_map_room;
 use soundness::good_work_room;
+use soundness::wants_assets;
 
 // The record, as specs/Record.antt of `meaning` has it. In one that a start or a push that is not refused hands back, unused slots are zero;
 // in one handed in they may hold anything (D9), and `dropped` leaves them as they are.
@@ -96,6 +98,7 @@ fn not_started(r: Refusal) -> Started
         caption: false,
         carousel: false,
         eit: false,
+        other: false,
     };
     Started {
         answer: Answer::Refused(r),
@@ -115,6 +118,9 @@ pub fn start(work: &[u8], bodies: &[u8], map_room: &[u16], most: usize, options:
     }
     if !good_map_room(map_room.len()) {
         return not_started(Refusal::MapRoom);
+    }
+    if !wants_assets(options) {
+        return not_started(Refusal::Wishes);
     }
     Started {
         answer: Answer::Done,

@@ -42,7 +42,7 @@ fn wants(o: Options, kind: u16) -> bool
     match kind {
         0 => o.caption,
         1 => o.carousel,
-        _ => true,
+        _ => o.other,
     }
 }
 

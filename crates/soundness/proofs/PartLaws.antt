@@ -7,7 +7,7 @@ use mathlib.Core.List.{List}
 use native.Mathlib.Omega.{arith}
 use lib.Dec.{leb, ltb, eqb}
 use borrow.Author.Tests.{leb-true, ltb-true, eqb-true}
-use Rattle.meaning.specs.Wishes.{copiesAll}
+use Rattle.meaning.specs.Wishes.{wantsAssets, copiesAll}
 use Rattle.meaning.specs.Rooms.{packetLimit, goodWorkRoom, goodFragmentRoom, goodMapRoom}
 use Rattle.meaning.specs.Soundness.{soundRooms, soundHeld, soundPackages, soundMaps, soundFragments}
 use Rattle.meaning.specs.declared.Limits.{Limits}
@@ -49,16 +49,18 @@ module _ (L : Limits) (o : Options) (held-count : ℕ) (e : Extent) (packages ma
   unfolding soundRooms soundHeld goodMapRoom
   sound-parts s =
       let rooms = soundRooms L w t m in
+      let is-wanted = wantsAssets o in
       let is-held = soundHeld L o held-count in
       let are-packages = soundPackages (e .«package_count») packages in
       let are-maps = soundMaps (e .«map_count») map-heads in
-      let h₄ = and-both (rooms && is-held && are-packages && are-maps) (soundFragments t (e .«fragment_count») fragment-heads) s in
-      let h₃ = and-both (rooms && is-held && are-packages) are-maps (h₄ .0) in
-      let h₂ = and-both (rooms && is-held) are-packages (h₃ .0) in
-      let h₁ = and-both rooms is-held (h₂ .0) in
+      let h₄ = and-both (rooms && is-wanted && is-held && are-packages && are-maps) (soundFragments t (e .«fragment_count») fragment-heads) s in
+      let h₃ = and-both (rooms && is-wanted && is-held && are-packages) are-maps (h₄ .0) in
+      let h₂ = and-both (rooms && is-wanted && is-held) are-packages (h₃ .0) in
+      let h₁ = and-both (rooms && is-wanted) is-held (h₂ .0) in
+      let h₀ = and-both rooms is-wanted (h₁ .0) in
       let work = eqb (L .work) w in
       let total = eqb (L .total) t in
-      let g₄ = and-both (work && total && goodMapRoom m && goodWorkRoom w) (goodFragmentRoom t (L .most)) (h₁ .0) in
+      let g₄ = and-both (work && total && goodMapRoom m && goodWorkRoom w) (goodFragmentRoom t (L .most)) (h₀ .0) in
       let g₃ = and-both (work && total && goodMapRoom m) (goodWorkRoom w) (g₄ .0) in
       let g₂ = and-both (work && total) (goodMapRoom m) (g₃ .0) in
       let g₁ = and-both work total (g₂ .0) in

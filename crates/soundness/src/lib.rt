@@ -7,7 +7,7 @@ ghost use lib.ListN.{length, take, getD};
 ghost use lib.Dec.{eqb, leb};
 ghost use Rattle.meaning.specs.Sets.{inSet, withId};
 ghost use Rattle.meaning.specs.Lists.{all, any, sum};
-ghost use Rattle.meaning.specs.Wishes.{copiesAll};
+ghost use Rattle.meaning.specs.Wishes.{wantsAssets, copiesAll};
 ghost use Rattle.meaning.specs.Rooms.{packetLimit, goodWorkRoom, goodFragmentRoom, goodMapRoom};
 ghost use Rattle.meaning.specs.Record.{pairOf, fragmentIdentifier, fragmentLength};
 ghost use Rattle.meaning.specs.Soundness.{rising, distinct, soundRooms, soundHeld, soundPackages, soundMaps, soundFragments};
@@ -83,7 +83,17 @@ fn sound_rooms(work: usize, total: usize, most: usize, w: usize, t: usize, m: us
 
 // ---- held bytes
 
-// Copy-all: no service, all three wishes on.
+// Whether captions or other assets are wanted.
+pub fn wants_assets(o: Options) -> bool
+    ensures { λ r. ⌜ r ≡ wantsAssets o ⌝ }
+{
+    if o.caption {
+        return true;
+    }
+    o.other
+}
+
+// Copy-all: no service, all four wishes on.
 pub fn copies_all(o: Options) -> bool
     ensures { λ r. ⌜ r ≡ copiesAll o ⌝ }
 {
@@ -96,7 +106,10 @@ pub fn copies_all(o: Options) -> bool
             if !o.carousel {
                 return false;
             }
-            o.eit
+            if !o.eit {
+                return false;
+            }
+            o.other
         }
         Service::Only(_) => false,
     }
@@ -375,6 +388,9 @@ pub fn parts_sound(
     ensures { λ r. ⌜ r ≡ partsSound (limitsOf (l .work) (l .total) (l .most)) o «held_count» e (now (packages .entry)) (now («map_heads» .entry)) (now («fragment_heads» .entry)) w t m ⌝ }
 {
     if !sound_rooms(l.work, l.total, l.most, w, t, m) {
+        return false;
+    }
+    if !wants_assets(o) {
         return false;
     }
     if !sound_held(l.work, o, held_count) {

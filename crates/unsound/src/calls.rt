@@ -155,7 +155,10 @@ fn same_options(o: Options, p: Options) -> bool {
     if o.carousel != p.carousel {
         return false;
     }
-    o.eit == p.eit
+    if o.eit != p.eit {
+        return false;
+    }
+    o.other == p.other
 }
 
 fn same_limits(f: Filter, g: Filter) -> bool {
@@ -319,6 +322,7 @@ pub fn start_in(work: &[u8], bodies: &[u8], map_room: &[u16]) -> Started {
         caption: false,
         carousel: true,
         eit: true,
+        other: true,
     };
     start(&work[0..w], &bodies[0..t], &map_room[0..m], T, o)
 }

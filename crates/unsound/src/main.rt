@@ -1,6 +1,6 @@
-// The program `unsound`: refusal 4, run. For each clause of 01's "Unsound" it hands a record that is unsound by this clause alone, and the
-// nearest that is sound, to push and then to dropped, with the record that push handed back. It prints a line for each clause: its words,
-// the two answers to the one record, the two to the other. `calls` runs them, `records` makes the records.
+// The program `unsound`: refusal 4, run. For each clause of 01's "Unsound", and for that of 02 [1], it hands a record that is unsound by
+// this clause alone, and the nearest that is sound, to push and then to dropped, with the record that push handed back. It prints a line
+// for each clause: its words, the two answers to the one record, the two to the other. `calls` runs them, `records` makes the records.
 mod calls;
 mod records;
 
@@ -51,7 +51,8 @@ fn put_words(clause: usize) -> bool {
         19 => write_all(b"a service below the one before"),
         20 => write_all(b"a map identifier twice"),
         21 => write_all(b"a fragment identifier twice"),
-        _ => write_all(b"fragment lengths adding up to more than T"),
+        22 => write_all(b"fragment lengths adding up to more than T"),
+        _ => write_all(b"captions and other assets both off"),
     }
 }
 

@@ -5,8 +5,8 @@ use meaning::Service;
 use recorder::Filter;
 use recorder::sound::is_sound;
 
-// How many clauses there are. That of a drop set carried in the record is none of them: ours carries none.
-pub const CLAUSES: usize = 23;
+// How many clauses there are: 01's, and that of 02 [1]. That of a drop set carried in the record is none of them: ours carries none.
+pub const CLAUSES: usize = 24;
 
 // The clause of T above its range.
 pub const T_ABOVE: usize = 9;
@@ -57,7 +57,8 @@ pub fn numbers_of(clause: usize) -> Numbers {
         18 => two(2, 3),
         19 => two(1, 3),
         20 | 21 => two(7, 8),
-        _ => two(9, 8),
+        22 => two(9, 8),
+        _ => two(0, 1),
     }
 }
 
@@ -100,7 +101,7 @@ pub fn total_sound(f: Filter, total: usize) -> bool {
     is_sound(limited(f, W, total, T), W, total, MAPS)
 }
 
-// ---- held bytes
+// ---- held bytes and wishes
 
 fn holding(f: Filter, n: usize) -> Filter {
     let mut g = f;
@@ -108,12 +109,14 @@ fn holding(f: Filter, n: usize) -> Filter {
     g
 }
 
-fn copying_all(f: Filter) -> Filter {
+// All that is no asset, carousels, and captions and other assets by these wishes. With both it copies all.
+fn wanting(f: Filter, caption: bool, other: bool) -> Filter {
     let o = Options {
         service: Service::Every,
-        caption: true,
+        caption,
         carousel: true,
         eit: true,
+        other,
     };
     let mut g = f;
     g.options = o;
@@ -237,7 +240,7 @@ fn fragment_lengths(f: Filter, n: usize) -> Filter {
 fn changed(f: Filter, clause: usize, n: usize) -> Filter {
     match clause {
         12 => holding(f, n),
-        13 => holding(copying_all(f), n),
+        13 => holding(wanting(f, true, true), n),
         14 => packages_of(f, n),
         15 => fragments_of(f, n),
         16 => maps_of(f, n),
@@ -245,7 +248,8 @@ fn changed(f: Filter, clause: usize, n: usize) -> Filter {
         18 | 19 => services(f, n),
         20 => map_identifiers(f, n),
         21 => fragment_identifiers(f, n),
-        _ => fragment_lengths(f, n),
+        22 => fragment_lengths(f, n),
+        _ => wanting(f, false, n != 0),
     }
 }
 

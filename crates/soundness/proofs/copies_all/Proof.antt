@@ -19,18 +19,24 @@ returns-2 c =
     let a = c .before .before .before .before .before .before .args in
     rw (c .before .before .before .before .enum-told .given .1, not-false (a .o .caption) (c .before .before .if1 .left), not-true (a .o .carousel) (c .if2 .taken))
 
-enum-told-2 : tie.Need-enum-told-2
-enum-told-2 c = search needs
-
 returns-3 : tie.Need-returns-3
 unfolding copiesAll
 returns-3 c =
-    let a = c .before .before .before .before .before .before .args in
-    rw (c .before .before .before .before .enum-told .given .1, not-false (a .o .caption) (c .before .before .if1 .left), not-false (a .o .carousel) (c .if2 .left))
+    let a = c .before .before .before .before .before .before .before .before .args in
+    rw (c .before .before .before .before .before .before .enum-told .given .1, not-false (a .o .caption) (c .before .before .before .before .if1 .left), not-false (a .o .carousel) (c .before .before .if2 .left), not-true (a .o .eit) (c .if3 .taken))
+
+enum-told-2 : tie.Need-enum-told-2
+enum-told-2 c = search needs
 
 returns-4 : tie.Need-returns-4
 unfolding copiesAll
-returns-4 c = rw (c .enum-told2 .given .1)
+returns-4 c =
+    let a = c .before .before .before .before .before .before .before .before .args in
+    rw (c .before .before .before .before .before .before .enum-told .given .1, not-false (a .o .caption) (c .before .before .before .before .if1 .left), not-false (a .o .carousel) (c .before .before .if2 .left), not-false (a .o .eit) (c .if3 .left))
+
+returns-5 : tie.Need-returns-5
+unfolding copiesAll
+returns-5 c = rw (c .enum-told2 .given .1)
 
 pub copies-all-spec : {M : Type 1} → statement M
-copies-all-spec = tie.close (tie.spec enum-told returns returns-2 enum-told-2 returns-3 returns-4)
+copies-all-spec = tie.close (tie.spec enum-told returns returns-2 returns-3 enum-told-2 returns-4 returns-5)

@@ -4,10 +4,10 @@ use Rattle.unsound.proofs.all_clauses.Statement.{statement}
 use Rattle.unsound.proofs.all_clauses.Tie as tie
 
 abbrev Inv-loop : tie.InvT-loop
-Inv-loop f work₀ bodies₀ map-room₀ out₀ clause₀ work bodies map-room out clause = clause ≤ 23
+Inv-loop f work₀ bodies₀ map-room₀ out₀ clause₀ work bodies map-room out clause = clause ≤ 24
 
 abbrev μ-loop : tie.MeasureT-loop
-μ-loop f work₀ bodies₀ map-room₀ out₀ clause₀ work bodies map-room out clause = 23 - clause
+μ-loop f work₀ bodies₀ map-room₀ out₀ clause₀ work bodies map-room out clause = 24 - clause
 
 loop-holds : tie.Need-loop-holds Inv-loop μ-loop
 loop-holds c = search needs

@@ -1,35 +1,59 @@
-//! What the filters of this workspace have in common: options, limits, counts and answers, in 01's words,
+//! What the filters of this workspace have in common: options, limits, counts and answers, in the words of 01 and 02,
 //! and the trait that each filter answers. It holds no rule of the filter itself.
 
-/// What is wanted of a broadcast: one service or all, and the three wishes.
+/// What is wanted of a broadcast: one service or all, and the four wishes.
 #[derive(Debug, Clone, Copy, PartialEq, Eq)]
 pub struct Options {
     pub service: Option<u16>,
     pub caption: bool,
     pub carousel: bool,
     pub eit: bool,
+    /// Other assets: every listed asset that is neither caption nor carousel.
+    pub other: bool,
 }
 
 impl Options {
-    /// The flag byte of the programs: bits 0 to 3 are caption, carousel, EIT, service named.
+    /// The flag bit that tells what is not wanted: other assets are wanted by whoever does not speak of them.
+    pub const OTHER_OFF: u8 = 0x10;
+    /// The greatest flag byte that has a meaning.
+    pub const MOST_FLAGS: u8 = 0x1f;
+
+    /// The captions-only profile, of one service or of all. Written are tables and all other signalling, control and clock
+    /// packets, caption assets, and media that no list names; tables list caption assets alone. Dropped are other assets,
+    /// carousels and EIT.
+    pub fn captions_only(service: Option<u16>) -> Self {
+        Self {
+            service,
+            caption: true,
+            carousel: false,
+            eit: false,
+            other: false,
+        }
+    }
+
+    /// The flag byte of the programs: bits 0 to 3 are caption, carousel, EIT, service named; bit 4 is other assets not
+    /// wanted.
     pub fn from_flags(flags: u8, service: u16) -> Self {
         Self {
             service: (flags & 8 != 0).then_some(service),
             caption: flags & 1 != 0,
             carousel: flags & 2 != 0,
             eit: flags & 4 != 0,
+            other: flags & Self::OTHER_OFF == 0,
         }
     }
 
     pub fn flags(&self) -> u8 {
+        let other = if self.other { 0 } else { Self::OTHER_OFF };
         u8::from(self.caption)
             | u8::from(self.carousel) << 1
             | u8::from(self.eit) << 2
             | u8::from(self.service.is_some()) << 3
+            | other
     }
 
     pub fn copies_all(&self) -> bool {
-        self.service.is_none() && self.caption && self.carousel && self.eit
+        self.service.is_none() && self.caption && self.carousel && self.eit && self.other
     }
 }
 
@@ -100,7 +124,7 @@ pub enum Narrowed {
     },
 }
 
-/// A filter by 01. Refusals are 01's numbers; a refused call changes nothing.
+/// A filter by 01 and the requests of 02. Refusals are their numbers; a refused call changes nothing.
 pub trait Engine: Sized {
     fn start(limits: Limits, options: Options) -> Result<Self, u8>;
     /// `room` is the length of the output that is lent.

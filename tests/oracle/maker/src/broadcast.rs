@@ -44,6 +44,16 @@ impl Broadcast {
             rng.note(Tag::AssetAtZero);
             pool.push(0);
         }
+        Self::drawn_from(rng, pool, services)
+    }
+
+    /// Few identifiers for all assets, so that those of different kinds share some.
+    pub(crate) fn crowded(rng: &mut Rng, services: usize) -> Self {
+        let pool = (0..rng.within(2..=4)).map(|i| 0xf100 + i as u16).collect();
+        Self::drawn_from(rng, pool, services)
+    }
+
+    fn drawn_from(rng: &mut Rng, pool: Vec<u16>, services: usize) -> Self {
         let mut broadcast = Self {
             services: Vec::new(),
             repeats: Vec::new(),
@@ -69,6 +79,23 @@ impl Broadcast {
                 .collect();
             named.into_iter().any(|identifier| !seen.insert(identifier))
         })
+    }
+
+    /// Notes whether an other asset has its identifier in common with a caption, or with a carousel, of its service.
+    pub(crate) fn note_kinds(&self, rng: &mut Rng) {
+        for service in &self.services {
+            let at = |wanted: fn(&[u8; 4]) -> bool| -> BTreeSet<u16> {
+                let assets = service.assets.iter().filter(|asset| wanted(&asset.kind));
+                assets.filter_map(Asset::identifier).collect()
+            };
+            let others = at(|kind| kind != b"stpp" && kind != b"aapp");
+            if !others.is_disjoint(&at(|kind| kind == b"stpp")) {
+                rng.note(Tag::CaptionAndOther);
+            }
+            if !others.is_disjoint(&at(|kind| kind == b"aapp")) {
+                rng.note(Tag::CarouselAndOther);
+            }
+        }
     }
 
     fn add_service(&mut self, rng: &mut Rng) {

@@ -177,7 +177,7 @@ fn finish(mut stage: Stage, limits: Limits, may_refuse: bool) -> (Case, BTreeSet
 }
 
 /// Sends all of it again until it is at least this long.
-fn lengthen(packets: &mut Vec<Vec<u8>>, least: usize) {
+pub(crate) fn lengthen(packets: &mut Vec<Vec<u8>>, least: usize) {
     let once = packets.len();
     let length: usize = packets.iter().map(Vec::len).sum();
     let times = least.div_ceil(length.max(1));
@@ -187,7 +187,7 @@ fn lengthen(packets: &mut Vec<Vec<u8>>, least: usize) {
 }
 
 /// The stream, and the offsets at which its packets end.
-fn join(packets: &[Vec<u8>]) -> (Vec<u8>, Vec<usize>) {
+pub(crate) fn join(packets: &[Vec<u8>]) -> (Vec<u8>, Vec<usize>) {
     let mut bytes = Vec::new();
     let mut ends = Vec::new();
     for packet in packets {

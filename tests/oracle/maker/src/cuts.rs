@@ -135,23 +135,50 @@ pub(crate) fn short_room(rng: &mut Rng, needed: usize) -> usize {
 
 /// The longest output that some call of this case needs, if none is refused for its output.
 pub(crate) fn needed(limits: &Limits, options: &Options, bytes: &[u8], cuts: &[usize]) -> usize {
-    let most = limits.work - limits.packet();
-    let mut held = Vec::new();
+    let mut held = Held::new(limits, options);
     let mut at = 0;
     let mut needed = 0;
     for &cut in cuts {
         let chunk = &bytes[at..at + cut];
         at += cut;
-        if cut > most {
-            continue;
-        }
-        needed = needed.max(held.len() + cut);
-        if !options.copies_all() {
-            held.extend_from_slice(chunk);
-            held.drain(..taken(&held, limits.packet()));
+        if let Some(room) = held.needed(cut) {
+            needed = needed.max(room);
+            held.take(chunk);
         }
     }
     needed
+}
+
+/// What a filter holds from call to call.
+pub(crate) struct Held {
+    bytes: Vec<u8>,
+    packet: usize,
+    chunk_most: usize,
+    copies_all: bool,
+}
+
+impl Held {
+    pub(crate) fn new(limits: &Limits, options: &Options) -> Self {
+        Self {
+            bytes: Vec::new(),
+            packet: limits.packet(),
+            chunk_most: limits.work - limits.packet(),
+            copies_all: options.copies_all(),
+        }
+    }
+
+    /// The output that a call with a chunk of this length needs; none where the chunk is too long.
+    pub(crate) fn needed(&self, chunk: usize) -> Option<usize> {
+        (chunk <= self.chunk_most).then_some(self.bytes.len() + chunk)
+    }
+
+    /// A call with this chunk that is not refused.
+    pub(crate) fn take(&mut self, chunk: &[u8]) {
+        if !self.copies_all {
+            self.bytes.extend_from_slice(chunk);
+            self.bytes.drain(..taken(&self.bytes, self.packet));
+        }
+    }
 }
 
 /// How much of a run is taken from it as packets or skipped.

@@ -1,8 +1,9 @@
-//! Makes test streams for filters of MMT/TLV recordings: whole cases with limits, options and cuts,
-//! inputs for narrowing alone, and clean streams for benchmarks. Each follows from its seed alone.
+//! Makes test streams for filters of MMT/TLV recordings: whole cases with limits, options and cuts, series of
+//! calls, inputs for narrowing alone, and clean streams for benchmarks. Each follows from its seed alone.
 
 mod bench;
 mod broadcast;
+mod calls;
 mod cases;
 mod cuts;
 mod damage;
@@ -37,6 +38,22 @@ pub struct Case {
     pub bytes: Vec<u8>,
 }
 
+/// What a filter is told at its start, and what it is asked after it.
+#[derive(Debug, Clone, PartialEq, Eq)]
+pub struct Calls {
+    pub limits: Limits,
+    pub options: Options,
+    pub operations: Vec<Operation>,
+}
+
+#[derive(Debug, Clone, PartialEq, Eq)]
+pub enum Operation {
+    /// A chunk, and the length of the output that is lent for it.
+    Push { room: usize, chunk: Vec<u8> },
+    /// How many packet identifiers are dropped.
+    Dropped,
+}
+
 /// One input for narrowing.
 #[derive(Debug, Clone, PartialEq, Eq)]
 pub struct Input {
@@ -58,8 +75,19 @@ pub fn plain_case(seed: u64) -> Case {
     cases::tagged_plain_case(seed).0
 }
 
+/// Calls with any of the four wishes, some of them refused, and starts that are.
+pub fn calls(seed: u64) -> Calls {
+    calls::tagged_calls(seed).0
+}
+
+/// Inputs with other assets wanted.
 pub fn inputs(seed: u64) -> Vec<Input> {
     narrowing::tagged_inputs(seed).0
+}
+
+/// Inputs with any of the four wishes.
+pub fn wished_inputs(seed: u64) -> Vec<Input> {
+    narrowing::tagged_wished_inputs(seed).0
 }
 
 /// 01's examples 1 to 10, tables to narrow.

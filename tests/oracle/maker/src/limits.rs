@@ -107,27 +107,77 @@ pub(crate) fn note(rng: &mut Rng, limits: &Limits) {
     }
 }
 
-/// Options for a broadcast with these services.
+/// Options for a broadcast with these services, with other assets wanted.
 pub(crate) fn options(rng: &mut Rng, services: &[u16]) -> Options {
-    let flags = rng.below(8) as u8;
+    let wishes = rng.below(8) as u8;
+    let mut options = with_service(rng, wishes, services);
+    if options.copies_all() && rng.chance(20) {
+        options.caption = false;
+    }
+    note_options(rng, &options, services);
+    options
+}
+
+/// Options with any of the four wishes.
+pub(crate) fn wishes(rng: &mut Rng, services: &[u16]) -> Options {
+    let wishes = rng.below(8) as u8;
+    let other = rng.pick(&[0, Options::OTHER_OFF]);
+    wished(rng, wishes | other, services)
+}
+
+/// Options with which a filter starts, most of them without other assets: captions are wanted then.
+pub(crate) fn taken_wishes(rng: &mut Rng, services: &[u16]) -> Options {
+    let any = rng.below(8) as u8;
+    let wishes = rng.weighted(&[(60, any | CAPTIONS | Options::OTHER_OFF), (40, any)]);
+    wished(rng, wishes, services)
+}
+
+/// Options with which no filter starts: neither captions nor other assets.
+pub(crate) fn refused_wishes(rng: &mut Rng, services: &[u16]) -> Options {
+    let any = rng.below(8) as u8;
+    wished(rng, any & !CAPTIONS | Options::OTHER_OFF, services)
+}
+
+/// The captions-only profile.
+pub(crate) fn captions_only(rng: &mut Rng, services: &[u16]) -> Options {
+    let wishes = Options::captions_only(None).flags();
+    let options = wished(rng, wishes, services);
+    rng.note(match options.service {
+        Some(_) => Tag::CaptionsOfOne,
+        None => Tag::CaptionsOfAll,
+    });
+    options
+}
+
+/// The flag bit of captions.
+const CAPTIONS: u8 = 1;
+
+fn wished(rng: &mut Rng, wishes: u8, services: &[u16]) -> Options {
+    let options = with_service(rng, wishes, services);
+    note_options(rng, &options, services);
+    options
+}
+
+/// These wishes for one of the services, for one that is not there, or for all.
+fn with_service(rng: &mut Rng, wishes: u8, services: &[u16]) -> Options {
     let service = if services.is_empty() || rng.chance(12) {
         rng.pick(&[0, 0x0400, 0x04ff, 0xffff])
     } else {
         rng.pick(services)
     };
     let named = if rng.chance(55) { 8 } else { 0 };
-    let mut options = Options::from_flags(flags | named, service);
-    if options.copies_all() && rng.chance(20) {
-        options.caption = false;
-    }
+    Options::from_flags(wishes | named, service)
+}
+
+fn note_options(rng: &mut Rng, options: &Options, services: &[u16]) {
     rng.note(match options.service {
         None if options.copies_all() => Tag::CopyAll,
         None => Tag::NoService,
         Some(service) if services.contains(&service) => Tag::ServiceThere,
         Some(_) => Tag::ServiceMissing,
     });
-    rng.note(WISHES[usize::from(options.flags() & 7)]);
-    options
+    let wishes = if options.other { WISHES } else { WITHOUT_OTHER };
+    rng.note(wishes[usize::from(options.flags() & 7)]);
 }
 
 const WISHES: [Tag; 8] = [
@@ -140,3 +190,32 @@ const WISHES: [Tag; 8] = [
     Tag::Wishes6,
     Tag::Wishes7,
 ];
+
+const WITHOUT_OTHER: [Tag; 8] = [
+    Tag::WithoutOther0,
+    Tag::WithoutOther1,
+    Tag::WithoutOther2,
+    Tag::WithoutOther3,
+    Tag::WithoutOther4,
+    Tag::WithoutOther5,
+    Tag::WithoutOther6,
+    Tag::WithoutOther7,
+];
+
+/// Notes by which numbers a start with these limits and options would be refused.
+pub(crate) fn note_refusals(rng: &mut Rng, limits: &Limits, options: &Options) {
+    let fragments = !(1..=limits.total).contains(&limits.most);
+    let maps = limits.maps != MAP_ROOM;
+    let work = !(WORK_LEAST..=WORK_MOST).contains(&limits.work);
+    let wishes = !options.caption && !options.other;
+    let tags = [
+        (work, Tag::StartWork, Tag::StartWorkWishes),
+        (fragments, Tag::StartFragments, Tag::StartFragmentsWishes),
+        (maps, Tag::StartMaps, Tag::StartMapsWishes),
+        (wishes, Tag::StartWishes, Tag::StartWishes),
+    ];
+    let lowest = tags.into_iter().find(|(applies, ..)| *applies);
+    if let Some((_, alone, with_wishes)) = lowest {
+        rng.note(if wishes { with_wishes } else { alone });
+    }
+}

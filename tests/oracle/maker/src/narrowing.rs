@@ -32,11 +32,22 @@ pub(crate) fn tagged_inputs(seed: u64) -> (Vec<Input>, BTreeSet<Tag>) {
         rng.note(Tag::Example);
         return (examples::inputs(), rng.into_tags());
     }
-    let inputs = (0..INPUTS).map(|_| input(&mut rng)).collect();
+    tagged(rng, limits::options)
+}
+
+pub(crate) fn tagged_wished_inputs(seed: u64) -> (Vec<Input>, BTreeSet<Tag>) {
+    tagged(Rng::new(seed, 10), limits::wishes)
+}
+
+/// Chooses options for a broadcast with these services.
+type Choose = fn(&mut Rng, &[u16]) -> Options;
+
+fn tagged(mut rng: Rng, options: Choose) -> (Vec<Input>, BTreeSet<Tag>) {
+    let inputs = (0..INPUTS).map(|_| input(&mut rng, options)).collect();
     (inputs, rng.into_tags())
 }
 
-fn input(rng: &mut Rng) -> Input {
+fn input(rng: &mut Rng, options: Choose) -> Input {
     let services = rng.below(6);
     let mut broadcast = Broadcast::new(rng, services);
     for _ in 0..rng.below(5) {
@@ -61,7 +72,7 @@ fn input(rng: &mut Rng) -> Input {
     resize(rng, &mut bytes);
     Input {
         kind,
-        options: limits::options(rng, &broadcast.numbers()),
+        options: options(rng, &broadcast.numbers()),
         identifier,
         room: room(rng, bytes.len()),
         bytes,

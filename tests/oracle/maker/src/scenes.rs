@@ -25,6 +25,22 @@ pub(crate) fn data(stage: &mut Stage) {
     stage.probe();
 }
 
+/// All that wishes sort: each identifier's media and messages, and data carousels; then something changes.
+pub(crate) fn wishes(stage: &mut Stage) {
+    for _ in 0..stage.rng.within(1..=2) {
+        stage.announce_all();
+        stage.probe();
+        stage.signal_all();
+        if stage.rng.chance(50) {
+            data_message(stage);
+        }
+        stage.broadcast.evolve(&mut stage.rng);
+        let steps = stage.rng.within(5..=30);
+        stage.play(steps);
+    }
+    stage.probe();
+}
+
 fn data_message(stage: &mut Stage) {
     let body = stage.rng.some_bytes(0..=30);
     let mut message = messages::message(DATA, &body);

@@ -151,6 +151,14 @@ impl Stage {
         }
     }
 
+    /// One message for each identifier, which teaches nothing.
+    pub(crate) fn signal_all(&mut self) {
+        for identifier in self.broadcast.identifiers() {
+            let message = signalling::other_message(&mut self.rng);
+            self.signal_plainly(identifier, &message);
+        }
+    }
+
     pub(crate) fn play(&mut self, steps: usize) {
         for _ in 0..steps {
             match self.rng.below(100) {

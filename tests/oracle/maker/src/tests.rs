@@ -5,14 +5,15 @@ use std::collections::{BTreeMap, BTreeSet};
 
 use face::{Limits, Options, Part};
 
+use crate::calls::OPERATIONS_MOST;
 use crate::cuts::{CUT_MOST, CUTS_MOST, ROOM_MOST};
 use crate::limits::{ORIGINAL, TOTAL_MOST};
 use crate::mmtp::SIGNALLING;
 use crate::tags::{FLOORS, Tag};
 use crate::tlv::{self, SYNC};
 use crate::{
-    Case, air, case, cases, cuts, dense, examples, fragmented, inputs, media, narrowing, nulls,
-    plain_case,
+    Case, Operation, air, calls, case, cases, cuts, dense, examples, fragmented, inputs, media,
+    narrowing, nulls, plain_case, wished_inputs,
 };
 
 const SEEDS: u64 = 2_000;
@@ -28,13 +29,14 @@ fn count<T>(tagged: impl Fn(u64) -> (T, BTreeSet<Tag>)) -> BTreeMap<Tag, usize> 
     counts
 }
 
-fn assert_floors(counts: &BTreeMap<Tag, usize>, floor: impl Fn(&(Tag, usize, usize)) -> usize) {
+/// `of` is the place of the floors: cases, inputs, calls, or inputs with any wishes.
+fn assert_floors(counts: &BTreeMap<Tag, usize>, of: usize) {
     let reached = |tag| counts.get(&tag).copied().unwrap_or(0);
     let mut short = Vec::new();
-    for row in FLOORS.iter().filter(|row| floor(row) > 0) {
-        println!("{:?} {} of {}", row.0, reached(row.0), floor(row));
-        if reached(row.0) < floor(row) {
-            short.push(row.0);
+    for (tag, floors) in FLOORS.iter().filter(|(_, floors)| floors[of] > 0) {
+        println!("{tag:?} {} of {}", reached(*tag), floors[of]);
+        if reached(*tag) < floors[of] {
+            short.push(tag);
         }
     }
     assert!(short.is_empty(), "reached too seldom: {short:?}");
@@ -42,12 +44,22 @@ fn assert_floors(counts: &BTreeMap<Tag, usize>, floor: impl Fn(&(Tag, usize, usi
 
 #[test]
 fn cases_reach_every_situation() {
-    assert_floors(&count(cases::tagged_case), |row| row.1);
+    assert_floors(&count(cases::tagged_case), 0);
 }
 
 #[test]
 fn inputs_reach_every_situation() {
-    assert_floors(&count(narrowing::tagged_inputs), |row| row.2);
+    assert_floors(&count(narrowing::tagged_inputs), 1);
+}
+
+#[test]
+fn calls_reach_every_situation() {
+    assert_floors(&count(calls::tagged_calls), 2);
+}
+
+#[test]
+fn wished_inputs_reach_every_situation() {
+    assert_floors(&count(narrowing::tagged_wished_inputs), 3);
 }
 
 #[test]
@@ -56,6 +68,8 @@ fn a_seed_is_all_there_is() {
         assert_eq!(case(seed), case(seed));
         assert_eq!(plain_case(seed), plain_case(seed));
         assert_eq!(inputs(seed), inputs(seed));
+        assert_eq!(calls(seed), calls(seed));
+        assert_eq!(wished_inputs(seed), wished_inputs(seed));
         assert_ne!(case(seed).bytes, plain_case(seed).bytes);
     }
     assert_eq!(air(1, 20_000), air(1, 20_000));
@@ -100,6 +114,67 @@ fn inputs_keep_their_bounds() {
     for input in (0..SEEDS).flat_map(inputs) {
         assert!(input.bytes.len() <= narrowing::INPUT_MOST);
         assert!(input.room <= ROOM_MOST);
+    }
+}
+
+#[test]
+fn calls_keep_their_bounds() {
+    for seed in 0..SEEDS {
+        let calls = calls(seed);
+        assert!(calls.limits.work <= WORK_MOST && calls.limits.maps <= MAPS_MOST);
+        assert!(calls.limits.total <= TOTAL_MOST);
+        assert!(calls.operations.len() <= OPERATIONS_MOST, "seed {seed}");
+        for operation in calls.operations {
+            if let Operation::Push { room, chunk } = operation {
+                assert!(room <= ROOM_MOST && chunk.len() <= CUT_MOST, "seed {seed}");
+            }
+        }
+    }
+    for input in (0..SEEDS).flat_map(wished_inputs) {
+        assert!(input.bytes.len() <= narrowing::INPUT_MOST);
+        assert!(input.room <= ROOM_MOST);
+    }
+}
+
+/// Each flag byte: the four wishes in all ways, with a service named and without.
+#[test]
+fn every_combination_of_wishes_occurs_with_a_service_and_without() {
+    let count = |all: &mut dyn Iterator<Item = Options>| {
+        let mut counts = [0; 32];
+        for options in all {
+            counts[usize::from(options.flags())] += 1;
+        }
+        counts
+    };
+    let calls = count(&mut (0..SEEDS).map(|seed| calls(seed).options));
+    let inputs = (0..SEEDS).flat_map(wished_inputs);
+    let inputs = count(&mut inputs.map(|input| input.options));
+    println!("{calls:?}\n{inputs:?}");
+    assert!(calls.iter().all(|count| *count >= 12));
+    assert!(inputs.iter().all(|count| *count >= 300));
+}
+
+#[test]
+fn starts_of_calls_are_refused_as_their_tags_say() {
+    for seed in 0..SEEDS {
+        let (calls, tags) = calls::tagged_calls(seed);
+        let Options { caption, other, .. } = calls.options;
+        let (limits, neither) = (calls.limits, !caption && !other);
+        let holds = |tag, fact: bool| assert!(!tags.contains(&tag) || fact, "{tag:?} {seed}");
+        let maps = limits.maps != ORIGINAL.maps;
+        holds(Tag::StartMaps, maps && !neither);
+        holds(Tag::StartMapsWishes, maps && neither);
+        holds(Tag::StartWishes, neither && !maps);
+        holds(Tag::CaptionsOfAll, caption && calls.options.flags() == 0x11);
+        holds(Tag::CaptionsOfOne, caption && calls.options.flags() == 0x19);
+        holds(Tag::NoOperations, calls.operations.is_empty());
+        let mut rooms = BTreeSet::new();
+        for operation in &calls.operations {
+            if let Operation::Push { room, .. } = operation {
+                rooms.insert(room);
+            }
+        }
+        holds(Tag::OneRoom, rooms.len() <= 1);
     }
 }
 

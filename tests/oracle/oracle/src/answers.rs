@@ -2,12 +2,13 @@
 //!
 //! A stream's answer is the start's refusal or 0 (1 byte), and after 0 for each call: refusal 1, bytes
 //! written 4, accepted 4, written 4, rewritten 4, skipped 4, held 4, lost 4, the written bytes; at the end
-//! the dropped identifiers 4. A narrowing's answer is: refusal 1, changed 1, length 4, stayed 3 x 4, went
-//! 3 x 4, the bytes. All numbers are big-endian.
+//! the dropped identifiers 4. Calls are answered by the start's refusal too, and after 0 for each operation: a push as
+//! a call of a stream, dropped by a refusal 1, which is 0, and the dropped identifiers 4. A narrowing's answer is:
+//! refusal 1, changed 1, length 4, stayed 3 x 4, went 3 x 4, the bytes. All numbers are big-endian.
 
-use face::{Call, Counts, Engine, Narrowed};
+use face::{Call, Counts, Engine, Limits, Narrowed, Options};
 
-use crate::cases::{Case, Narrowing, Reader, Stream};
+use crate::cases::{Calls, Case, Narrowing, Operation, Reader, Stream};
 
 /// The answers of a filter to a run of cases.
 pub fn answers<E: Engine>(cases: &[u8]) -> Vec<u8> {
@@ -15,19 +16,24 @@ pub fn answers<E: Engine>(cases: &[u8]) -> Vec<u8> {
     for case in Reader::new(cases) {
         match case {
             Case::Stream(stream) => writer.stream::<E>(&stream),
+            Case::Calls(calls) => writer.operations::<E>(&calls),
             Case::Narrowing(narrowing) => writer.narrowing::<E>(&narrowing),
         }
     }
     writer.told
 }
 
-/// The answer to one case, each of its numbers and bytes as one number, without the dropped identifiers.
-pub fn numbers<E: Engine>(case: &Case) -> Vec<u32> {
+/// The answer to a stream without the dropped identifiers, each of its numbers and bytes as one number.
+pub fn stream_numbers<E: Engine>(case: &Stream) -> Vec<u32> {
     let mut writer = Writer::default();
-    match case {
-        Case::Stream(stream) => drop(writer.calls::<E>(stream)),
-        Case::Narrowing(narrowing) => writer.narrowing::<E>(narrowing),
-    }
+    writer.calls::<E>(case);
+    writer.told
+}
+
+/// The answer to a narrowing, each of its numbers and bytes as one number.
+pub fn narrowing_numbers<E: Engine>(case: &Narrowing) -> Vec<u32> {
+    let mut writer = Writer::default();
+    writer.narrowing::<E>(case);
     writer.told
 }
 
@@ -64,16 +70,39 @@ impl<U: Unit> Writer<U> {
 
     /// The start and all calls. Gives the filter after them, unless its start was refused.
     fn calls<E: Engine>(&mut self, case: &Stream) -> Option<E> {
-        let started = E::start(case.limits, case.options);
-        self.bytes(&[started.as_ref().err().copied().unwrap_or(0)]);
-        let mut engine = started.ok()?;
+        let mut engine = self.start::<E>(case.limits, case.options)?;
         for chunk in &case.chunks {
-            match engine.push(chunk, case.room) {
-                Ok(call) => self.call(0, &call),
-                Err(number) => self.call(number, &nothing(engine.held())),
-            }
+            self.push(&mut engine, chunk, case.room);
         }
         Some(engine)
+    }
+
+    fn operations<E: Engine>(&mut self, case: &Calls) {
+        let Some(mut engine) = self.start::<E>(case.limits, case.options) else {
+            return;
+        };
+        for operation in &case.operations {
+            match *operation {
+                Operation::Push { room, chunk } => self.push(&mut engine, chunk, room),
+                Operation::Dropped => {
+                    self.bytes(&[0]);
+                    self.long(engine.dropped());
+                }
+            }
+        }
+    }
+
+    fn start<E: Engine>(&mut self, limits: Limits, options: Options) -> Option<E> {
+        let started = E::start(limits, options);
+        self.bytes(&[started.as_ref().err().copied().unwrap_or(0)]);
+        started.ok()
+    }
+
+    fn push<E: Engine>(&mut self, engine: &mut E, chunk: &[u8], room: usize) {
+        match engine.push(chunk, room) {
+            Ok(call) => self.call(0, &call),
+            Err(number) => self.call(number, &nothing(engine.held())),
+        }
     }
 
     fn call(&mut self, refusal: u8, call: &Call) {
@@ -100,6 +129,7 @@ impl<U: Unit> Writer<U> {
             identifier,
             room,
             input,
+            ..
         } = *case;
         match E::narrow(kind, options, identifier, input, room) {
             Narrowed::Refused(number) => self.narrowed([number, 0], &[], [[0; 3]; 2]),

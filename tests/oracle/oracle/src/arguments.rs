@@ -77,13 +77,37 @@ impl Arguments {
         Ok(number(from)?..number(to)?)
     }
 
-    /// `--flags` and `--service`, as the two programs read them.
+    /// What is wanted: `--flags` and `--service`, as the two programs read them, or `--profile`, of the service that
+    /// `--service` names, or of all.
     pub fn options(&self) -> Result<Options, String> {
-        let flags = self.number("flags", 0)?;
-        if flags > 15 {
-            return Err("--flags sets a bit above bit 3".to_owned());
+        let service = self.number("service", 0)?;
+        let named = self.has("service").then_some(service);
+        match self.text("profile") {
+            None => self.flagged(service),
+            Some(_) if self.has("flags") => {
+                Err("--flags and --profile exclude each other".to_owned())
+            }
+            Some("captions") => Ok(Options::captions_only(named)),
+            Some(other) => Err(format!("--profile {other} is not captions")),
         }
-        Ok(Options::from_flags(flags, self.number("service", 0)?))
+    }
+
+    fn flagged(&self, service: u16) -> Result<Options, String> {
+        let flags = self.number("flags", 0)?;
+        if flags > Options::MOST_FLAGS {
+            return Err("--flags sets a bit above bit 4".to_owned());
+        }
+        Ok(Options::from_flags(flags, service))
+    }
+
+    /// `--NAME on` or `--NAME off`; `None` if not given.
+    pub fn on_or_off(&self, name: &str) -> Result<Option<bool>, String> {
+        match self.text(name) {
+            None => Ok(None),
+            Some("on") => Ok(Some(true)),
+            Some("off") => Ok(Some(false)),
+            Some(other) => Err(format!("--{name} {other} is neither on nor off")),
+        }
     }
 }
 

@@ -9,6 +9,7 @@ pub const ALL: Options = Options {
     caption: true,
     carousel: true,
     eit: true,
+    other: true,
 };
 pub const NO_CAPTIONS: Options = Options {
     caption: false,
@@ -19,6 +20,10 @@ pub const NO_CAROUSELS: Options = Options {
     ..ALL
 };
 pub const NO_EIT: Options = Options { eit: false, ..ALL };
+pub const NO_OTHERS: Options = Options {
+    other: false,
+    ..ALL
+};
 
 /// Everything of one service.
 pub fn only(service: u16) -> Options {

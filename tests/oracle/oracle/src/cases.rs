@@ -3,11 +3,16 @@
 //!
 //! A stream is: kind 0, flags 1 byte, service 2, W 4, T 4, M 4, map room 4, output 4, number of calls 2,
 //! each call's chunk length 4, then the chunks. A narrowing is: kind 1 (table), 2 (payload) or 3 (packet),
-//! flags 1 byte, service 2, identifier 2, output 4, input length 4, then the input.
+//! flags 1 byte, service 2, identifier 2, output 4, input length 4, then the input. Both have flag bits 0 to 3.
+//!
+//! Calls are: kind 4, wishes 1 byte (flag bits 0 to 4), modes 1, service 2, W 4, T 4, M 4, map room 4, number of
+//! operations 2, then the operations: 0 (push), output 4, chunk length 4, the chunk; or 1 (dropped). A narrowing
+//! with modes is: kind 7 (table), 8 (payload) or 9 (packet), wishes 1, modes 1, and then as without. There is no
+//! mode yet, so that byte is 0.
 
 use face::{Kind, Limits, Options};
 
-use crate::named;
+use crate::named::{self, Requested};
 
 /// The rooms of the port's program: what a case may ask for at most.
 const WORK: usize = 131_200;
@@ -16,11 +21,26 @@ const MAPS: usize = 33_000;
 const INPUT: usize = 131_200;
 const OUTPUT: usize = 262_400;
 const CALLS: usize = 1_024;
+const OPERATIONS: usize = 1_024;
+
+/// The greatest flag byte of a stream and of a narrowing without modes: other assets are wanted there.
+const MOST_FLAGS: u8 = 0x0f;
 
 #[derive(Debug, Clone, PartialEq, Eq)]
 pub enum Case<'a> {
     Stream(Stream<'a>),
+    Calls(Calls<'a>),
     Narrowing(Narrowing<'a>),
+}
+
+impl Case<'_> {
+    pub fn options(&self) -> &Options {
+        match self {
+            Self::Stream(stream) => &stream.options,
+            Self::Calls(calls) => &calls.options,
+            Self::Narrowing(narrowing) => &narrowing.options,
+        }
+    }
 }
 
 /// A filter that is started and pushed to.
@@ -35,9 +55,43 @@ pub struct Stream<'a> {
     pub cut: bool,
 }
 
+/// A filter that is started and asked one thing after the other.
+#[derive(Debug, Clone, PartialEq, Eq)]
+pub struct Calls<'a> {
+    pub limits: Limits,
+    pub options: Options,
+    pub operations: Vec<Operation<'a>>,
+    /// The operation that would come next is cut or none: no answer follows those of `operations`.
+    pub cut: bool,
+}
+
+#[derive(Debug, Clone, Copy, PartialEq, Eq)]
+pub enum Operation<'a> {
+    /// `room` is the length of the output.
+    Push {
+        room: usize,
+        chunk: &'a [u8],
+    },
+    Dropped,
+}
+
+impl<'a> Calls<'a> {
+    /// The length of the output and the chunk of each push.
+    pub fn pushes(&self) -> impl Iterator<Item = (usize, &'a [u8])> {
+        self.operations
+            .iter()
+            .filter_map(|operation| match *operation {
+                Operation::Push { room, chunk } => Some((room, chunk)),
+                Operation::Dropped => None,
+            })
+    }
+}
+
 /// A table, payload or packet that is narrowed by itself.
 #[derive(Debug, Clone, PartialEq, Eq)]
 pub struct Narrowing<'a> {
+    /// Whether its case has all wishes and the modes: kinds 7 to 9, else 1 to 3.
+    pub with_modes: bool,
     pub kind: Kind,
     pub options: Options,
     pub identifier: u16,
@@ -63,9 +117,25 @@ impl<'a> From<&'a maker::Case> for Stream<'a> {
     }
 }
 
+impl<'a> From<&'a maker::Calls> for Calls<'a> {
+    fn from(made: &'a maker::Calls) -> Self {
+        let operation = |made: &'a maker::Operation| match made {
+            maker::Operation::Push { room, chunk } => Operation::Push { room: *room, chunk },
+            maker::Operation::Dropped => Operation::Dropped,
+        };
+        Self {
+            limits: made.limits,
+            options: made.options,
+            operations: made.operations.iter().map(operation).collect(),
+            cut: false,
+        }
+    }
+}
+
 impl<'a> From<&'a maker::Input> for Narrowing<'a> {
     fn from(made: &'a maker::Input) -> Self {
         Self {
+            with_modes: false,
             kind: made.kind,
             options: made.options,
             identifier: made.identifier,
@@ -75,19 +145,56 @@ impl<'a> From<&'a maker::Input> for Narrowing<'a> {
     }
 }
 
-/// A seed's cases as bytes: its stream, where one is asked for, then at most this many narrowings.
-pub fn of_seed(seed: u64, stream: bool, narrowings: usize) -> Vec<u8> {
+impl<'a> Narrowing<'a> {
+    pub fn with_modes(made: &'a maker::Input) -> Self {
+        Self {
+            with_modes: true,
+            ..Self::from(made)
+        }
+    }
+}
+
+/// Which of a seed's cases are asked for.
+#[derive(Debug, Clone, Copy)]
+pub struct Selection {
+    /// Its stream, or its calls.
+    pub series: bool,
+    /// The most narrowings.
+    pub narrowings: usize,
+}
+
+/// A seed's cases as bytes: its stream, then its narrowings.
+pub fn of_seed(seed: u64, selection: Selection) -> Vec<u8> {
     let mut writer = Writer::default();
-    if stream {
+    if selection.series {
         writer.stream(&Stream::from(&maker::case(seed)));
     }
-    for input in maker::inputs(seed).iter().take(narrowings) {
+    for input in maker::inputs(seed).iter().take(selection.narrowings) {
         writer.narrowing(&Narrowing::from(input));
     }
     writer.bytes
 }
 
-/// The named cases as bytes: narrowings, then streams.
+/// A seed's cases with any of the four wishes as bytes: its calls, then its narrowings with modes. `other` leaves those
+/// with that wish on, or off.
+pub fn wished_of_seed(seed: u64, selection: Selection, other: Option<bool>) -> Vec<u8> {
+    let left = |options: &Options| other.is_none_or(|other| options.other == other);
+    let mut writer = Writer::default();
+    if selection.series {
+        let calls = maker::calls(seed);
+        if left(&calls.options) {
+            writer.calls(&Calls::from(&calls));
+        }
+    }
+    let inputs = maker::wished_inputs(seed);
+    let inputs = inputs.iter().filter(|input| left(&input.options));
+    for input in inputs.take(selection.narrowings) {
+        writer.narrowing(&Narrowing::with_modes(input));
+    }
+    writer.bytes
+}
+
+/// The named cases as bytes: narrowings, then streams, then those of the requests.
 pub fn named() -> Vec<u8> {
     let mut writer = Writer::default();
     for case in named::named() {
@@ -96,8 +203,21 @@ pub fn named() -> Vec<u8> {
     for stream in named::streams() {
         writer.stream(&Stream::from(&stream.case));
     }
+    for requested in named::requested() {
+        match requested {
+            Requested::Narrowing(case) => writer.narrowing(&Narrowing::with_modes(&case.input)),
+            Requested::Calls(calls) => writer.calls(&Calls::from(&calls.case)),
+        }
+    }
     writer.bytes
 }
+
+/// The numbers of the operations.
+const PUSH: u8 = 0;
+const DROPPED: u8 = 1;
+/// How far the kinds of narrowings with modes lie behind those without.
+const WITH_MODES: u8 = 6;
+const NO_MODE: u8 = 0;
 
 /// Cases as bytes.
 #[derive(Debug, Default)]
@@ -109,29 +229,46 @@ impl Writer {
     pub fn stream(&mut self, case: &Stream) {
         self.bytes.push(0);
         self.options(&case.options);
-        self.long(case.limits.work);
-        self.long(case.limits.total);
-        self.long(case.limits.most);
-        self.long(case.limits.maps);
+        self.limits(&case.limits);
         self.long(case.room);
-        self.bytes.extend(
-            u16::try_from(case.chunks.len())
-                .expect("calls have 16 bits")
-                .to_be_bytes(),
-        );
+        self.short(case.chunks.len());
         for chunk in &case.chunks {
             self.long(chunk.len());
         }
         self.bytes.extend(case.chunks.concat());
     }
 
+    pub fn calls(&mut self, case: &Calls) {
+        self.bytes.push(4);
+        self.wishes(&case.options);
+        self.limits(&case.limits);
+        self.short(case.operations.len());
+        for operation in &case.operations {
+            match *operation {
+                Operation::Push { room, chunk } => {
+                    self.bytes.push(PUSH);
+                    self.long(room);
+                    self.long(chunk.len());
+                    self.bytes.extend(chunk);
+                }
+                Operation::Dropped => self.bytes.push(DROPPED),
+            }
+        }
+    }
+
     pub fn narrowing(&mut self, case: &Narrowing) {
-        self.bytes.push(match case.kind {
+        let kind = match case.kind {
             Kind::Table => 1,
             Kind::Payload => 2,
             Kind::Packet => 3,
-        });
-        self.options(&case.options);
+        };
+        if case.with_modes {
+            self.bytes.push(kind + WITH_MODES);
+            self.wishes(&case.options);
+        } else {
+            self.bytes.push(kind);
+            self.options(&case.options);
+        }
         self.bytes.extend(case.identifier.to_be_bytes());
         self.long(case.room);
         self.long(case.input.len());
@@ -139,9 +276,35 @@ impl Writer {
     }
 
     fn options(&mut self, options: &Options) {
-        self.bytes.push(options.flags());
-        self.bytes
-            .extend(options.service.unwrap_or(0).to_be_bytes());
+        let flags = options.flags();
+        assert!(
+            flags <= MOST_FLAGS,
+            "this kind has no place for {options:?}"
+        );
+        self.bytes.push(flags);
+        self.service(options);
+    }
+
+    /// All wishes, and no mode.
+    fn wishes(&mut self, options: &Options) {
+        self.bytes.extend([options.flags(), NO_MODE]);
+        self.service(options);
+    }
+
+    fn service(&mut self, options: &Options) {
+        let service = options.service.unwrap_or(0);
+        self.bytes.extend(service.to_be_bytes());
+    }
+
+    fn limits(&mut self, limits: &Limits) {
+        for length in [limits.work, limits.total, limits.most, limits.maps] {
+            self.long(length);
+        }
+    }
+
+    fn short(&mut self, number: usize) {
+        let number = u16::try_from(number).expect("calls and operations have 16 bits");
+        self.bytes.extend(number.to_be_bytes());
     }
 
     fn long(&mut self, number: usize) {
@@ -169,6 +332,7 @@ impl<'a> Iterator for Reader<'a> {
         let ends = match &case {
             None => true,
             Some(Case::Stream(stream)) => stream.cut,
+            Some(Case::Calls(calls)) => calls.cut,
             Some(Case::Narrowing(_)) => false,
         };
         if ends {
@@ -178,26 +342,20 @@ impl<'a> Iterator for Reader<'a> {
     }
 }
 
-/// `None`: the head is cut short, names another kind, sets a flag bit above bit 3 or passes a room.
+/// `None`: the head is cut short, names another kind, sets a flag or mode bit that has no meaning there or passes a room.
 impl<'a> Reader<'a> {
     fn case(&mut self) -> Option<Case<'a>> {
         match self.byte()? {
             0 => self.stream().map(Case::Stream),
-            1 => self.narrowing(Kind::Table).map(Case::Narrowing),
-            2 => self.narrowing(Kind::Payload).map(Case::Narrowing),
-            3 => self.narrowing(Kind::Packet).map(Case::Narrowing),
+            4 => self.calls().map(Case::Calls),
+            kind @ (1..=3 | 7..=9) => self.narrowing(kind).map(Case::Narrowing),
             _ => None,
         }
     }
 
     fn stream(&mut self) -> Option<Stream<'a>> {
         let options = self.options()?;
-        let limits = Limits {
-            work: self.length(WORK)?,
-            total: self.length(TOTAL)?,
-            most: self.length(usize::MAX)?,
-            maps: self.length(MAPS)?,
-        };
+        let limits = self.limits()?;
         let room = self.length(OUTPUT)?;
         let calls = usize::from(self.number()?);
         let lengths = self.lengths(calls)?;
@@ -221,12 +379,52 @@ impl<'a> Reader<'a> {
         (0..calls).map(|_| self.length(INPUT)).collect()
     }
 
-    fn narrowing(&mut self, kind: Kind) -> Option<Narrowing<'a>> {
-        let options = self.options()?;
+    fn calls(&mut self) -> Option<Calls<'a>> {
+        let options = self.wishes()?;
+        let limits = self.limits()?;
+        let count = usize::from(self.number()?);
+        if count > OPERATIONS {
+            return None;
+        }
+        let operations: Vec<_> = (0..count).map_while(|_| self.operation()).collect();
+        Some(Calls {
+            limits,
+            options,
+            cut: operations.len() < count,
+            operations,
+        })
+    }
+
+    fn operation(&mut self) -> Option<Operation<'a>> {
+        match self.byte()? {
+            PUSH => {
+                let room = self.length(OUTPUT)?;
+                let length = self.length(INPUT)?;
+                let chunk = self.bytes(length)?;
+                Some(Operation::Push { room, chunk })
+            }
+            DROPPED => Some(Operation::Dropped),
+            _ => None,
+        }
+    }
+
+    fn narrowing(&mut self, kind: u8) -> Option<Narrowing<'a>> {
+        let with_modes = kind > WITH_MODES;
+        let (kind, options) = if with_modes {
+            (kind - WITH_MODES, self.wishes()?)
+        } else {
+            (kind, self.options()?)
+        };
+        let kind = match kind {
+            1 => Kind::Table,
+            2 => Kind::Payload,
+            _ => Kind::Packet,
+        };
         let identifier = self.number()?;
         let room = self.length(OUTPUT)?;
         let length = self.length(INPUT)?;
         Some(Narrowing {
+            with_modes,
             kind,
             options,
             identifier,
@@ -238,7 +436,24 @@ impl<'a> Reader<'a> {
     fn options(&mut self) -> Option<Options> {
         let flags = self.byte()?;
         let service = self.number()?;
-        (flags < 16).then(|| Options::from_flags(flags, service))
+        (flags <= MOST_FLAGS).then(|| Options::from_flags(flags, service))
+    }
+
+    fn wishes(&mut self) -> Option<Options> {
+        let flags = self.byte()?;
+        let modes = self.byte()?;
+        let service = self.number()?;
+        let known = flags <= Options::MOST_FLAGS && modes == NO_MODE;
+        known.then(|| Options::from_flags(flags, service))
+    }
+
+    fn limits(&mut self) -> Option<Limits> {
+        Some(Limits {
+            work: self.length(WORK)?,
+            total: self.length(TOTAL)?,
+            most: self.length(usize::MAX)?,
+            maps: self.length(MAPS)?,
+        })
     }
 
     fn bytes(&mut self, length: usize) -> Option<&'a [u8]> {

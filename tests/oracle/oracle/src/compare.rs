@@ -86,6 +86,7 @@ fn narrowings(case: &Narrowing) -> Result<(), String> {
         identifier,
         room,
         input,
+        ..
     } = case;
     equal(
         &format!("{kind:?}"),

@@ -6,6 +6,7 @@ pub mod arguments;
 pub mod builders;
 pub mod cases;
 pub mod compare;
+pub mod engine;
 pub mod named;
 pub mod narrow;
 pub mod programs;

@@ -1,5 +1,6 @@
 //! The command `oracle`: picks the command that its first word names and connects it with standard input
-//! and output. Ends with 1 where a comparison finds a difference, with 2 where the words can't be read.
+//! and output. Ends with 1 where a comparison finds a difference, with 2 where the words can't be read or the filter
+//! that they name can't be asked.
 
 use std::io::{self, Read, Write};
 use std::ops::Range;
@@ -8,7 +9,9 @@ use std::{env, fs};
 
 use face::{Engine, Limits};
 use oracle::arguments::Arguments;
+use oracle::cases::Selection;
 use oracle::compare::{self, Outcome};
+use oracle::engine::{By, Oracle};
 use oracle::run::Told;
 use oracle::theorems::{self, Bounds};
 use oracle::{answers, cases, narrow, programs, run};
@@ -18,25 +21,41 @@ use plain::Plain;
 const USAGE: &str = "usage: oracle COMMAND
   filter                      the filtered stream: flag byte, service and stream on standard input
   sums                        its line of sums
-  input [--seed N]            an input of these two: seed 0 is the example
-  run [--flags N] [--service N] [--work W] [--total T] [--most M] [--maps N] [--room N]
-      [--cuts A,B,C] [--by original|plain] [--out FILE]
+  input [--seed N]            an input of these two: seed 0 is the example, from 24 on other assets
+                              are not wanted
+  run [WISHES] [--work W] [--total T] [--most M] [--maps N] [--room N] [--cuts A,B,C]
+      [--by FILTER] [--out FILE]
                               a line for each call of the stream on standard input; W, T and M are
                               65536 and the output is W if not given, and what is left after the
                               cuts goes in chunks of W-P
-  narrow table|payload|packet [--flags N] [--service N] [--id N] [--room N] [--hex]
-      [--by original|plain] [--out FILE]
+  narrow table|payload|packet [WISHES] [--id N] [--room N] [--hex] [--by FILTER] [--out FILE]
                               one narrowing of standard input
   cases --seeds A..B [--narrowing N] [--streams 0]
                               the seeds' cases, each with at most N narrowings and its stream, or none
+  cases --seeds A..B --calls [--narrowing N] [--streams 0] [--other on|off]
+                              the seeds' cases with any of the four wishes: calls in the stream's
+                              place, and narrowings with modes; with --other those that want other
+                              assets alone, or those that do not
   cases --named               the named cases: what the port's program answers stores
-  answers [--by original|plain]
-                              the answers to the cases on standard input
+  answers [--by FILTER]       the answers to the cases on standard input
   theorems --seeds A..B [--narrowing N] [--longest N] [--most N]
-                              the seeds' cases with the original's answers, as theorems on the
-                              definitions: at most N of them (400), each of at most N bytes (2000)
+                              the seeds' cases with the oracle's answers, as theorems on the
+                              definitions, then those of --calls --other off: at most N of them
+                              (400), each of at most N bytes (2000)
   compare --seeds A..B        the original and the plain filter
-  same --seeds A..B           the original at its own limits and the untouched one";
+  same --seeds A..B           the original at its own limits and the untouched one
+WISHES
+  --flags N --service N       bits 0 to 4: captions, carousels, EIT wanted, service named, other
+                              assets not wanted; 0 if not given
+  --profile captions [--service N]
+                              the captions-only profile, of one service or of all: writes signalling
+                              with its tables (which list captions alone), control and clock packets,
+                              captions, and media that no list names; drops other assets, carousels
+                              and EIT
+FILTER
+  oracle                      the original where it can be asked, else plain; if not given
+  original                    the original, which can't be asked without other assets
+  plain                       the second filter";
 
 type Answer = Result<ExitCode, String>;
 
@@ -52,12 +71,12 @@ fn main() -> ExitCode {
 fn dispatch(command: &str, words: impl Iterator<Item = String>) -> Answer {
     let read = |names: &[&str], switches: &[&str]| Arguments::read(words, names, switches);
     match command {
-        "filter" => read(&[], &[]).and_then(|_| program(programs::filter::<Original>)),
-        "sums" => read(&[], &[]).and_then(|_| program(programs::sums::<Original>)),
+        "filter" => read(&[], &[]).and_then(|_| program(programs::filter::<Oracle>)),
+        "sums" => read(&[], &[]).and_then(|_| program(programs::sums::<Oracle>)),
         "input" => input_command(&read(&["seed"], &[])?),
         "run" => run_command(&read(RUN, &[])?),
         "narrow" => narrow_command(&read(NARROW, &["hex"])?),
-        "cases" => cases_command(&read(&["seeds", "narrowing", "streams"], &["named"])?),
+        "cases" => cases_command(&read(CASES, &["named", "calls"])?),
         "answers" => answers_command(&read(&["by"], &[])?),
         "theorems" => theorems_command(&read(THEOREMS, &[])?),
         "compare" => compare_command("compared", compare::compare, &read(&["seeds"], &[])?),
@@ -67,9 +86,10 @@ fn dispatch(command: &str, words: impl Iterator<Item = String>) -> Answer {
 }
 
 const RUN: &[&str] = &[
-    "flags", "service", "work", "total", "most", "maps", "room", "cuts", "by", "out",
+    "flags", "profile", "service", "work", "total", "most", "maps", "room", "cuts", "by", "out",
 ];
-const NARROW: &[&str] = &["flags", "service", "id", "room", "by", "out"];
+const NARROW: &[&str] = &["flags", "profile", "service", "id", "room", "by", "out"];
+const CASES: &[&str] = &["seeds", "narrowing", "streams", "other"];
 const THEOREMS: &[&str] = &["seeds", "narrowing", "longest", "most"];
 
 fn program(
@@ -95,12 +115,15 @@ fn run_command(arguments: &Arguments) -> Answer {
         maps: arguments.number("maps", 32_768)?,
     };
     let room = arguments.number("room", work)?;
-    let run = match by(arguments)? {
-        Filter::Original => run::run::<Original>,
-        Filter::Plain => run::run::<Plain>,
+    let (by, options) = (by(arguments)?, arguments.options()?);
+    by.must_know(&options)?;
+    let run = match by {
+        By::Original => run::run::<Original>,
+        By::Plain => run::run::<Plain>,
+        By::Oracle => run::run::<Oracle>,
     };
     let cuts = arguments.numbers("cuts")?;
-    let told = run(limits, arguments.options()?, room, &cuts, &input()?);
+    let told = run(limits, options, room, &cuts, &input()?);
     tell(arguments, &told)
 }
 
@@ -112,13 +135,16 @@ fn narrow_command(arguments: &Arguments) -> Answer {
     if arguments.has("hex") {
         input = narrow::from_hex(&String::from_utf8_lossy(&input))?;
     }
-    let narrow = match by(arguments)? {
-        Filter::Original => Original::narrow,
-        Filter::Plain => Plain::narrow,
+    let (by, options) = (by(arguments)?, arguments.options()?);
+    by.must_know(&options)?;
+    let narrow = match by {
+        By::Original => Original::narrow,
+        By::Plain => Plain::narrow,
+        By::Oracle => Oracle::narrow,
     };
     let answer = narrow(
         narrow::kind(name)?,
-        arguments.options()?,
+        options,
         arguments.number("id", 0)?,
         &input,
         arguments.number("room", input.len())?,
@@ -132,21 +158,37 @@ fn cases_command(arguments: &Arguments) -> Answer {
         output.write_all(&cases::named()).map_err(text)?;
         return Ok(ExitCode::SUCCESS);
     }
-    let most = arguments.number("narrowing", usize::MAX)?;
-    let streams = arguments.number("streams", 1)? > 0;
+    let selection = Selection {
+        series: arguments.number("streams", 1)? > 0,
+        narrowings: arguments.number("narrowing", usize::MAX)?,
+    };
+    let (calls, other) = (arguments.has("calls"), arguments.on_or_off("other")?);
+    if other.is_some() && !calls {
+        return Err("--other is of --calls: all other cases want other assets".to_owned());
+    }
     for seed in arguments.seeds()? {
-        let bytes = cases::of_seed(seed, streams, most);
+        let bytes = if calls {
+            cases::wished_of_seed(seed, selection, other)
+        } else {
+            cases::of_seed(seed, selection)
+        };
         output.write_all(&bytes).map_err(text)?;
     }
     Ok(ExitCode::SUCCESS)
 }
 
 fn answers_command(arguments: &Arguments) -> Answer {
-    let answers = match by(arguments)? {
-        Filter::Original => answers::answers::<Original>,
-        Filter::Plain => answers::answers::<Plain>,
+    let (by, input) = (by(arguments)?, input()?);
+    for (nth, case) in cases::Reader::new(&input).enumerate() {
+        by.must_know(case.options())
+            .map_err(|message| format!("case {nth}: {message}"))?;
+    }
+    let answers = match by {
+        By::Original => answers::answers::<Original>,
+        By::Plain => answers::answers::<Plain>,
+        By::Oracle => answers::answers::<Oracle>,
     };
-    io::stdout().write_all(&answers(&input()?)).map_err(text)?;
+    io::stdout().write_all(&answers(&input)).map_err(text)?;
     Ok(ExitCode::SUCCESS)
 }
 
@@ -177,18 +219,9 @@ fn compare_command(
     Ok(ExitCode::from(u8::from(outcome.first.is_some())))
 }
 
-enum Filter {
-    Original,
-    Plain,
-}
-
 /// `--by`: the filter that answers.
-fn by(arguments: &Arguments) -> Result<Filter, String> {
-    match arguments.text("by") {
-        None | Some("original") => Ok(Filter::Original),
-        Some("plain") => Ok(Filter::Plain),
-        Some(other) => Err(format!("--by {other} is neither original nor plain")),
-    }
+fn by(arguments: &Arguments) -> Result<By, String> {
+    By::named(arguments.text("by"))
 }
 
 fn input() -> Result<Vec<u8>, String> {

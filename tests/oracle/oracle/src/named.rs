@@ -1,17 +1,22 @@
 //! `cases --named`: narrowings and after them streams, in a fixed order, each with a name to find it by: 01's
-//! examples, the readings of its open sentences, sizes at each limit, damaged inputs and small streams. Beside
-//! each that was built by hand stands its answer; the others are the original's to judge.
+//! examples, the readings of its open sentences, sizes at each limit, damaged inputs and small streams. Behind them
+//! the cases of 02's requests, one request after the other. Beside each that was built by hand stands its answer; the
+//! others are the original's to judge.
 
 use face::{Kind, Narrowed, Options};
 use maker::Input;
 
+mod calls;
+mod captions;
 mod damaged;
 mod examples;
 mod packets;
 mod readings;
 mod sizes;
 mod streams;
+mod wishes;
 
+pub use calls::{NamedCalls, Reply};
 pub use streams::{Answer, NamedStream, streams};
 
 #[derive(Debug, Clone, PartialEq, Eq)]
@@ -22,7 +27,7 @@ pub struct Named {
     pub answer: Option<Narrowed>,
 }
 
-/// All narrowings, in the order in which they are written.
+/// All narrowings of the base, in the order in which they are written.
 pub fn named() -> Vec<Named> {
     [
         examples::examples(),
@@ -32,6 +37,23 @@ pub fn named() -> Vec<Named> {
         damaged::damaged(),
     ]
     .concat()
+}
+
+/// A case of a request. Its narrowings are with modes.
+#[derive(Debug, Clone, PartialEq, Eq)]
+pub enum Requested {
+    Narrowing(Named),
+    Calls(NamedCalls),
+}
+
+/// The cases of the requests, in the order in which they are written.
+pub fn requested() -> Vec<Requested> {
+    let narrowings = wishes::wishes().into_iter();
+    let series = captions::captions().into_iter();
+    narrowings
+        .map(Requested::Narrowing)
+        .chain(series.map(Requested::Calls))
+        .collect()
 }
 
 /// A table; the output is as long as it.

@@ -15,15 +15,25 @@ const LIMITS: Limits = Limits {
 
 /// An input of the two programs from a seed. The seeds take turns: a stream like a broadcast, one of tables, and one of
 /// the maker's, which may be damaged or hostile. Seed 0 is the example: a service of six, without captions and carousels.
+/// From seed 24 on other assets are not wanted.
 pub fn input(seed: u64) -> Vec<u8> {
     let stream = match seed % 3 {
         0 => maker::air(seed, 100_000),
         1 => maker::dense(seed, 40_000),
         _ => maker::plain_case(seed).bytes,
     };
-    let flags = 0b1100 ^ (seed % 16) as u8;
     let service = 0x0401 + (seed % 6) as u16;
-    [&[flags][..], &service.to_be_bytes(), &stream].concat()
+    [&[flags(seed)][..], &service.to_be_bytes(), &stream].concat()
+}
+
+/// Without other assets captions are wanted, but for each eighth seed, which is refused.
+fn flags(seed: u64) -> u8 {
+    let wishes = 0b1100 ^ (seed % 16) as u8;
+    let captions = u8::from(!seed.is_multiple_of(8));
+    match seed {
+        0..24 => wishes,
+        _ => wishes | captions | Options::OTHER_OFF,
+    }
 }
 
 /// Writes the filtered stream; "bytes held at the end are not written".
@@ -91,11 +101,10 @@ fn stream<E: Engine>(
     }
 }
 
-/// The flag byte and the service. `None` is refusal 8: "input under three bytes, or a flag bit above bit 3
-/// set".
+/// The flag byte and the service. `None` is refusal 8: "input under three bytes", or a flag bit above bit 4 set.
 fn options(head: &[u8]) -> Option<Options> {
     match *head {
-        [flags @ 0..=15, high, low] => {
+        [flags @ 0..=Options::MOST_FLAGS, high, low] => {
             Some(Options::from_flags(flags, u16::from_be_bytes([high, low])))
         }
         _ => None,

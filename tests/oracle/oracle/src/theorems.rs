@@ -1,14 +1,14 @@
-//! `theorems`: cases and the original's answers to them as a file of antt, the language of the definitions
+//! `theorems`: cases and the oracle's answers to them as a file of antt, the language of the definitions
 //! in the crate `meaning`. A theorem says that the definitions compute the answer; computing is its proof.
 
 use std::iter;
 use std::ops::Range;
 
 use face::Kind;
-use original::Original;
 
-use crate::answers;
-use crate::cases::{Case, Narrowing, Stream};
+use crate::answers::{narrowing_numbers, stream_numbers};
+use crate::cases::{Calls, Case, Narrowing, Stream};
+use crate::engine::Oracle;
 
 /// Which of the seeds' cases become theorems.
 #[derive(Debug, Clone, Copy)]
@@ -21,10 +21,13 @@ pub struct Bounds {
     pub most: usize,
 }
 
-/// The whole file: what an answer is by the definitions, then a theorem for each case.
+/// The whole file: what an answer is by the definitions, then a theorem for each case of the seeds, and then for each
+/// of their cases without other assets.
 pub fn theorems(seeds: Range<u64>, bounds: Bounds) -> String {
-    let theorems = seeds.flat_map(|seed| of_seed(seed, bounds));
-    let parts = iter::once(DEFINITIONS.to_owned()).chain(theorems.take(bounds.most));
+    let usual = seeds.clone().flat_map(|seed| of_seed(seed, bounds));
+    let wished = seeds.flat_map(|seed| wished_of_seed(seed, bounds));
+    let theorems = usual.chain(wished).take(bounds.most);
+    let parts = iter::once(DEFINITIONS.to_owned()).chain(theorems);
     parts.collect::<Vec<_>>().join("\n")
 }
 
@@ -33,45 +36,92 @@ fn of_seed(seed: u64, bounds: Bounds) -> Vec<String> {
     let stream = Case::Stream(Stream::from(&made));
     let narrowings = inputs.iter().take(bounds.narrowing);
     let narrowings = narrowings.map(|input| Case::Narrowing(Narrowing::from(input)));
-    iter::once(stream)
-        .chain(narrowings)
+    let cases = iter::once(stream).chain(narrowings);
+    of_cases(&format!("seed-{seed}"), cases, bounds)
+}
+
+/// Those of a seed's calls and narrowings with modes that are without other assets.
+fn wished_of_seed(seed: u64, bounds: Bounds) -> Vec<String> {
+    let (made, inputs) = (maker::calls(seed), maker::wished_inputs(seed));
+    let calls = Some(&made).filter(|made| !made.options.other);
+    let calls = calls.map(|made| Case::Calls(Calls::from(made)));
+    let inputs = inputs.iter().filter(|input| !input.options.other);
+    let narrowings = inputs.take(bounds.narrowing);
+    let narrowings = narrowings.map(|input| Case::Narrowing(Narrowing::with_modes(input)));
+    let cases = calls.into_iter().chain(narrowings);
+    of_cases(&format!("wished-seed-{seed}"), cases, bounds)
+}
+
+/// The theorems of a seed's cases, which are counted as `cases` writes them: those that are short enough.
+fn of_cases<'a>(seed: &str, cases: impl Iterator<Item = Case<'a>>, bounds: Bounds) -> Vec<String> {
+    cases
         .enumerate()
         .filter(|(_, case)| length(case) <= bounds.longest)
-        .map(|(nth, case)| theorem(seed, nth, &case))
+        .filter_map(|(nth, case)| theorem(&format!("{seed}-case-{nth}"), &case))
         .collect()
 }
 
 fn length(case: &Case) -> usize {
     match case {
         Case::Stream(stream) => stream.chunks.iter().map(|chunk| chunk.len()).sum(),
+        Case::Calls(calls) => calls.pushes().map(|(_, chunk)| chunk.len()).sum(),
         Case::Narrowing(narrowing) => narrowing.input.len(),
     }
 }
 
-/// The theorem of a seed's case. A seed's cases are counted as `cases` writes them: the stream is its 0th.
-pub fn theorem(seed: u64, nth: usize, case: &Case) -> String {
-    let (definition, arguments) = match case {
-        Case::Stream(stream) => ("stream", of_stream(stream)),
+/// The theorem of this name on a case. There is none on calls whose outputs have different lengths, since the
+/// definition of a stream has one for all.
+pub fn theorem(name: &str, case: &Case) -> Option<String> {
+    let Statement {
+        definition,
+        arguments,
+        answer,
+    } = match case {
+        Case::Stream(stream) => of_stream(stream),
+        Case::Calls(calls) => of_stream(&as_stream(calls)?),
         Case::Narrowing(narrowing) => of_narrowing(narrowing),
     };
-    let name = format!("seed-{seed}-case-{nth}");
-    let answer = list(answers::numbers::<Original>(case));
-    format!(
-        "-- seed {seed}, case {nth}: {definition}, {} bytes\n\
+    let answer = list(answer);
+    Some(format!(
+        "-- {name}: {definition}, {} bytes\n\
          {name} : {definition} {arguments} ≡ {answer}\n\
          unfolding {definition}\n\
          {name} = refl\n",
         length(case)
-    )
+    ))
 }
 
-fn of_stream(case: &Stream) -> String {
+/// The pushes of calls as a stream, if their outputs are of one length. To ask for the dropped identifiers changes
+/// nothing, and their number is in no theorem.
+fn as_stream<'a>(calls: &Calls<'a>) -> Option<Stream<'a>> {
+    let room = calls.pushes().next().map_or(0, |(room, _)| room);
+    let stream = Stream {
+        limits: calls.limits,
+        options: calls.options,
+        room,
+        chunks: calls.pushes().map(|(_, chunk)| chunk).collect(),
+        cut: calls.cut,
+    };
+    calls
+        .pushes()
+        .all(|(other, _)| other == room)
+        .then_some(stream)
+}
+
+/// The definition that a case asks, what it hands to it, and the answer.
+struct Statement {
+    definition: &'static str,
+    arguments: String,
+    answer: Vec<u32>,
+}
+
+fn of_stream(case: &Stream) -> Statement {
     let limits = case.limits;
     let chunks = case
         .chunks
         .iter()
         .map(|chunk| format!("({})", list(*chunk)));
-    format!(
+    let arguments = format!(
         "{} {} {} {} {} {} {} ({})",
         case.options.flags(),
         case.options.service.unwrap_or(0),
@@ -81,11 +131,15 @@ fn of_stream(case: &Stream) -> String {
         limits.maps,
         case.room,
         list(chunks)
-    )
+    );
+    Statement {
+        definition: "stream",
+        arguments,
+        answer: stream_numbers::<Oracle>(case),
+    }
 }
 
-/// The definition that it asks, and what it hands to it.
-fn of_narrowing(case: &Narrowing) -> (&'static str, String) {
+fn of_narrowing(case: &Narrowing) -> Statement {
     let (definition, identifier) = match case.kind {
         Kind::Table => ("table", String::new()),
         Kind::Payload => ("payload", format!("{} ", case.identifier)),
@@ -98,7 +152,11 @@ fn of_narrowing(case: &Narrowing) -> (&'static str, String) {
         case.room,
         list(case.input)
     );
-    (definition, arguments)
+    Statement {
+        definition,
+        arguments,
+        answer: narrowing_numbers::<Oracle>(case),
+    }
 }
 
 fn list<T: ToString>(members: impl IntoIterator<Item = T>) -> String {
@@ -111,7 +169,7 @@ fn list<T: ToString>(members: impl IntoIterator<Item = T>) -> String {
 
 /// The answers by the definitions, as `answers::numbers` tells those of a filter.
 const DEFINITIONS: &str = "\
--- The original's answers, each a theorem that holds by computing the definitions.
+-- The oracle's answers, each a theorem that holds by computing the definitions.
 use Prim.Native.Nat.{ℕ, zero, suc}
 use mathlib.Core.Path.{_≡_, refl}
 use mathlib.Core.List.{List, [], _∷_, _++_, flatten}
@@ -188,7 +246,7 @@ startOn (suc n) more = suc n ∷ []
 unfoldable stream : ℕ → ℕ → ℕ → ℕ → ℕ → ℕ → ℕ → List Bytes → List ℕ
 unfolding startRefusal calls optionsOf fresh
 stream flags service W T M map-length out-length chunks =
-    startOn (startRefusal W T M map-length)
+    startOn (startRefusal W T M map-length (optionsOf flags service))
     (calls (record { work = W; total = T; most = M }) (optionsOf flags service) out-length (fresh (replicate map-length 0)) chunks)
 
 -- ---- the cases

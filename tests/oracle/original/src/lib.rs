@@ -30,8 +30,25 @@ pub struct Original {
     filter: patched::Filter,
 }
 
+impl Original {
+    /// Whether it can be asked with these options: 000 has no wish of other assets, it wants them all.
+    pub fn knows(options: &Options) -> bool {
+        options.other
+    }
+}
+
+/// A wish that 000 does not know would be passed over in silence.
+fn must_know(options: &Options) {
+    assert!(
+        Original::knows(options),
+        "the original wants all other assets, and can't be asked without them: {options:?}"
+    );
+}
+
+/// It panics where it is asked with options that it does not know.
 impl Engine for Original {
     fn start(limits: Limits, options: Options) -> Result<Self, u8> {
+        must_know(&options);
         refuse_if(1, !(4_096..=131_078).contains(&limits.work))?;
         refuse_if(2, !(1..=16_777_216).contains(&limits.total))?;
         refuse_if(2, !(1..=limits.total).contains(&limits.most))?;
@@ -61,6 +78,7 @@ impl Engine for Original {
         input: &[u8],
         room: usize,
     ) -> Narrowed {
+        must_know(&options);
         let refusal =
             refuse_if(5, input.len() > NARROWED).and_then(|()| refuse_if(6, room < input.len()));
         match refusal {
@@ -80,6 +98,7 @@ pub struct Untouched(untouched::Filter);
 
 impl Untouched {
     pub fn new(options: Options) -> Self {
+        must_know(&options);
         Self(untouched::Filter::new(options))
     }
 

@@ -21,6 +21,7 @@ pub struct Parts(Filter);
 
 impl Parts {
     pub fn new(options: Options) -> Self {
+        crate::must_know(&options);
         Self(Filter::new(options))
     }
 

@@ -1,6 +1,7 @@
-//! A second filter, written from 01 and its readings (docs/DECISIONS.md, R1 to R35) alone, to recount what
-//! the original answers. Everything learned is an ordered list, and each decision is worked out from the
-//! lists anew. This file has the calls and their refusals; the other files follow 01's sections.
+//! A second filter, written from 01, from 02's requests and from the readings of both (docs/DECISIONS.md) alone, to
+//! recount what the original answers, and to answer what the original does not know. Everything learned is an
+//! ordered list, and each decision is worked out from the lists anew. This file has the calls and their refusals;
+//! the other files follow 01's sections.
 
 mod finding;
 mod learning;
@@ -36,6 +37,9 @@ impl Engine for Plain {
         }
         if limits.maps != 32_768 {
             return Err(3);
+        }
+        if !options.other && !options.caption {
+            return Err(9);
         }
         Ok(Self {
             limits,

@@ -18,7 +18,7 @@ pub fn wants(options: &Options, part: Part) -> bool {
     match part {
         Part::Caption => options.caption,
         Part::Carousel => options.carousel,
-        Part::Other => true,
+        Part::Other => options.other,
     }
 }
 

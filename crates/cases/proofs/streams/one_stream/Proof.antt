@@ -21,8 +21,23 @@ array-read-if2 c = search needs
 returns-2 : tie.Need-returns-2
 returns-2 c = search needs
 
-head-of-requires : tie.Need-head-of-requires
-head-of-requires c κs = search needs
+slice-aggregate-asked-at : tie.Need-slice-aggregate-asked-at
+slice-aggregate-asked-at c = search needs
+
+slice-aggregate-be32 : tie.Need-slice-aggregate-be32
+slice-aggregate-be32 c = search needs
+
+be32-requires : tie.Need-be32-requires
+be32-requires c κs = search needs
+
+slice-aggregate-be16 : tie.Need-slice-aggregate-be16
+slice-aggregate-be16 c = search needs
+
+be16-requires : tie.Need-be16-requires
+be16-requires c κs = search needs
+
+asked-at-requires : tie.Need-asked-at-requires
+asked-at-requires c κs = search needs
 
 head-fits-requires : tie.Need-head-fits-requires
 head-fits-requires c κs = search needs
@@ -96,7 +111,12 @@ one-stream-spec =
     returns
     array-read-if2
     returns-2
-    head-of-requires
+    slice-aggregate-asked-at
+    slice-aggregate-be32
+    be32-requires
+    slice-aggregate-be16
+    be16-requires
+    asked-at-requires
     head-fits-requires
     returns-3
     sub-in-lent

@@ -1,5 +1,7 @@
-use Rattle.programs.proofs.AskedLaws.{asked-short, asked-flags, asked-for}
+use Rattle.programs.proofs.AskedLaws.{asked-short, asked-flags, asked-neither, asked-for}
 use native.Mathlib.Omega.{arith}
+use mathlib.Core.Path.{sym, _∙_}
+use borrow.Author.Tests.{not-true, not-false}
 use borrow.Author.Needs.{needs}
 use Rattle.programs.proofs.asked.asked_of.Statement.{statement}
 use Rattle.programs.proofs.asked.asked_of.Tie as tie
@@ -22,8 +24,14 @@ id16-requires c κs = search needs
 options-of-requires : tie.Need-options-of-requires
 options-of-requires c κs = search needs
 
+wants-assets-requires : tie.Need-wants-assets-requires
+wants-assets-requires c κs = search needs
+
 returns-3 : tie.Need-returns-3
-returns-3 c = let s = c .before .before .before .before .before .before .before .args .head .now in asked-for s (omega arith) (omega arith) (c .before .id16 .ensures) (c .options-of .ensures)
+returns-3 c = let s = c .before .before .before .before .before .before .before .before .before .args .head .now in asked-neither s (omega arith) (omega arith) (c .before .before .before .id16 .ensures) (c .before .before .options-of .ensures) (sym (c .before .wants-assets .ensures) ∙ not-true _ (c .if3 .taken))
+
+returns-4 : tie.Need-returns-4
+returns-4 c = let s = c .before .before .before .before .before .before .before .before .before .args .head .now in asked-for s (omega arith) (omega arith) (c .before .before .before .id16 .ensures) (c .before .before .options-of .ensures) (sym (c .before .wants-assets .ensures) ∙ not-false _ (c .if3 .left))
 
 pub asked-of-spec : {M : Type 1} → statement M
 asked-of-spec =
@@ -35,4 +43,6 @@ asked-of-spec =
     shared-slice-read-options-of
     id16-requires
     options-of-requires
-    returns-3)
+    wants-assets-requires
+    returns-3
+    returns-4)

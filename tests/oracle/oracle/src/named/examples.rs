@@ -1,16 +1,18 @@
 //! 01's examples 1 to 10: as tables, as 01 writes them, and each inside a payload and inside a packet.
 
-use face::Narrowed;
-use maker::Input;
+use face::{Narrowed, Options};
 
 use super::{Named, counted, listed, packet, payload, table};
 use crate::builders::{hex, pa, signalling, whole};
 
 pub(super) fn examples() -> Vec<Named> {
     let inputs = maker::examples();
-    let numbered = (1..).zip(inputs.into_iter().zip(answers()));
+    let numbered = (1_u8..).zip(inputs.into_iter().zip(answers()));
     numbered
-        .flat_map(|(number, (input, answer))| three_ways(number, &input, answer))
+        .flat_map(|(number, (input, answer))| {
+            let name = format!("example {number}");
+            three_ways(&name, input.options, &input.bytes, answer)
+        })
         .collect()
 }
 
@@ -36,14 +38,18 @@ fn answers() -> [Narrowed; 10] {
 }
 
 /// The table alone, then in a PA message of a payload on identifier 0, then that in a packet.
-fn three_ways(number: u8, input: &Input, answer: Narrowed) -> [Named; 3] {
-    let name = |form: &str| format!("example {number}, {form}");
+pub(super) fn three_ways(
+    name: &str,
+    options: Options,
+    bytes: &[u8],
+    answer: Narrowed,
+) -> [Named; 3] {
+    let name = |form: &str| format!("{name}, {form}");
     let in_payload = |table: &[u8]| whole(&pa(&[table.to_vec()]));
     let in_packet = |table: &[u8]| signalling(0, &in_payload(table));
-    let (options, bytes) = (input.options, &input.bytes);
     let (inside, around) = (within(&answer, in_payload), within(&answer, in_packet));
     [
-        table(name("table"), options, bytes.clone(), answer),
+        table(name("table"), options, bytes.to_vec(), answer),
         payload(name("payload"), options, 0, in_payload(bytes), inside),
         packet(name("packet"), options, in_packet(bytes), around),
     ]

@@ -46,13 +46,13 @@ pub fn streams() -> Vec<NamedStream> {
 }
 
 /// P is 2,048, and so is the longest chunk.
-const LIMITS: Limits = Limits {
+pub(super) const LIMITS: Limits = Limits {
     work: 4_096,
     total: 4_096,
     most: 4_096,
     maps: 32_768,
 };
-const P: usize = 2_048;
+pub(super) const P: usize = 2_048;
 
 fn stream(
     name: impl Into<String>,
@@ -96,7 +96,7 @@ impl NamedStream {
 // Calls
 
 /// Nothing accepted and nothing written.
-fn holding(held: usize) -> Call {
+pub(super) fn holding(held: usize) -> Call {
     Call {
         counts: Counts::default(),
         held,
@@ -104,12 +104,13 @@ fn holding(held: usize) -> Call {
     }
 }
 
-/// These packets, each with what is written of it: as it is, narrowed, or nothing.
-fn packets(packets: &[(Vec<u8>, Option<Vec<u8>>)]) -> Call {
+/// A packet with what is written of it: as it is, narrowed, or nothing.
+pub(super) type Sent = (Vec<u8>, Option<Vec<u8>>);
+
+/// These packets, accepted in one call.
+pub(super) fn packets(packets: &[Sent]) -> Call {
     let written: Vec<_> = packets.iter().filter_map(|(_, out)| out.clone()).collect();
-    let narrowed = |(packet, out): &&(Vec<u8>, Option<Vec<u8>>)| {
-        out.as_ref().is_some_and(|written| written != packet)
-    };
+    let narrowed = |(packet, out): &&Sent| out.as_ref().is_some_and(|written| written != packet);
     let out = written.concat();
     Call {
         counts: Counts {
@@ -124,16 +125,16 @@ fn packets(packets: &[(Vec<u8>, Option<Vec<u8>>)]) -> Call {
     }
 }
 
-fn passes(packet: &[u8]) -> (Vec<u8>, Option<Vec<u8>>) {
+pub(super) fn passes(packet: &[u8]) -> Sent {
     (packet.to_vec(), Some(packet.to_vec()))
 }
 
 /// One packet that is written as it is.
-fn passed(packet: &[u8]) -> Call {
+pub(super) fn passed(packet: &[u8]) -> Call {
     packets(&[passes(packet)])
 }
 
-fn skipped(skipped: u64, held: usize) -> Call {
+pub(super) fn skipped(skipped: u64, held: usize) -> Call {
     let counts = Counts {
         skipped,
         ..Counts::default()
@@ -147,12 +148,12 @@ fn skipped(skipped: u64, held: usize) -> Call {
 // Streams
 
 /// Example 12's packet.
-fn short() -> Vec<u8> {
+pub(super) fn short() -> Vec<u8> {
     hex("7F FF 00 01 AA")
 }
 
 /// A packet of this length that is no MMTP.
-fn filler(length: usize) -> Vec<u8> {
+pub(super) fn filler(length: usize) -> Vec<u8> {
     tlv(0xff, &vec![0; length - 4])
 }
 
@@ -165,7 +166,7 @@ fn examples() -> Vec<NamedStream> {
     ]
 }
 
-fn limits(work: usize, total: usize, most: usize, maps: usize) -> Limits {
+pub(super) fn limits(work: usize, total: usize, most: usize, maps: usize) -> Limits {
     Limits {
         work,
         total,
@@ -321,7 +322,7 @@ fn copy_all() -> Vec<NamedStream> {
 
 /// Services 0401 and 0402 with their MPTs on f001 and f002, and after them video, captions and carousels. Each
 /// packet stands with what is written of it with captions off.
-fn broadcast() -> Vec<(Vec<u8>, Option<Vec<u8>>)> {
+pub(super) fn broadcast() -> Vec<Sent> {
     let packages = [service_at(0x0401, 0xf001), service_at(0x0402, 0xf002)];
     let mpts = |captions: bool| {
         [(0xf001, 11, 12), (0xf002, 21, 22)].map(|(at, caption_at, carousel_at)| {
@@ -342,7 +343,7 @@ fn broadcast() -> Vec<(Vec<u8>, Option<Vec<u8>>)> {
     packets
 }
 
-fn bytes(packets: &[(Vec<u8>, Option<Vec<u8>>)]) -> Vec<u8> {
+pub(super) fn bytes(packets: &[Sent]) -> Vec<u8> {
     packets
         .iter()
         .flat_map(|(packet, _)| packet.clone())

@@ -1,7 +1,11 @@
 //! The lines that `run` and `narrow` tell, the words that all commands read, and a short comparison.
 
-use face::{Limits, Narrowed};
+use std::io::Write;
+use std::process::{Command, Output, Stdio};
+
+use face::{Limits, Narrowed, Options};
 use oracle::arguments::Arguments;
+use oracle::cases::{Selection, wished_of_seed};
 use oracle::{compare, narrow, run};
 use original::Original;
 
@@ -52,7 +56,8 @@ fn hexadecimal_digits_come_in_pairs() {
 fn words_are_names_with_values_and_plain_ones() {
     let read = |words: &str| {
         let words = words.split(' ').map(str::to_owned);
-        Arguments::read(words, &["flags", "service", "cuts", "seeds"], &["hex"])
+        let names = ["flags", "service", "cuts", "seeds", "profile", "other"];
+        Arguments::read(words, &names, &["hex"])
     };
     let words = read("table --flags 9 --hex --service 0x0401 --cuts 1,0x20 --seeds 3..7").unwrap();
     assert_eq!(words.plain(), ["table"]);
@@ -65,11 +70,112 @@ fn words_are_names_with_values_and_plain_ones() {
     assert_eq!(words.numbers("cuts"), Ok(vec![1, 32]));
     assert_eq!((words.seeds(), words.has("hex")), (Ok(3..7), true));
     assert_eq!(words.number("room", 5), Ok(5));
-    for wrong in ["--other 1", "--flags"] {
+    for wrong in ["--another 1", "--flags"] {
         assert!(read(wrong).is_err(), "{wrong}");
     }
-    assert!(read("--flags 16").unwrap().options().is_err());
+    assert!(read("--flags 32").unwrap().options().is_err());
     assert!(read("--flags 256").unwrap().options().is_err());
+    assert_eq!(
+        read("--other on").unwrap().on_or_off("other"),
+        Ok(Some(true))
+    );
+    assert_eq!(
+        read("--other off").unwrap().on_or_off("other"),
+        Ok(Some(false))
+    );
+    assert_eq!(words.on_or_off("other"), Ok(None));
+    assert!(read("--other 1").unwrap().on_or_off("other").is_err());
+}
+
+#[test]
+fn wishes_are_told_by_flags_or_by_a_profile() {
+    let options = |words: &str| {
+        let words = words.split(' ').map(str::to_owned);
+        let names = ["flags", "service", "profile"];
+        Arguments::read(words, &names, &[]).unwrap().options()
+    };
+    let captions = Options {
+        service: None,
+        caption: true,
+        carousel: false,
+        eit: false,
+        other: false,
+    };
+    let of_one = Options {
+        service: Some(0x0401),
+        ..captions
+    };
+    assert_eq!(options("--profile captions"), Ok(captions));
+    assert_eq!(options("--profile captions --service 0x0401"), Ok(of_one));
+    assert_eq!(options("--flags 0x11"), Ok(captions));
+    assert_eq!(options("--flags 0x19 --service 0x0401"), Ok(of_one));
+    assert_eq!(options("--flags 7").map(|options| options.other), Ok(true));
+    assert!(options("--profile video").is_err());
+    assert!(options("--profile captions --flags 0x11").is_err());
+}
+
+/// What the command writes to a run of cases or a table, and how it ends.
+fn command(words: &[&str], input: &[u8]) -> Output {
+    let mut child = Command::new(env!("CARGO_BIN_EXE_oracle"))
+        .args(words)
+        .stdin(Stdio::piped())
+        .stdout(Stdio::piped())
+        .stderr(Stdio::piped())
+        .spawn()
+        .expect("the command starts");
+    let mut stdin = child.stdin.take().expect("a pipe");
+    // One that refuses its words does not read.
+    let _ = stdin.write_all(input);
+    drop(stdin);
+    child.wait_with_output().expect("the command ends")
+}
+
+#[test]
+fn the_original_is_not_asked_without_other_assets() {
+    let wished = |other| {
+        let selection = Selection {
+            series: true,
+            narrowings: 2,
+        };
+        (0..9).flat_map(move |seed| wished_of_seed(seed, selection, Some(other)))
+    };
+    let (on, off): (Vec<u8>, Vec<u8>) = (wished(true).collect(), wished(false).collect());
+    let table = mpt(&[video(1), caption(2)]);
+    for (words, input) in [
+        (&["answers"][..], &[&on[..], &off].concat()),
+        (&["narrow", "table", "--flags", "0x11"], &table),
+        (&["run", "--profile", "captions"], &table),
+    ] {
+        let by = |filter| command(&[words, &["--by", filter]].concat(), input);
+        let refused = by("original");
+        assert_eq!(refused.status.code(), Some(2), "{words:?}");
+        assert!(refused.stdout.is_empty(), "{words:?}");
+        let message = String::from_utf8(refused.stderr).expect("text");
+        assert!(message.contains("the original can't be asked"), "{message}");
+        let (plain, usual) = (by("plain"), command(words, input));
+        assert!(plain.status.success() && !plain.stdout.is_empty());
+        assert_eq!(
+            (&usual.stdout, &by("oracle").stdout),
+            (&plain.stdout, &plain.stdout)
+        );
+    }
+    let answers = |filter| command(&["answers", "--by", filter], &on);
+    assert!(answers("original").status.success());
+    assert_eq!(answers("original").stdout, answers("plain").stdout);
+}
+
+#[test]
+fn words_that_do_not_go_together_are_refused() {
+    for words in [
+        &["cases", "--seeds", "0..1", "--other", "off"][..],
+        &["cases", "--seeds", "0..1", "--calls", "--other", "none"],
+        &["answers", "--by", "nobody"],
+        &["run", "--flags", "0x20"],
+    ] {
+        let output = command(words, &[]);
+        assert_eq!(output.status.code(), Some(2), "{words:?}");
+        assert!(output.stdout.is_empty() && !output.stderr.is_empty());
+    }
 }
 
 /// A short run of what the commands `compare` and `same` do at length.

@@ -3,7 +3,7 @@
 
 use face::{Kind, Limits};
 use oracle::answers::answers;
-use oracle::cases::{Case, Narrowing, Reader, Stream, Writer};
+use oracle::cases::{Calls, Case, Narrowing, Reader, Stream, Writer};
 use original::Original;
 use plain::Plain;
 
@@ -20,8 +20,9 @@ fn stream<'a>(chunks: &[&'a [u8]]) -> Stream<'a> {
     }
 }
 
-fn narrowing(kind: Kind, input: &[u8]) -> Narrowing<'_> {
+pub fn narrowing(kind: Kind, input: &[u8]) -> Narrowing<'_> {
     Narrowing {
+        with_modes: false,
         kind,
         options: only(0x0401),
         identifier: 0x1234,
@@ -30,18 +31,19 @@ fn narrowing(kind: Kind, input: &[u8]) -> Narrowing<'_> {
     }
 }
 
-fn written(cases: &[Case]) -> Vec<u8> {
+pub fn written(cases: &[Case]) -> Vec<u8> {
     let mut writer = Writer::default();
     for case in cases {
         match case {
             Case::Stream(stream) => writer.stream(stream),
+            Case::Calls(calls) => writer.calls(calls),
             Case::Narrowing(narrowing) => writer.narrowing(narrowing),
         }
     }
     writer.bytes
 }
 
-fn read(bytes: &[u8]) -> Vec<Case<'_>> {
+pub fn read(bytes: &[u8]) -> Vec<Case<'_>> {
     Reader::new(bytes).collect()
 }
 
@@ -68,12 +70,12 @@ fn what_is_written_is_read_again() {
 fn what_the_maker_makes_fits_the_format() {
     for seed in 0..100 {
         let (made, inputs) = (maker::case(seed), maker::inputs(seed));
+        let (calls, wished) = (maker::calls(seed), maker::wished_inputs(seed));
+        let narrowings = inputs.iter().map(Narrowing::from);
+        let narrowings = narrowings.chain(wished.iter().map(Narrowing::with_modes));
         let mut cases = vec![Case::Stream(Stream::from(&made))];
-        cases.extend(
-            inputs
-                .iter()
-                .map(|input| Case::Narrowing(Narrowing::from(input))),
-        );
+        cases.push(Case::Calls(Calls::from(&calls)));
+        cases.extend(narrowings.map(Case::Narrowing));
         assert_eq!(read(&written(&cases)), cases, "seed {seed}");
     }
 }
@@ -150,7 +152,7 @@ fn a_cut_chunk_ends_the_run_after_the_calls_before_it() {
 }
 
 /// How many cases are read of one that is written and changed at one place, and one behind it.
-fn read_with(case: Case, place: usize, bytes: &[u8]) -> usize {
+pub fn read_with(case: Case, place: usize, bytes: &[u8]) -> usize {
     let mut all = written(&[case, Case::Narrowing(narrowing(Kind::Table, &[]))]);
     all[place..place + bytes.len()].copy_from_slice(bytes);
     read(&all).len()
@@ -162,7 +164,7 @@ fn another_kind_or_flag_ends_the_run() {
         Case::Stream(stream(&[])),
         Case::Narrowing(narrowing(Kind::Table, &[])),
     ] {
-        for kind in [4, 0xff] {
+        for kind in [5, 6, 10, 0xff] {
             assert_eq!(read_with(case.clone(), 0, &[kind]), 0);
         }
         assert_eq!(read_with(case.clone(), 1, &[15]), 2);

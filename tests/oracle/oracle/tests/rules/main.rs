@@ -1,6 +1,8 @@
-//! 01's examples, the readings of its open sentences (a test named r02_... is of reading 2), its refusals
-//! and the formats, one small test each. Both filters are asked alike (see `subject.rs`).
+//! 01's examples, the readings of its open sentences (a test named r02_... is of reading 2), 02's requests, the
+//! refusals and the formats, one small test each. All filters are asked alike (see `subject.rs`).
 
+mod calls;
+mod captions;
 mod commands;
 mod examples;
 mod format;

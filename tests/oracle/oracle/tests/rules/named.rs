@@ -5,10 +5,12 @@ use std::collections::BTreeSet;
 use std::process::Command;
 
 use face::{Kind, Narrowed, Options};
-use oracle::cases::{Case, Narrowing, Reader, Stream};
-use oracle::named::{Answer, Named, NamedStream, named, streams};
+use maker::Operation;
+use oracle::cases::{Calls, Case, Narrowing, Reader, Stream};
+use oracle::named::{Answer, Named, NamedCalls, NamedStream, Reply, Requested};
+use oracle::named::{named, requested, streams};
 
-use crate::subject::Subject;
+use crate::subject::{Subject, each_knowing};
 
 fn damaged() -> Vec<Named> {
     let cases = named().into_iter();
@@ -20,9 +22,15 @@ fn damaged() -> Vec<Named> {
 #[test]
 fn names_are_unique() {
     let (cases, streams) = (named(), streams());
+    let requested = requested();
     let names = cases.iter().map(|case| &case.name);
-    let names: BTreeSet<_> = names.chain(streams.iter().map(|case| &case.name)).collect();
-    assert_eq!(names.len(), cases.len() + streams.len());
+    let names = names.chain(streams.iter().map(|case| &case.name));
+    let names = names.chain(requested.iter().map(|case| match case {
+        Requested::Narrowing(case) => &case.name,
+        Requested::Calls(calls) => &calls.name,
+    }));
+    let names: BTreeSet<_> = names.collect();
+    assert_eq!(names.len(), cases.len() + streams.len() + requested.len());
 }
 
 /// The second filter answers as the original does, and both as is stated.
@@ -71,7 +79,73 @@ fn answers_are_those_that_stand_beside_the_streams() {
     }
 }
 
-/// Starts are refused by each number that one can have, and calls by each that one can have after a start.
+/// What a filter answers to calls. After a refused push as much is held as before it.
+fn asked(filter: &Subject, calls: &NamedCalls) -> Result<Vec<Reply>, u8> {
+    let case = &calls.case;
+    let mut run = (filter.start)(case.limits, case.options)?;
+    let answer = |operation: &Operation| match operation {
+        Operation::Push { room, chunk } => {
+            let held = run.held();
+            let call = run.push(chunk, *room);
+            assert!(call.is_ok() || run.held() == held, "{}", calls.name);
+            Reply::Push(call)
+        }
+        Operation::Dropped => Reply::Dropped(run.dropped()),
+    };
+    Ok(case.operations.iter().map(answer).collect())
+}
+
+/// Every filter that knows the options answers as is stated.
+#[test]
+fn answers_are_those_that_stand_beside_the_cases_of_requests() {
+    for case in requested() {
+        match case {
+            Requested::Narrowing(Named {
+                name,
+                input,
+                answer,
+            }) => {
+                let answer = answer.expect("its answer stands beside it");
+                each_knowing(input.options, |filter| {
+                    assert_eq!(filter.answer(&input), answer, "{name}");
+                });
+            }
+            Requested::Calls(calls) => each_knowing(calls.case.options, |filter| {
+                assert_eq!(asked(filter, &calls), calls.answer, "{}", calls.name);
+            }),
+        }
+    }
+}
+
+/// What is named for request 1: each flag byte, each refusal, and each kind with each answer.
+#[test]
+fn the_cases_of_request_1_occur() {
+    let (mut starts, mut narrowed) = (BTreeSet::new(), BTreeSet::new());
+    let (mut refused, mut changed) = (BTreeSet::new(), 0);
+    for case in requested() {
+        match case {
+            Requested::Narrowing(case) => {
+                narrowed.insert(case.input.options.flags());
+                changed += usize::from(matches!(case.answer, Some(Narrowed::Changed { .. })));
+            }
+            Requested::Calls(calls) => {
+                starts.insert(calls.case.options.flags());
+                refused.extend(calls.answer.as_ref().err());
+                let pushes = calls.answer.into_iter().flatten();
+                refused.extend(pushes.filter_map(|reply| match reply {
+                    Reply::Push(call) => call.err(),
+                    Reply::Dropped(_) => None,
+                }));
+            }
+        }
+    }
+    assert_eq!(starts, (0..32).collect());
+    assert!((0..8).all(|wishes| narrowed.contains(&wishes) && narrowed.contains(&(16 | wishes))));
+    assert_eq!(refused, BTreeSet::from([1, 2, 3, 5, 6, 9]));
+    assert!(changed > 40, "{changed}");
+}
+
+/// Starts are refused by each number of 01 that one can have, and calls by each that one can have after a start.
 #[test]
 fn all_refusals_of_starts_and_calls_occur() {
     let (mut starts, mut pushes) = (BTreeSet::new(), BTreeSet::new());
@@ -180,7 +254,12 @@ fn the_command_writes_them_in_order() {
     let streams = streams
         .iter()
         .map(|stream| Case::Stream(Stream::from(&stream.case)));
-    let expected: Vec<_> = narrowings.chain(streams).collect();
+    let requested = requested();
+    let requested = requested.iter().map(|case| match case {
+        Requested::Narrowing(case) => Case::Narrowing(Narrowing::with_modes(&case.input)),
+        Requested::Calls(calls) => Case::Calls(Calls::from(&calls.case)),
+    });
+    let expected: Vec<_> = narrowings.chain(streams).chain(requested).collect();
     let bytes = cases(&["--named"]);
     assert!(bytes.len() < 1_500_000, "{} bytes", bytes.len());
     assert_eq!(Reader::new(&bytes).collect::<Vec<_>>(), expected);
@@ -196,4 +275,39 @@ fn without_streams_the_narrowings_of_the_same_seeds_are_left() {
     assert_eq!(streams.len(), 60);
     assert!(without.iter().all(narrowing) && without.len() > 60);
     assert_eq!(without, left);
+}
+
+#[test]
+fn of_calls_the_series_and_the_narrowings_can_be_had_alone() {
+    let seeds = ["--seeds", "0..60", "--calls"];
+    let words = |more: &[&'static str]| cases(&[&seeds, more].concat());
+    let (all, series, narrowings) = (
+        words(&[]),
+        words(&["--narrowing", "0"]),
+        words(&["--streams", "0"]),
+    );
+    let is_calls = |case: &Case| matches!(case, Case::Calls(_));
+    let with_modes = |case: &Case| matches!(case, Case::Narrowing(case) if case.with_modes);
+    let (calls, rest): (Vec<_>, Vec<_>) = Reader::new(&all).partition(is_calls);
+    assert_eq!(calls.len(), 60);
+    assert!(rest.iter().all(with_modes) && rest.len() == 60 * 8);
+    assert_eq!(Reader::new(&series).collect::<Vec<_>>(), calls);
+    assert_eq!(Reader::new(&narrowings).collect::<Vec<_>>(), rest);
+}
+
+#[test]
+fn other_on_and_off_part_the_cases_of_the_same_seeds() {
+    let words = |more: &[&'static str]| cases(&[&["--seeds", "0..60", "--calls"], more].concat());
+    let (all, on, off) = (
+        words(&[]),
+        words(&["--other", "on"]),
+        words(&["--other", "off"]),
+    );
+    let (wanted, unwanted): (Vec<_>, Vec<_>) =
+        Reader::new(&all).partition(|case| case.options().other);
+    assert!(wanted.len() > 100 && unwanted.len() > 100);
+    assert_eq!(Reader::new(&on).collect::<Vec<_>>(), wanted);
+    assert_eq!(Reader::new(&off).collect::<Vec<_>>(), unwanted);
+    let few = words(&["--other", "off", "--streams", "0", "--narrowing", "1"]);
+    assert_eq!(Reader::new(&few).count(), 60, "one is left of each seed");
 }

@@ -3,16 +3,20 @@
 use std::io::Read;
 
 use face::Engine;
+use oracle::engine::Oracle;
 use original::Original;
 use plain::Plain;
 
 use oracle::builders::*;
 
-/// What `sums` and `filter` write, with either filter behind them.
+/// What `sums` and `filter` write, with any filter behind them that knows the flags.
 fn written(input: &[u8]) -> [Vec<u8>; 2] {
-    let original = written_by::<Original>(input);
-    assert_eq!(original, written_by::<Plain>(input));
-    original
+    let oracle = written_by::<Oracle>(input);
+    assert_eq!(oracle, written_by::<Plain>(input));
+    if !matches!(input, [0x10..0x20, _, _, ..]) {
+        assert_eq!(oracle, written_by::<Original>(input));
+    }
+    oracle
 }
 
 fn written_by<E: Engine>(input: &[u8]) -> [Vec<u8>; 2] {
@@ -46,10 +50,47 @@ fn the_example_of_sums() {
 
 #[test]
 fn refusal_8_is_one_line_and_nothing_after_it() {
-    for input in [&[][..], &[0], &[0, 0], &[16, 0, 0, 1], &[0x80, 0, 0]] {
+    for input in [
+        &[][..],
+        &[0],
+        &[0, 0],
+        &[32, 0, 0, 1],
+        &[0x80, 0, 0],
+        &[0x30, 0, 0],
+        &[0x11, 0],
+    ] {
         assert_eq!(written(input), [b"refused 8\n", b"refused 8\n"]);
     }
     assert_eq!(written(&[15, 0, 0])[1], b"");
+    assert_eq!(written(&[31, 0, 0])[1], b"");
+}
+
+/// Bit 4 without bit 0, whatever the other bits say.
+#[test]
+fn refusal_9_is_one_line_and_nothing_after_it() {
+    for flags in [0x10, 0x12, 0x14, 0x16, 0x18, 0x1e] {
+        for stream in [&[][..], &short_packet()] {
+            let input = [&[flags, 4, 1][..], stream].concat();
+            assert_eq!(written(&input), [b"refused 9\n", b"refused 9\n"]);
+        }
+    }
+}
+
+fn short_packet() -> Vec<u8> {
+    hex("7F FF 00 01 AA")
+}
+
+#[test]
+fn bit_4_takes_other_assets_out() {
+    let packet = |entries: &[Vec<u8>]| tables(0xf000, &[mpt(entries)]);
+    let all = [video(3), caption(1), carousel(2)];
+    let filtered = |flags| written(&[&[flags, 0, 0][..], &packet(&all)].concat())[1].clone();
+    assert_eq!(filtered(0x17), packet(&all[1..]));
+    assert_eq!(filtered(0x11), packet(&all[1..2]));
+    assert_eq!(filtered(0x07), packet(&all), "copy-all");
+    assert_eq!(filtered(0x05), packet(&all[..2]));
+    let packets = "packets 1 written 1 rewritten 1 skipped 0 held 0 lost 0\n";
+    assert_eq!(sums(&[&[0x17, 0, 0][..], &packet(&all)].concat()), packets);
 }
 
 #[test]
@@ -97,12 +138,34 @@ fn r34_a_flag_that_is_on_is_wanted() {
 }
 
 #[test]
-fn inputs_of_seeds_are_filtered_and_the_example_is_narrowed() {
-    for seed in 0..12 {
-        written(&oracle::programs::input(seed));
-    }
+fn the_example_is_narrowed() {
     let example = oracle::programs::input(0);
     let [sums, filtered] = written(&example);
     assert!(0 < filtered.len() && filtered.len() < example.len() - 3);
     assert!(!String::from_utf8_lossy(&sums).contains("rewritten 0"));
+}
+
+/// Up to seed 23 other assets are wanted, and from there on not; each eighth of these is refused.
+#[test]
+fn further_seeds_are_without_other_assets() {
+    let mut wishes = std::collections::BTreeSet::new();
+    for seed in 0..48 {
+        let input = oracle::programs::input(seed);
+        assert_eq!(input[0] & 0x10 != 0, seed >= 24, "seed {seed}");
+        let [_, filtered] = written(&input);
+        let refused = seed >= 24 && seed % 8 == 0;
+        assert_eq!(filtered == b"refused 9\n", refused, "seed {seed}");
+        assert!(seed < 24 || refused || filtered.len() < input.len() - 3);
+        wishes.insert(input[0]);
+    }
+    let captions: Vec<_> = wishes
+        .iter()
+        .filter(|flags| **flags & 0x11 == 0x11)
+        .collect();
+    assert_eq!(
+        captions.len(),
+        8,
+        "carousels, EIT and a service in all ways"
+    );
+    assert!(wishes.iter().any(|flags| *flags & 0x11 == 0x10));
 }

@@ -1,8 +1,8 @@
 //! 01's refusal numbers: each limit from both sides, the lowest number first, and nothing changed.
 
-use face::{Call, Counts, Kind, Limits, Narrowed};
+use face::{Call, Counts, Kind, Limits, Narrowed, Options};
 
-use crate::subject::{LIMITS, each};
+use crate::subject::{LIMITS, each, each_knowing};
 use oracle::builders::*;
 
 fn start(limits: Limits, expected: Option<u8>) {
@@ -72,6 +72,22 @@ fn the_lowest_number_is_given() {
         let narrowed = (filter.narrow)(Kind::Table, ALL, 0, &[0; 65_540], 0);
         assert_eq!(narrowed, Narrowed::Refused(5));
     });
+}
+
+/// Neither captions nor other assets: 9, after 1, 2 and 3. Every other combination starts.
+#[test]
+fn wishes() {
+    for flags in 0..32 {
+        let options = Options::from_flags(flags, 0x0401);
+        let refusal = (flags & 0x11 == 0x10).then_some(9);
+        each_knowing(options, |filter| {
+            let start = |limits| (filter.start)(limits, options).err();
+            assert_eq!(start(LIMITS), refusal, "{flags:#x}");
+            assert_eq!(start(Limits { maps: 0, ..LIMITS }), Some(3), "{flags:#x}");
+            assert_eq!(start(Limits { most: 0, ..LIMITS }), Some(2), "{flags:#x}");
+            assert_eq!(start(Limits { work: 0, ..LIMITS }), Some(1), "{flags:#x}");
+        });
+    }
 }
 
 /// W of an odd length: P is half of it rounded down, and the chunk may have the rest.

@@ -2,6 +2,7 @@
 
 use face::{Call, Engine, Kind, Limits, Narrowed, Options};
 use maker::Input;
+use oracle::engine::Oracle;
 use original::Original;
 use plain::Plain;
 
@@ -13,35 +14,52 @@ pub const LIMITS: Limits = Limits {
     maps: 32_768,
 };
 
-/// Runs a test with each filter.
+/// Runs a test with the original and with the second filter.
 pub fn each(test: impl Fn(&Subject)) {
-    for (name, subject) in [
-        ("original", Subject::original()),
-        ("plain", Subject::plain()),
-    ] {
-        // Shown where the test fails.
-        println!("asked: {name}");
-        test(&subject);
+    for subject in [Subject::original(), Subject::plain()] {
+        subject.run(&test);
+    }
+}
+
+/// Runs a test with each filter that knows these options: the second one, the oracle, and where it can be asked the
+/// original.
+pub fn each_knowing(options: Options, test: impl Fn(&Subject)) {
+    let original = Original::knows(&options).then(Subject::original);
+    let others = [Subject::plain(), Subject::oracle()];
+    for subject in others.into_iter().chain(original) {
+        subject.run(&test);
     }
 }
 
 /// `Engine`'s functions, and `Running` its methods, as values.
 pub struct Subject {
+    name: &'static str,
     pub start: fn(Limits, Options) -> Result<Run, u8>,
     pub narrow: fn(Kind, Options, u16, &[u8], usize) -> Narrowed,
 }
 
 impl Subject {
     pub fn original() -> Self {
-        Self::of::<Original>()
+        Self::of::<Original>("original")
     }
 
     pub fn plain() -> Self {
-        Self::of::<Plain>()
+        Self::of::<Plain>("plain")
     }
 
-    fn of<E: Engine + 'static>() -> Self {
+    pub fn oracle() -> Self {
+        Self::of::<Oracle>("oracle")
+    }
+
+    fn run(&self, test: impl Fn(&Self)) {
+        // Shown where the test fails.
+        println!("asked: {}", self.name);
+        test(self);
+    }
+
+    fn of<E: Engine + 'static>(name: &'static str) -> Self {
         Self {
+            name,
             start: |limits, options| {
                 E::start(limits, options).map(|engine| Box::new(engine) as Run)
             },

@@ -1,0 +1,49 @@
+use Rattle.cases.proofs.Laws.{narrowing-is}
+use borrow.Author.Needs.{needs}
+use Rattle.cases.proofs.asked_at.Statement.{statement}
+use Rattle.cases.proofs.asked_at.Tie as tie
+
+shared-slice-read-options-of : tie.Need-shared-slice-read-options-of
+shared-slice-read-options-of c = search needs
+
+id16-requires : tie.Need-id16-requires
+id16-requires c κs = search needs
+
+options-of-requires : tie.Need-options-of-requires
+options-of-requires c κs = search needs
+
+add-id16 : tie.Need-add-id16
+add-id16 c = search needs
+
+id16-requires-2 : tie.Need-id16-requires-2
+id16-requires-2 c κs = search needs
+
+add-be32 : tie.Need-add-be32
+add-be32 c = search needs
+
+be32-requires : tie.Need-be32-requires
+be32-requires c κs = search needs
+
+add-be32-2 : tie.Need-add-be32-2
+add-be32-2 c = search needs
+
+be32-requires-2 : tie.Need-be32-requires-2
+be32-requires-2 c κs = search needs
+
+returns : tie.Need-returns
+returns c = let a = c .before .before .before .before .before .before .before .args in narrowing-is (a .head .now) (a .at) (c .before .before .before .before .id16 .ensures) (c .before .before .before .options-of .ensures) (c .before .before .id162 .ensures) (c .before .be32 .ensures .0) (c .be322 .ensures .0)
+
+pub asked-at-spec : {M : Type 1} → statement M
+asked-at-spec =
+    tie.close
+    (tie.spec
+    shared-slice-read-options-of
+    id16-requires
+    options-of-requires
+    add-id16
+    id16-requires-2
+    add-be32
+    be32-requires
+    add-be32-2
+    be32-requires-2
+    returns)
