@@ -13,8 +13,8 @@ use Rattle.meaning.specs.declared.Narrowing.{Narrowing}
 use Rattle.meaning.specs.declared.Options.{Options}
 use Rattle.narrowing.specs.Answers.{NarrowedAs}
 use Rattle.programs.proofs.LineLaws.{wrote-within}
-use Rattle.cases.specs.declared.Asked.{Asked}
-use Rattle.cases.specs.Answers.{threeBytes, rowBytes, frontBytes, changeAs, narrowingAt}
+use Rattle.cases.specs.declared.Head.{Head}
+use Rattle.cases.specs.Answers.{threeBytes, rowBytes, frontBytes, changeAs, headAt}
 
 pub three-long : (a b c : ℕ) → length (threeBytes a b c) ≡ 12
 unfolding threeBytes put32 put16
@@ -41,10 +41,10 @@ module _ (case-kind : ℕ) (o : Options) (id : ℕ) (input : Bytes) where
   unfolding changeAs
   case-packet n m = rw (ne-eqb case-kind 1 n, ne-eqb case-kind 2 m)
 
-pub narrowing-is : (s : Bytes) (at : ℕ) {o : Options} {p id out input : ℕ} → p ≡ be16At s at → o ≡ optionsOf (getD s 0 0) p → id ≡ be16At s (at + 2) → out ≡ be32At s (at + 4)
-    → input ≡ be32At s (at + 8) → _≡_ {A = Asked} (record { options = o; id = id; out = out; input = input }) (narrowingAt s at)
-unfolding narrowingAt
-narrowing-is s at i o d x n = rw (o, i, d, x, n)
+pub head-is : (s : Bytes) (at : ℕ) {o : Options} {p id out input : ℕ} → p ≡ be16At s at → o ≡ optionsOf (getD s 0 0) p → id ≡ be16At s (at + 2) → out ≡ be32At s (at + 4)
+    → input ≡ be32At s (at + 8) → _≡_ {A = Head} (record { options = o; id = id; out = out; input = input }) (headAt s at)
+unfolding headAt
+head-is s at i o d x n = rw (o, i, d, x, n)
 
 pub told-within : (x : ℕ) (n : Option Change) (d d′ : Bytes) (r : Narrowing) (s w : List ℕ) → NarrowedAs x n d d′ r s w → narrowingLength r ≤ length d′
 told-within x n d d′ r s w h = wrote-within (h .written)

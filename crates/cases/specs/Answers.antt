@@ -11,7 +11,7 @@ use Rattle.meaning.specs.Refusals.{narrowingNumber, narrowingChanged, narrowing
 use Rattle.meaning.specs.Programs.{optionsOf}
 use Rattle.meaning.specs.declared.Narrowing.{Narrowing}
 use Rattle.meaning.specs.declared.Options.{Options}
-use Rattle.cases.specs.declared.Asked.{Asked}
+use Rattle.cases.specs.declared.Head.{Head}
 
 unfoldable pub changedFlag : Narrowing → ℕ
 unfolding narrowingChanged
@@ -35,6 +35,6 @@ headBytes n stayed went = frontBytes n ++ (rowBytes stayed ++ rowBytes went)
 unfoldable pub changeAs : ℕ → Options → ℕ → Bytes → Option Change
 changeAs case-kind o id input = cond (eqb case-kind 1) (changeTable o input) (cond (eqb case-kind 2) (changePayload o id input) (changePacket o input))
 
--- What the head of a narrowing asks for: flags or wishes first; from an offset on service, identifier, and the lengths of output and input.
-unfoldable pub narrowingAt : Bytes → ℕ → Asked
-narrowingAt s at = record { options = optionsOf (getD s 0 0) (be16At s at); id = be16At s (at + 2); out = be32At s (at + 4); input = be32At s (at + 8) }
+-- The head of a narrowing: flags or wishes first; from an offset on service, identifier, and the lengths of output and input.
+unfoldable pub headAt : Bytes → ℕ → Head
+headAt s at = record { options = optionsOf (getD s 0 0) (be16At s at); id = be16At s (at + 2); out = be32At s (at + 4); input = be32At s (at + 8) }

@@ -2,8 +2,13 @@
 use Prim.Native.Nat.{ℕ, _≤_}
 use mathlib.Core.Bool.{Bool, true, false}
 use mathlib.Core.List.{[], _∷_, _++_}
-use Rattle.meaning.specs.Bytes.{Bytes, put32}
+use Rattle.meaning.specs.Bytes.{Bytes, be32At, put32}
+use Rattle.cases.specs.declared.calls.Lengths.{Lengths}
 use Rattle.cases.specs.declared.calls.Next.{Next}
+
+-- The length of the output, then that of the chunk.
+unfoldable pub lengthsOf : Bytes → Lengths
+lengthsOf s = record { out = be32At s 0; chunk = be32At s 4 }
 
 -- A push fits an output of at most `most` bytes and a room for chunks of so many.
 abbrev pub NextFits : Next → ℕ → ℕ → Type 0

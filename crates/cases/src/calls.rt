@@ -4,7 +4,7 @@ ghost use mathlib.Core.Path.{_≡_};
 ghost use Prim.Native.Nat.{_≤_};
 ghost use lib.ListN.{length};
 ghost use Rattle.meaning.specs.Writing.{Wrote};
-ghost use Rattle.cases.specs.Calls.{NextFits, wasRead, droppedBytes};
+ghost use Rattle.cases.specs.Calls.{lengthsOf, NextFits, wasRead, droppedBytes};
 use crate::BODIES;
 use crate::INPUT;
 use crate::MAP_ROOM;
@@ -40,6 +40,16 @@ pub enum Next {
     Unread,
 }
 
+fn lengths_of(s: &[u8; 8]) -> Lengths
+    requires { ⌜ length (now s) ≡ 8 ⌝ }
+    ensures { λ r. ⌜ r ≡ lengthsOf (now (s .entry)) ⌝ }
+{
+    Lengths {
+        out: be32(s, 0),
+        chunk: be32(s, 4),
+    }
+}
+
 // A push, with an output of at most `most` bytes.
 fn read_push(chunk: &mut [u8], most: usize) -> Next
     ensures { λ r. ⌜ NextFits r most (length (now (chunk .entry))) ⌝ }
@@ -48,18 +58,17 @@ fn read_push(chunk: &mut [u8], most: usize) -> Next
     if !fill_all(&mut lengths) {
         return Next::Unread;
     }
-    let out = be32(&lengths, 0);
-    let len = be32(&lengths, 4);
-    if most < out {
+    let l = lengths_of(&lengths);
+    if most < l.out {
         return Next::Unread;
     }
-    if chunk.len() < len {
+    if chunk.len() < l.chunk {
         return Next::Unread;
     }
-    if !read_front(chunk, len) {
+    if !read_front(chunk, l.chunk) {
         return Next::Unread;
     }
-    Next::Push(Lengths { out, chunk: len })
+    Next::Push(l)
 }
 
 fn read_next(chunk: &mut [u8], most: usize) -> Next

@@ -9,7 +9,7 @@ ghost use Rattle.meaning.specs.Writing.{Wrote};
 ghost use Rattle.meaning.specs.Narrow.{narrowRefusal};
 ghost use Rattle.meaning.specs.Refusals.{narrowingNumber, narrowingLength};
 ghost use Rattle.narrowing.specs.Answers.{NarrowedAs};
-ghost use Rattle.cases.specs.Answers.{changedFlag, threeBytes, rowBytes, frontBytes, headBytes, changeAs, narrowingAt};
+ghost use Rattle.cases.specs.Answers.{changedFlag, threeBytes, rowBytes, frontBytes, headBytes, changeAs, headAt};
 
 mod calls;
 mod streams;
@@ -149,20 +149,20 @@ fn answer_case(case_kind: u8, o: Options, id: u16, input: &mut [u8], out: &mut [
     tell(r, out)
 }
 
-// What the head of a narrowing asks for: service and wishes, the identifier, and the lengths of the output and of the input.
-pub struct Asked {
+// The head of a narrowing: service and wishes, the identifier, and the lengths of the output and of the input.
+pub struct Head {
     pub options: Options,
     pub id: u16,
     pub out: usize,
     pub input: usize,
 }
 
-// What a head asks for whose service, identifier and lengths stand from `at` on, behind flags or wishes.
-fn asked_at(head: &[u8], at: usize) -> Asked
+// A head whose service, identifier and lengths stand from `at` on, behind flags or wishes.
+fn head_at(head: &[u8], at: usize) -> Head
     requires { ⌜ at + 12 ≤ length (now head) ⌝ }
-    ensures { λ r. ⌜ r ≡ narrowingAt (now (head .entry)) at ⌝ }
+    ensures { λ r. ⌜ r ≡ headAt (now (head .entry)) at ⌝ }
 {
-    Asked {
+    Head {
         options: options_of(head[0], id16(head, at)),
         id: id16(head, at + 2),
         out: be32(head, at + 4),
@@ -171,7 +171,7 @@ fn asked_at(head: &[u8], at: usize) -> Asked
 }
 
 // One narrowing, within the rooms that are lent; answers whether another case may follow.
-fn one_narrowing(case_kind: u8, h: Asked, input: &mut [u8], out: &mut [u8]) -> bool {
+fn one_narrowing(case_kind: u8, h: Head, input: &mut [u8], out: &mut [u8]) -> bool {
     let n = h.out;
     let len = h.input;
     if out.len() < n {
@@ -193,7 +193,7 @@ fn plain_case(case_kind: u8, input: &mut [u8; INPUT], out: &mut [u8; OUTPUT]) ->
     if 15 < head[0] {
         return false;
     }
-    one_narrowing(case_kind, asked_at(&head, 1), input, out)
+    one_narrowing(case_kind, head_at(&head, 1), input, out)
 }
 
 // One case of case kind 7 to 9, which are 1 to 3 with the wishes of case kind 4 and a byte of modes: there is no mode yet.
@@ -208,7 +208,7 @@ fn case_with_modes(case_kind: u8, input: &mut [u8; INPUT], out: &mut [u8; OUTPUT
     if head[1] != 0 {
         return false;
     }
-    one_narrowing(case_kind % 6, asked_at(&head, 2), input, out)
+    one_narrowing(case_kind % 6, head_at(&head, 2), input, out)
 }
 
 // One case after its case kind; answers whether another may follow.

@@ -1,7 +1,7 @@
-use Rattle.cases.proofs.Laws.{narrowing-is}
+use Rattle.cases.proofs.Laws.{head-is}
 use borrow.Author.Needs.{needs}
-use Rattle.cases.proofs.asked_at.Statement.{statement}
-use Rattle.cases.proofs.asked_at.Tie as tie
+use Rattle.cases.proofs.head_at.Statement.{statement}
+use Rattle.cases.proofs.head_at.Tie as tie
 
 shared-slice-read-options-of : tie.Need-shared-slice-read-options-of
 shared-slice-read-options-of c = search needs
@@ -31,10 +31,10 @@ be32-requires-2 : tie.Need-be32-requires-2
 be32-requires-2 c κs = search needs
 
 returns : tie.Need-returns
-returns c = let a = c .before .before .before .before .before .before .before .args in narrowing-is (a .head .now) (a .at) (c .before .before .before .before .id16 .ensures) (c .before .before .before .options-of .ensures) (c .before .before .id162 .ensures) (c .before .be32 .ensures .0) (c .be322 .ensures .0)
+returns c = let a = c .before .before .before .before .before .before .before .args in head-is (a .head .now) (a .at) (c .before .before .before .before .id16 .ensures) (c .before .before .before .options-of .ensures) (c .before .before .id162 .ensures) (c .before .be32 .ensures .0) (c .be322 .ensures .0)
 
-pub asked-at-spec : {M : Type 1} → statement M
-asked-at-spec =
+pub head-at-spec : {M : Type 1} → statement M
+head-at-spec =
     tie.close
     (tie.spec
     shared-slice-read-options-of
