@@ -11,7 +11,9 @@ use Rattle.meaning.proofs.ListLaws.{and-both}
 use Rattle.meaning.specs.Bytes.{Bytes, be16At, be32At}
 use Rattle.meaning.specs.Programs.{optionsOf}
 use Rattle.meaning.specs.declared.Options.{Options}
+use Rattle.meaning.specs.declared.Modes.{Modes}
 use Rattle.cases.specs.declared.streams.Asked.{Asked}
+use Rattle.cases.specs.Answers.{modesOf}
 use Rattle.cases.specs.Streams.{askedAt, headFits, LengthsFit}
 
 module _ {s : Bytes} {most : ℕ} where
@@ -39,11 +41,11 @@ module _ {s : Bytes} {most : ℕ} where
   pub not-fit : {n i len : ℕ} → i < n → len ≡ be32At s (4 * i) → most < len → LengthsFit s n most → ⊥
   not-fit {n} {i} {len} h e l f = let z : len ≤ most = fit-one f h e in omega arith
 
-pub asked-is : (s : Bytes) (at : ℕ) {o : Options} {p work total most map-room out calls : ℕ} → p ≡ be16At s at → o ≡ optionsOf (getD s 0 0) p → work ≡ be32At s (at + 2)
+pub asked-is : (s : Bytes) (at modes : ℕ) {o : Options} {M : Modes} {p work total most map-room out calls : ℕ} → p ≡ be16At s at → o ≡ optionsOf (getD s 0 0) p → M ≡ modesOf modes → work ≡ be32At s (at + 2)
     → total ≡ be32At s (at + 6) → most ≡ be32At s (at + 10) → map-room ≡ be32At s (at + 14)
-    → _≡_ {A = Asked} (record { options = o; work = work; total = total; most = most; «map_room» = map-room; out = out; calls = calls }) (askedAt s at out calls)
+    → _≡_ {A = Asked} (record { options = o; modes = M; work = work; total = total; most = most; «map_room» = map-room; out = out; calls = calls }) (askedAt s at modes out calls)
 unfolding askedAt
-asked-is s at i o w t m n = rw (o, i, w, t, m, n)
+asked-is s at modes i o k w t m n = rw (o, i, k, w, t, m, n)
 
 -- Each room is as long as is asked for, and there are no more calls than the program has lengths for.
 pub record Roomy (h : Asked) (work total map-room out : ℕ) : Type 0 where

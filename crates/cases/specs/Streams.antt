@@ -14,12 +14,14 @@ use Rattle.recorder.specs.declared.Filter.{Filter}
 use Rattle.recorder.specs.declared.Pushed.{Pushed}
 use Rattle.recorder.specs.Calls.{PushedAs}
 use Rattle.cases.specs.declared.streams.Asked.{Asked}
-use Rattle.cases.specs.Answers.{threeBytes}
+use Rattle.cases.specs.Answers.{threeBytes, modesOf}
 
 -- Flags or wishes first; from an offset on service, W, T, M and the length of the map room. Output and number of calls stand elsewhere.
-unfoldable pub askedAt : Bytes → ℕ → ℕ → ℕ → Asked
-askedAt s at out calls = record {
+unfoldable pub askedAt : Bytes → ℕ → ℕ → ℕ → ℕ → Asked
+unfolding modesOf
+askedAt s at modes out calls = record {
   options = optionsOf (getD s 0 0) (be16At s at);
+  modes = modesOf modes;
   work = be32At s (at + 2);
   total = be32At s (at + 6);
   most = be32At s (at + 10);

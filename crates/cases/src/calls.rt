@@ -204,7 +204,7 @@ fn started(
     out: &mut [u8],
 ) -> bool {
     let o = h.options;
-    let s = start(work, bodies, map_room, h.most, o);
+    let s = start(work, bodies, map_room, h.most, o, h.modes);
     let a = s.answer;
     let number = [answer_number(a); 1];
     if !write_all(&number) {
@@ -232,10 +232,11 @@ fn one_run(
     if 31 < head[0] {
         return false;
     }
-    if head[1] != 0 {
+    let modes = head[1];
+    if 1 < modes {
         return false;
     }
-    let h = asked_at(&head, 2, 0, be16(&head, 20));
+    let h = asked_at(&head, 2, modes, 0, be16(&head, 20));
     if !head_fits(h, work.len(), bodies.len(), map_room.len(), out.len()) {
         return false;
     }

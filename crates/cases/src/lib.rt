@@ -9,13 +9,14 @@ ghost use Rattle.meaning.specs.Writing.{Wrote};
 ghost use Rattle.meaning.specs.Narrow.{narrowRefusal};
 ghost use Rattle.meaning.specs.Refusals.{narrowingNumber, narrowingLength};
 ghost use Rattle.narrowing.specs.Answers.{NarrowedAs};
-ghost use Rattle.cases.specs.Answers.{changedFlag, threeBytes, rowBytes, frontBytes, headBytes, changeAs, headAt};
+ghost use Rattle.cases.specs.Answers.{changedFlag, threeBytes, rowBytes, frontBytes, headBytes, changeAs, modesOf, headAt};
 
 mod calls;
 mod streams;
 
 use crate::calls::calls;
 use crate::streams::stream;
+use meaning::Modes;
 use meaning::Narrowing;
 use meaning::Options;
 use narrowing::narrow::Narrowed;
@@ -128,42 +129,67 @@ fn tell(r: Narrowed, out: &[u8]) -> bool
 }
 
 // The answer to a case of case kind 1 to 3, or to one of 7 to 9 that is the same with modes.
-fn narrow(case_kind: u8, o: Options, id: u16, input: &[u8], out: &mut [u8]) -> Narrowed
-    ensures { λ r. ⌜ NarrowedAs (narrowRefusal (length (now (input .entry))) (length (now (out .entry)))) (changeAs «case_kind» o id (now (input .entry))) (now (out .entry)) (now (out .exit)) (r .narrowing) (r .stayed) (r .went) ⌝ }
+fn narrow(
+    case_kind: u8,
+    o: Options,
+    modes: Modes,
+    id: u16,
+    input: &[u8],
+    out: &mut [u8],
+) -> Narrowed
+    ensures { λ r. ⌜ NarrowedAs (narrowRefusal (length (now (input .entry))) (length (now (out .entry)))) (changeAs «case_kind» modes o id (now (input .entry))) (now (out .entry)) (now (out .exit)) (r .narrowing) (r .stayed) (r .went) ⌝ }
 {
     if case_kind == 1 {
         return narrow_table(input, o, out);
     }
     if case_kind == 2 {
-        return narrow_payload(input, id, o, out);
+        return narrow_payload(input, id, o, modes, out);
     }
-    narrow_packet(input, o, out)
+    narrow_packet(input, o, modes, out)
 }
 
 // The input of a case, its narrowing and the answer; answers whether another may follow.
-fn answer_case(case_kind: u8, o: Options, id: u16, input: &mut [u8], out: &mut [u8]) -> bool {
+fn answer_case(
+    case_kind: u8,
+    o: Options,
+    modes: Modes,
+    id: u16,
+    input: &mut [u8],
+    out: &mut [u8],
+) -> bool {
     if !fill_all(input) {
         return false;
     }
-    let r = narrow(case_kind, o, id, input, out);
+    let r = narrow(case_kind, o, modes, id, input, out);
     tell(r, out)
 }
 
-// The head of a narrowing: service and wishes, the identifier, and the lengths of the output and of the input.
+// The modes of a byte, one bit each.
+pub fn modes_of(bits: u8) -> Modes
+    ensures { λ r. ⌜ r ≡ modesOf bits ⌝ }
+{
+    Modes {
+        plain_ip: bits % 2 == 1,
+    }
+}
+
+// The head of a narrowing: service and wishes, the modes, the identifier, and the lengths of the output and of the input.
 pub struct Head {
     pub options: Options,
+    pub modes: Modes,
     pub id: u16,
     pub out: usize,
     pub input: usize,
 }
 
-// A head whose service, identifier and lengths stand from `at` on, behind flags or wishes.
-fn head_at(head: &[u8], at: usize) -> Head
+// A head whose service, identifier and lengths stand from `at` on, behind flags or wishes, with the modes of a byte.
+fn head_at(head: &[u8], at: usize, modes: u8) -> Head
     requires { ⌜ at + 12 ≤ length (now head) ⌝ }
-    ensures { λ r. ⌜ r ≡ headAt (now (head .entry)) at ⌝ }
+    ensures { λ r. ⌜ r ≡ headAt (now (head .entry)) at modes ⌝ }
 {
     Head {
         options: options_of(head[0], id16(head, at)),
+        modes: modes_of(modes),
         id: id16(head, at + 2),
         out: be32(head, at + 4),
         input: be32(head, at + 8),
@@ -181,7 +207,8 @@ fn one_narrowing(case_kind: u8, h: Head, input: &mut [u8], out: &mut [u8]) -> bo
         return false;
     }
     let o = h.options;
-    answer_case(case_kind, o, h.id, &mut input[0..len], &mut out[0..n])
+    let m = h.modes;
+    answer_case(case_kind, o, m, h.id, &mut input[0..len], &mut out[0..n])
 }
 
 // One case of case kind 1 to 3.
@@ -193,10 +220,10 @@ fn plain_case(case_kind: u8, input: &mut [u8; INPUT], out: &mut [u8; OUTPUT]) ->
     if 15 < head[0] {
         return false;
     }
-    one_narrowing(case_kind, head_at(&head, 1), input, out)
+    one_narrowing(case_kind, head_at(&head, 1, 0), input, out)
 }
 
-// One case of case kind 7 to 9, which are 1 to 3 with the wishes of case kind 4 and a byte of modes: there is no mode yet.
+// One case of case kind 7 to 9, which are 1 to 3 with the wishes of case kind 4 and a byte of modes, of which bit 0 has a meaning.
 fn case_with_modes(case_kind: u8, input: &mut [u8; INPUT], out: &mut [u8; OUTPUT]) -> bool {
     let mut head = [0u8; 14];
     if !fill_all(&mut head) {
@@ -205,10 +232,11 @@ fn case_with_modes(case_kind: u8, input: &mut [u8; INPUT], out: &mut [u8; OUTPUT
     if 31 < head[0] {
         return false;
     }
-    if head[1] != 0 {
+    let modes = head[1];
+    if 1 < modes {
         return false;
     }
-    one_narrowing(case_kind % 6, head_at(&head, 2), input, out)
+    one_narrowing(case_kind % 6, head_at(&head, 2, modes), input, out)
 }
 
 // One case after its case kind; answers whether another may follow.

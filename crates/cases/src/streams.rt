@@ -11,8 +11,10 @@ use crate::INPUT;
 use crate::MAP_ROOM;
 use crate::OUTPUT;
 use crate::WORK;
+use crate::modes_of;
 use crate::put_three;
 use meaning::Counts;
+use meaning::Modes;
 use meaning::Options;
 use octets::be16;
 use octets::be32;
@@ -30,10 +32,11 @@ use recorder::start;
 // The most calls of a case.
 const CALLS: usize = 1024;
 
-// What the head of a case asks for: service and wishes, the lengths of the rooms and of the output, the most bytes of one message, and how
+// What the head of a case asks for: service and wishes, the modes, the lengths of the rooms and of the output, the most bytes of one message, and how
 // many calls follow. In a case of case kind 4 each call has an output of its own, and none is asked for here.
 pub struct Asked {
     pub options: Options,
+    pub modes: Modes,
     pub work: usize,
     pub total: usize,
     pub most: usize,
@@ -49,12 +52,13 @@ pub struct Handed {
 }
 
 // What a head asks for whose service and rooms stand from `at` on; output and number of calls have a place of their own in each case kind.
-pub fn asked_at(head: &[u8], at: usize, out: usize, calls: usize) -> Asked
+pub fn asked_at(head: &[u8], at: usize, modes: u8, out: usize, calls: usize) -> Asked
     requires { ⌜ at + 18 ≤ length (now head) ⌝ }
-    ensures { λ r. ⌜ r ≡ askedAt (now (head .entry)) at out calls ⌝ }
+    ensures { λ r. ⌜ r ≡ askedAt (now (head .entry)) at modes out calls ⌝ }
 {
     Asked {
         options: options_of(head[0], id16(head, at)),
+        modes: modes_of(modes),
         work: be32(head, at + 2),
         total: be32(head, at + 6),
         most: be32(head, at + 10),
@@ -237,7 +241,7 @@ fn started(
     requires { ⌜ (4 * h .calls ≤ length (now lengths)) × LengthsFit (now lengths) (h .calls) (length (now chunk)) ⌝ }
 {
     let o = h.options;
-    let s = start(work, bodies, map_room, h.most, o);
+    let s = start(work, bodies, map_room, h.most, o, h.modes);
     let a = s.answer;
     let number = [answer_number(a); 1];
     if !write_all(&number) {
@@ -287,7 +291,7 @@ fn one_stream(
     if 15 < head[0] {
         return false;
     }
-    let h = asked_at(&head, 1, be32(&head, 19), be16(&head, 23));
+    let h = asked_at(&head, 1, 0, be32(&head, 19), be16(&head, 23));
     if !head_fits(h, work.len(), bodies.len(), map_room.len(), out.len()) {
         return false;
     }

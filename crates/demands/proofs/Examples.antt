@@ -1,24 +1,23 @@
 -- 01's starred examples, 1 to 12, over the promises. Rests on Between and Narrowings, and on Examples of `meaning`.
 use Prim.Native.Nat.{ℕ, _+_, _-_, _≤_}
-use mathlib.Core.Path.{_≡_, refl, sym, ap, _∙_, subst}
-use mathlib.Core.Bool.{Bool, true, false, cond}
+use mathlib.Core.Path.{_≡_, refl, ap, _∙_, subst}
+use mathlib.Core.Bool.{true, cond}
 use mathlib.Core.List.{List, [], _∷_, _++_, flatten, List·Memᴰ}
-use mathlib.Core.Option.{Option, none, some}
 use native.Mathlib.Omega.{arith}
-use lib.ListN.{length, take, replicate, length-replicate}
+use lib.ListN.{length, take}
 use lib.Dec.{eqb, leb}
-use borrow.Author.Tests.{eq-eqb, le-leb, leb-true}
+use borrow.Author.Tests.{le-leb, leb-true}
 use Rattle.meaning.specs.Bytes.{Bytes}
 use Rattle.meaning.specs.Packets.{Cut, cut}
-use Rattle.meaning.specs.Narrow.{Change, changeTable}
+use Rattle.meaning.specs.Narrow.{changeTable}
 use Rattle.meaning.specs.Rooms.{packetLimit, goodWorkRoom}
-use Rattle.meaning.specs.Refusals.{answerNumber}
-use Rattle.meaning.specs.Record.{State, Record, stateOf}
+use Rattle.meaning.specs.Record.{State, stateOf}
 use Rattle.meaning.specs.Start.{fresh}
 use Rattle.meaning.specs.Push.{Outcome, outcome, pass, push, filtered, lengthRefusal}
 use Rattle.meaning.specs.Series.{callRefusal}
 use Rattle.meaning.specs.declared.Limits.{Limits}
 use Rattle.meaning.specs.declared.Options.{Options}
+use Rattle.meaning.specs.declared.Modes.{Modes}
 use Rattle.meaning.specs.declared.Counts.{Counts}
 use Rattle.meaning.proofs.ListLaws.{and-both}
 use Rattle.meaning.proofs.Examples.{Example, starredTables, starred-each, noCaptions, packet12}
@@ -37,20 +36,20 @@ tables-give e m d x d′ k p = let h = starred-each e m in gives (e .table) (cha
 -- ---- 11 and 12: a start, and one chunk or two
 
 -- A call that is not refused.
-module _ (L : Limits) (o : Options) (st : State) (s : Recorder) (h : Between L o st s) (chunk out : Bytes) (x : pushed.Pushed) (d : Bytes) (t : Recorder)
+module _ (L : Limits) (M : Modes) (o : Options) (st : State) (s : Recorder) (h : Between L M o st s) (chunk out : Bytes) (x : pushed.Pushed) (d : Bytes) (t : Recorder)
     (a : Allows s (Push chunk out) (Pushed x d) t) (e : callRefusal L st (chunk, length out) ≡ 0) where
-  pub goes-on : Between L o (push L o st chunk .state) t
-  goes-on = subst (λ (n : ℕ). Between L o (cond (eqb n 0) (push L o st chunk .state) st) t) e (pushes L o st s h chunk out x d t a .0)
+  pub goes-on : Between L M o (push L M o st chunk .state) t
+  goes-on = subst (λ (n : ℕ). Between L M o (cond (eqb n 0) (push L M o st chunk .state) st) t) e (pushes L M o st s h chunk out x d t a .0)
 
-  pub counts-are : x .counts ≡ push L o st chunk .counts
-  counts-are = counted L o st s h chunk out x d t a e
+  pub counts-are : x .counts ≡ push L M o st chunk .counts
+  counts-are = counted L M o st s h chunk out x d t a e
 
-  pub wrote-is : take (x .counts .bytes) d ≡ flatten (push L o st chunk .out)
-  wrote-is = subst (λ (n : ℕ). take (x .counts .bytes) d ≡ flatten (cond (eqb n 0) (push L o st chunk .out) [])) e (pushes L o st s h chunk out x d t a .2 .front)
+  pub wrote-is : take (x .counts .bytes) d ≡ flatten (push L M o st chunk .out)
+  wrote-is = subst (λ (n : ℕ). take (x .counts .bytes) d ≡ flatten (cond (eqb n 0) (push L M o st chunk .out) [])) e (pushes L M o st s h chunk out x d t a .2 .front)
 
-held-is : (L : Limits) (o : Options) (st : State) (s : Recorder) → Between L o st s → take (s .handed .held-count) (s .work) ≡ st .held
+held-is : (L : Limits) (M : Modes) (o : Options) (st : State) (s : Recorder) → Between L M o st s → take (s .handed .held-count) (s .work) ≡ st .held
 unfolding stateOf
-held-is L o st s h = ap (λ (z : State). z .held) (h .state-is)
+held-is L M o st s h = ap (λ (z : State). z .held) (h .state-is)
 
 -- Limits that a start takes leave room for a short chunk.
 record Roomy (L : Limits) : Type 0 where
@@ -88,14 +87,14 @@ abbrev holding : List ℕ → Bytes → State
 holding map-room s = record { held = s; known = fresh map-room .known }
 
 -- A push that holds nothing before, by what is found.
-pushed-by : (L : Limits) (map-room : List ℕ) (chunk : Bytes) (c : Cut) → cut (packetLimit (L .work)) chunk ≡ c
-    → push L noCaptions (holding map-room []) chunk ≡ outcome c (pass L noCaptions (fresh map-room .known) (c .packets))
+pushed-by : (L : Limits) (M : Modes) (map-room : List ℕ) (chunk : Bytes) (c : Cut) → cut (packetLimit (L .work)) chunk ≡ c
+    → push L M noCaptions (holding map-room []) chunk ≡ outcome c (pass L M noCaptions (fresh map-room .known) (c .packets))
 unfolding push filtered
-pushed-by L map-room chunk c e = ap (λ (z : Cut). outcome z (pass L noCaptions (fresh map-room .known) (z .packets))) e
+pushed-by L M map-room chunk c e = ap (λ (z : Cut). outcome z (pass L M noCaptions (fresh map-room .known) (z .packets))) e
 
-module _ (L : Limits) (s : Recorder) (b : Begun L noCaptions s) where
-  abbrev begun : Between L noCaptions (fresh (s .map-room)) s
-  begun = begins L noCaptions s b
+module _ (L : Limits) (M : Modes) (s : Recorder) (b : Begun L M noCaptions s) where
+  abbrev begun : Between L M noCaptions (fresh (s .map-room)) s
+  begun = begins L M noCaptions s b
 
   abbrev room : Roomy L
   room = roomy L (begun .good)
@@ -107,9 +106,9 @@ module _ (L : Limits) (s : Recorder) (b : Begun L noCaptions s) where
   unfolding pass fresh
   ex11 t c d x a h =
       let e = fits L (fresh (s .map-room)) chunk11 (length c) room (omega arith) (omega (arith, h)) in
-      let p = pushed-by L (s .map-room) chunk11 _ (found11 (packetLimit (L .work)) five) in (
-        ap (λ (z : Counts). z .skipped) (counts-are L noCaptions (fresh (s .map-room)) s begun chunk11 c x d t a e) ∙ ap (λ (z : Outcome). z .counts .skipped) p,
-        held-is L noCaptions (push L noCaptions (fresh (s .map-room)) chunk11 .state) t (goes-on L noCaptions (fresh (s .map-room)) s begun chunk11 c x d t a e) ∙ ap (λ (z : Outcome). z .state .held) p,
+      let p = pushed-by L M (s .map-room) chunk11 _ (found11 (packetLimit (L .work)) five) in (
+        ap (λ (z : Counts). z .skipped) (counts-are L M noCaptions (fresh (s .map-room)) s begun chunk11 c x d t a e) ∙ ap (λ (z : Outcome). z .counts .skipped) p,
+        held-is L M noCaptions (push L M noCaptions (fresh (s .map-room)) chunk11 .state) t (goes-on L M noCaptions (fresh (s .map-room)) s begun chunk11 c x d t a e) ∙ ap (λ (z : Outcome). z .state .held) p,
       )
 
   ex12 : (t u : Recorder) (c d e f : Bytes) (x y : pushed.Pushed) → Allows s (Push packet12 c) (Pushed x d) t → 5 ≤ length c → Allows t (Push (0x00 ∷ []) e) (Pushed y f) u → 1 ≤ length e
@@ -118,18 +117,18 @@ module _ (L : Limits) (s : Recorder) (b : Begun L noCaptions s) where
   ex12 t u c d e f x y a h b k =
       let st : State = fresh (s .map-room) in
       let q = fits L st packet12 (length c) room (omega arith) (omega (arith, h)) in
-      let p = pushed-by L (s .map-room) packet12 _ (found12 (packetLimit (L .work)) five) in
-      let now : Between L noCaptions (holding (s .map-room) []) t = subst (λ (z : Outcome). Between L noCaptions (z .state) t) p (goes-on L noCaptions st s begun packet12 c x d t a q) in
+      let p = pushed-by L M (s .map-room) packet12 _ (found12 (packetLimit (L .work)) five) in
+      let now : Between L M noCaptions (holding (s .map-room) []) t = subst (λ (z : Outcome). Between L M noCaptions (z .state) t) p (goes-on L M noCaptions st s begun packet12 c x d t a q) in
       let q′ = fits L (holding (s .map-room) []) (0x00 ∷ []) (length e) room (omega arith) (omega (arith, k)) in
-      let p′ = pushed-by L (s .map-room) (0x00 ∷ []) _ (found-next (packetLimit (L .work))) in (
-        ap (λ (z : Counts). z .accepted) (counts-are L noCaptions st s begun packet12 c x d t a q) ∙ ap (λ (z : Outcome). z .counts .accepted) p,
-        wrote-is L noCaptions st s begun packet12 c x d t a q ∙ ap (λ (z : Outcome). flatten (z .out)) p,
-        held-is L noCaptions (push L noCaptions (holding (s .map-room) []) (0x00 ∷ []) .state) u (goes-on L noCaptions (holding (s .map-room) []) t now (0x00 ∷ []) e y f u b q′) ∙ ap (λ (z : Outcome). z .state .held) p′,
+      let p′ = pushed-by L M (s .map-room) (0x00 ∷ []) _ (found-next (packetLimit (L .work))) in (
+        ap (λ (z : Counts). z .accepted) (counts-are L M noCaptions st s begun packet12 c x d t a q) ∙ ap (λ (z : Outcome). z .counts .accepted) p,
+        wrote-is L M noCaptions st s begun packet12 c x d t a q ∙ ap (λ (z : Outcome). flatten (z .out)) p,
+        held-is L M noCaptions (push L M noCaptions (holding (s .map-room) []) (0x00 ∷ []) .state) u (goes-on L M noCaptions (holding (s .map-room) []) t now (0x00 ∷ []) e y f u b q′) ∙ ap (λ (z : Outcome). z .state .held) p′,
       )
 
 pub starred : Starred
 starred = record {
   tables = tables-give;
-  one = λ L s t c d x b a h. ex11 L s b t c d x a h;
-  two = λ L s t u c d e f x y b a h a′ k. ex12 L s b t u c d e f x y a h a′ k;
+  one = λ L M s t c d x b a h. ex11 L M s b t c d x a h;
+  two = λ L M s t u c d e f x y b a h a′ k. ex12 L M s b t u c d e f x y a h a′ k;
 }

@@ -4,7 +4,6 @@ use mathlib.Core.Path.{refl}
 use lib.ListN.{length}
 use Rattle.meaning.specs.Narrow.{changeTable, changePayload, changePacket}
 use Rattle.soundness.specs.Parts.{limitsOf}
-use Rattle.tally.specs.Answers.{TalliedAs}
 use Rattle.narrowing.proofs.narrow.narrow_table.Reads as narrow-table
 use Rattle.narrowing.proofs.narrow.narrow_payload.Reads as narrow-payload
 use Rattle.narrowing.proofs.narrow.narrow_packet.Reads as narrow-packet
@@ -16,7 +15,7 @@ use Rattle.recorder.proofs.Filter.dropped.Reads as dropped
 use Rattle.demands.specs.Demands.{Push, Ask, Pushed, Asked, Allows, Narrows}
 
 pub start-promised : (κs : _) (a : _) (r : _) (z : _) → start.Learnt κs a r z
-    → StartedAs (limitsOf (length (a .0 .now)) (length (a .1 .0 .now)) (a .1 .1 .1 .0)) (a .1 .1 .1 .1 .0) (a .1 .1 .0 .now) r
+    → StartedAs (limitsOf (length (a .0 .now)) (length (a .1 .0 .now)) (a .1 .1 .1 .0)) (a .1 .1 .1 .1 .1 .0) (a .1 .1 .1 .1 .0) (a .1 .1 .0 .now) r
 start-promised κs a r z h = h
 
 pub push-promised : (κs : _) (a : _) (r : _) (z : _) → push.Learnt κs a r z
@@ -35,9 +34,9 @@ pub narrow-table-promised : (κs : _) (a : _) (r : _) (z : _) → narrow-table.L
 narrow-table-promised κs a r z h = h
 
 pub narrow-payload-promised : (κs : _) (a : _) (r : _) (z : _) → narrow-payload.Learnt κs a r z
-    → Narrows (a .0 .now) (changePayload (a .1 .1 .0) (a .1 .0) (a .0 .now)) (a .1 .1 .1 .0 .now) r (z .1 .1 .1 .0 .now)
+    → Narrows (a .0 .now) (changePayload (a .1 .1 .0) (a .1 .0) (a .0 .now)) (a .1 .1 .1 .1 .0 .now) r (z .1 .1 .1 .1 .0 .now)
 narrow-payload-promised κs a r z h = h
 
 pub narrow-packet-promised : (κs : _) (a : _) (r : _) (z : _) → narrow-packet.Learnt κs a r z
-    → Narrows (a .0 .now) (changePacket (a .1 .0) (a .0 .now)) (a .1 .1 .0 .now) r (z .1 .1 .0 .now)
+    → Narrows (a .0 .now) (changePacket (a .1 .1 .0) (a .1 .0) (a .0 .now)) (a .1 .1 .1 .0 .now) r (z .1 .1 .1 .0 .now)
 narrow-packet-promised κs a r z h = h

@@ -1,26 +1,26 @@
--- No statement is empty: its hypotheses are met. Of any calls there is a series, from a start with any wishes that it takes, and two such series beside each
+-- No statement is empty: its hypotheses are met. Of any calls there is a series, from a start in any mode with any wishes that it takes, and two such series beside each
 -- other; the wishes of demand 3, an output that is long enough and a change that is told are computed. Rests on Total.
-use Prim.Native.Nat.{ℕ, _≤_}
+use Prim.Native.Nat.{ℕ}
 use mathlib.Core.Path.{_≡_, refl, sym, ap, _∙_}
 use mathlib.Core.Bool.{Bool, true, false, cond}
-use mathlib.Core.List.{List, [], _∷_, map}
+use mathlib.Core.List.{List, [], _∷_}
 use mathlib.Core.Option.{some}
 use native.Mathlib.Omega.{arith}
-use lib.ListN.{length, replicate, length-replicate}
+use lib.ListN.{replicate, length-replicate}
 use Rattle.meaning.specs.Bytes.{Bytes}
 use Rattle.meaning.specs.Wishes.{wantsAssets, copiesAll, captionsOnly}
 use Rattle.meaning.specs.Narrow.{Change, changeTable}
 use Rattle.meaning.specs.Rooms.{goodWorkRoom, goodFragmentRoom, goodMapRoom}
-use Rattle.meaning.specs.Refusals.{answerNumber}
 use Rattle.meaning.specs.Start.{startRefusal, started}
 use Rattle.meaning.specs.Less.{Fewer}
 use Rattle.meaning.specs.declared.Limits.{Limits}
 use Rattle.meaning.specs.declared.Options.{Options}
-use Rattle.meaning.specs.declared.Service.the-variants.{Every, Only}
+use Rattle.meaning.specs.declared.Modes.{Modes}
+use Rattle.meaning.specs.declared.Service.the-variants.{Only}
 use Rattle.meaning.proofs.Examples.{M, M₁, noCaptions}
 use Rattle.recorder.specs.Filter.{recordIn}
 use Rattle.narrowing.specs.declared.narrow.Narrowed as narrow
-use Rattle.demands.specs.Demands.{Recorder, Call, Result, Series, given, Begun, Beside, Narrows, changeTold}
+use Rattle.demands.specs.Demands.{Recorder, Call, Result, Series, Begun, Beside, Narrows, changeTold}
 use Rattle.demands.proofs.Narrowings.{narrow-total, gives}
 use Rattle.demands.proofs.Total.{total}
 
@@ -32,15 +32,15 @@ limits = record { work = 4096; total = 1; most = 1 }
 abbrev room : List ℕ
 room = replicate 32768 0
 
-start-accepted : (o : Options) → wantsAssets o ≡ true → started limits o room .number ≡ 0
+start-accepted : (modes : Modes) (o : Options) → wantsAssets o ≡ true → started limits modes o room .number ≡ 0
 unfolding started startRefusal goodWorkRoom goodFragmentRoom goodMapRoom
-start-accepted o w = ap (λ (n : ℕ). startRefusal 4096 1 1 n o) (length-replicate {A = ℕ} 32768 0) ∙ ap (λ (b : Bool). cond b 0 9) w
+start-accepted modes o w = ap (λ (n : ℕ). startRefusal 4096 1 1 n o) (length-replicate {A = ℕ} 32768 0) ∙ ap (λ (b : Bool). cond b 0 9) w
 
-pub begun : (o : Options) → wantsAssets o ≡ true → (s : Recorder) × Begun limits o s × (s .work ≡ replicate 4096 0) × (s .bodies ≡ 0 ∷ []) × (s .map-room ≡ room)
-begun o w =
-    let x = total .start limits o room in (
+pub begun : (modes : Modes) (o : Options) → wantsAssets o ≡ true → (s : Recorder) × Begun limits modes o s × (s .work ≡ replicate 4096 0) × (s .bodies ≡ 0 ∷ []) × (s .map-room ≡ room)
+begun modes o w =
+    let x = total .start limits modes o room in (
       record { handed = recordIn (x .0 .filter); work = replicate 4096 0; bodies = 0 ∷ []; map-room = room },
-      (x .0, x .1, x .1 .answer-is ∙ start-accepted o w, refl, sym (length-replicate {A = ℕ} 4096 0), refl),
+      (x .0, x .1, x .1 .answer-is ∙ start-accepted modes o w, refl, sym (length-replicate {A = ℕ} 4096 0), refl),
       refl,
       refl,
       refl,
@@ -53,10 +53,10 @@ series s (c ∷ cs) =
     let r = series (x .1) cs in
     (x .0 ∷ r .0, r .1, (x .1, x .2, r .2))
 
-pub beside : (o₁ o₂ : Options) → wantsAssets o₁ ≡ true → wantsAssets o₂ ≡ true → (cs : List Call) → (xs₁ : List Result) × (xs₂ : List Result) × Beside limits o₁ o₂ xs₁ xs₂
-beside o₁ o₂ w₁ w₂ cs =
-    let a = begun o₁ w₁ in
-    let b = begun o₂ w₂ in
+pub beside : (modes : Modes) (o₁ o₂ : Options) → wantsAssets o₁ ≡ true → wantsAssets o₂ ≡ true → (cs : List Call) → (xs₁ : List Result) × (xs₂ : List Result) × Beside limits modes o₁ o₂ xs₁ xs₂
+beside modes o₁ o₂ w₁ w₂ cs =
+    let a = begun modes o₁ w₁ in
+    let b = begun modes o₂ w₂ in
     let r = series (a .0) cs in
     let q = series (b .0) cs in (
       r .0,

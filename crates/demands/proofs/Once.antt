@@ -1,6 +1,6 @@
 -- Any two results that a promise allows are equal, and so are those of any two series of the same calls: bytes of work and fragment room
 -- that hold nothing are never seen. Rests on Between, Refusing and the promises.
-use Prim.Native.Nat.{ℕ, zero, suc, _+_, _-_, _≤_}
+use Prim.Native.Nat.{ℕ, zero, suc, _+_, _-_}
 use mathlib.Core.Path.{_≡_, refl, sym, ap, ap₂, _∙_, subst}
 use mathlib.Core.Bool.{Bool, true, false, cond}
 use mathlib.Core.List.{List, [], _∷_, _++_, map, flatten}
@@ -20,7 +20,6 @@ use Rattle.meaning.specs.Calls.{Called}
 use Rattle.meaning.specs.Rules.{dropped}
 use Rattle.meaning.specs.Push.{push, pushRefusal, called}
 use Rattle.meaning.specs.Dropped.{droppedNow}
-use Rattle.meaning.specs.declared.Limits.{Limits}
 use Rattle.meaning.specs.declared.Options.{Options}
 use Rattle.meaning.proofs.Writes.{wrote-one}
 use Rattle.meaning.proofs.AnswerLaws.{answer-told}
@@ -42,6 +41,7 @@ filterOf r = record {
   work = r .limits .work;
   total = r .limits .total;
   most = r .limits .most;
+  modes = r .modes;
   options = r .options;
   «held_count» = r .held-count;
   seen = r .plt-seen;
@@ -131,7 +131,7 @@ module _ (s t : Recorder) (e : Same s t) (chunk : Bytes) (n : ℕ) where
       called-by (s .handed) (s .work) (s .bodies) (s .map-room) chunk n
       ∙ (λ i. form
       (pushRefusal (e .handed-same i) (e .lengths-same .0 i) (e .lengths-same .1 i) (length (e .map-room-same i)) (length chunk) n)
-      (e .handed-same i .limits) (e .handed-same i .options) (state-same s t e i) (e .handed-same i) chunk)
+      (e .handed-same i .limits) (e .handed-same i .modes) (e .handed-same i .options) (state-same s t e i) (e .handed-same i) chunk)
       ∙ sym (called-by (t .handed) (t .work) (t .bodies) (t .map-room) chunk n)
 
 module _ (s t : Recorder) (e : Same s t) (chunk out : Bytes) (x y : pushed.Pushed) (d₁ d₂ : Bytes) (u v : Recorder)
@@ -168,15 +168,15 @@ module _ (s t : Recorder) (e : Same s t) (chunk out : Bytes) (x y : pushed.Pushe
           let vs = pushed-refused t chunk out y d₂ v b (ap (λ (k : ℕ). eqb k 0) (sym answers-same) ∙ n) .0 in
           subst (λ (z : Recorder). Same z v) (sym us) (subst (λ (z : Recorder). Same s z) (sym vs) e)
       go true n =
-          let P : State = push (s .handed .limits) (s .handed .options) (stateIn s) chunk .state in
-          let P′ : State = push (t .handed .limits) (t .handed .options) (stateIn t) chunk .state in
+          let P : State = push (s .handed .limits) (s .handed .modes) (s .handed .options) (stateIn s) chunk .state in
+          let P′ : State = push (t .handed .limits) (t .handed .modes) (t .handed .options) (stateIn t) chunk .state in
           let m₁ : eqb (c .number) 0 ≡ true = ap (λ (k : ℕ). eqb k 0) (sym (a .0 .answer-is)) ∙ n in
           let m₂ : eqb (called (t .handed) (t .work) (t .bodies) (t .map-room) chunk (length out) .number) 0 ≡ true = ap (λ (z : Called). eqb (z .number) 0) (sym q) ∙ m₁ in
           let su : stateOf (recordIn (x .filter)) (u .work) (u .bodies) (u .map-room) ≡ P =
           subst (λ (k : Bool). RoomsAfter k P (recordIn (x .filter)) (s .work) (s .bodies) (s .map-room) (u .work) (u .bodies) (u .map-room)) m₁ (a .0 .rooms) in
           let sv : stateOf (recordIn (y .filter)) (v .work) (v .bodies) (v .map-room) ≡ P′ =
           subst (λ (k : Bool). RoomsAfter k P′ (recordIn (y .filter)) (t .work) (t .bodies) (t .map-room) (v .work) (v .bodies) (v .map-room)) m₂ (b .0 .rooms) in
-          let PP : P ≡ P′ = λ i. push (e .handed-same i .limits) (e .handed-same i .options) (state-same s t e i) chunk .state in
+          let PP : P ≡ P′ = λ i. push (e .handed-same i .limits) (e .handed-same i .modes) (e .handed-same i .options) (state-same s t e i) chunk .state in
           state-tells u v (a .1 ∙ records-same ∙ sym (b .1))
           (ap (λ (r : Record). stateOf r (u .work) (u .bodies) (u .map-room)) (a .1) ∙ su ∙ PP ∙ sym sv ∙ ap (λ (r : Record). stateOf r (v .work) (v .bodies) (v .map-room)) (sym (b .1)))
           (a .0 .work-length ∙ e .lengths-same .0 ∙ sym (b .0 .work-length)) (a .0 .bodies-length ∙ e .lengths-same .1 ∙ sym (b .0 .bodies-length))
@@ -229,7 +229,7 @@ series-one s t e (Ask ∷ cs) (Asked x ∷ xs) (Pushed y d₂ ∷ ys) u v a (n, 
 
 pub unique : Unique
 unique = record {
-  start = λ L o map-room x y p q.
+  start = λ L M o map-room x y p q.
       let f = filter-told (x .filter) (y .filter) (p .handed-is ∙ sym (q .handed-is)) in
       let g = answer-told (x .answer) (y .answer) (p .answer-is ∙ sym (q .answer-is)) in
       λ i. record { answer = g i; filter = f i };

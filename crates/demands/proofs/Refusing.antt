@@ -1,10 +1,9 @@
 -- Demand 1: the number that is answered is the lowest that applies, and a call that is refused changes nothing. Rests on the promises alone.
-use Prim.Native.Nat.{ℕ, _+_, _-_, _≤_, _<_}
+use Prim.Native.Nat.{ℕ, _+_, _-_}
 use mathlib.Core.Path.{_≡_, refl, sym, ap, ap₂, _∙_, subst}
 use mathlib.Core.Bool.{Bool, true, false, cond, not}
 use mathlib.Core.List.{List, [], _∷_, flatten}
-use native.Mathlib.Omega.{arith}
-use lib.ListN.{length, take, drop}
+use lib.ListN.{length}
 use lib.Dec.{eqb, leb, ltb}
 use borrow.Author.Tests.{eqb-true}
 use Rattle.meaning.specs.Bytes.{Bytes}
@@ -13,7 +12,7 @@ use Rattle.meaning.specs.Wishes.{wantsAssets}
 use Rattle.meaning.specs.Rooms.{packetLimit, goodWorkRoom, goodFragmentRoom, goodMapRoom}
 use Rattle.meaning.specs.Rules.{dropped}
 use Rattle.meaning.specs.Refusals.{answerNumber}
-use Rattle.meaning.specs.Record.{State, Record, stateOf}
+use Rattle.meaning.specs.Record.{Record, stateOf}
 use Rattle.meaning.specs.Soundness.{sound, soundRefusal}
 use Rattle.meaning.specs.Calls.{countsOf, Called}
 use Rattle.meaning.specs.Start.{blank, startRefusal, started}
@@ -22,16 +21,15 @@ use Rattle.meaning.specs.Dropped.{droppedNow}
 use Rattle.meaning.specs.Tally.{addCounts, fits64, tallyRefusal, tallied}
 use Rattle.meaning.specs.declared.Limits.{Limits}
 use Rattle.meaning.specs.declared.Options.{Options}
+use Rattle.meaning.specs.declared.Modes.{Modes}
 use Rattle.meaning.specs.declared.Counts.{Counts}
-use Rattle.meaning.specs.declared.Answer.{Answer}
 use Rattle.meaning.proofs.SoundnessLaws.{blank-unsound}
-use Rattle.tally.specs.Answers.{TalliedAs}
 use Rattle.recorder.specs.Filter.{recordIn}
-use Rattle.recorder.specs.Calls.{StartedAs, PushedAs, RoomsAfter, DroppedAs}
+use Rattle.recorder.specs.Calls.{PushedAs, RoomsAfter}
 use Rattle.recorder.specs.declared.Started as started′
 use Rattle.recorder.specs.declared.Pushed as pushed
 use Rattle.recorder.specs.declared.Dropped as dropped′
-use Rattle.demands.specs.Demands.{Recorder, Push, Ask, Pushed, Asked, Allows, lowest, unsound, Refusing}
+use Rattle.demands.specs.Demands.{Recorder, Push, Pushed, Allows, lowest, Refusing}
 use Rattle.demands.proofs.Tests.{below-is, unwritten}
 use Rattle.demands.proofs.Between.{asked-stays}
 use Rattle.demands.proofs.Narrowings.{narrow-refused}
@@ -60,14 +58,14 @@ lowest-start true true false d = refl
 lowest-start true false c d = refl
 lowest-start false b c d = refl
 
-start-number : (L : Limits) (o : Options) (map-room : List ℕ) → started L o map-room .number
+start-number : (L : Limits) (M : Modes) (o : Options) (map-room : List ℕ) → started L M o map-room .number
     ≡ lowest ((1, not (goodWorkRoom (L .work))) ∷ (2, not (goodFragmentRoom (L .total) (L .most))) ∷ (3, not (goodMapRoom (length map-room))) ∷ (9, not (wantsAssets o)) ∷ [])
 unfolding started startRefusal
-start-number L o map-room = lowest-start (goodWorkRoom (L .work)) (goodFragmentRoom (L .total) (L .most)) (goodMapRoom (length map-room)) (wantsAssets o)
+start-number L M o map-room = lowest-start (goodWorkRoom (L .work)) (goodFragmentRoom (L .total) (L .most)) (goodMapRoom (length map-room)) (wantsAssets o)
 
-start-blank : (L : Limits) (o : Options) (map-room : List ℕ) → eqb (started L o map-room .number) 0 ≡ false → started L o map-room .handed ≡ blank
+start-blank : (L : Limits) (M : Modes) (o : Options) (map-room : List ℕ) → eqb (started L M o map-room .number) 0 ≡ false → started L M o map-room .handed ≡ blank
 unfolding started
-start-blank L o map-room e = rw e
+start-blank L M o map-room e = rw e
 
 -- ---- a push
 
@@ -105,7 +103,7 @@ module _ (s : Recorder) (chunk out : Bytes) (x : pushed.Pushed) (out′ : Bytes)
       let f : eqb (called (s .handed) (s .work) (s .bodies) (s .map-room) chunk (length out) .number) 0 ≡ false = ap (λ (k : ℕ). eqb k 0) (sym (p .answer-is)) ∙ e in
       let q = called-refused (s .handed) (s .work) (s .bodies) (s .map-room) chunk (length out) f in
       let rooms : (t .work ≡ s .work) × (t .bodies ≡ s .bodies) × (t .map-room ≡ s .map-room) =
-      subst (λ (b : Bool). RoomsAfter b (push (s .handed .limits) (s .handed .options) (stateOf (s .handed) (s .work) (s .bodies) (s .map-room)) chunk .state) (recordIn (x .filter)) (s .work) (s .bodies) (s .map-room) (t .work) (t .bodies) (t .map-room)) f (p .rooms) in
+      subst (λ (b : Bool). RoomsAfter b (push (s .handed .limits) (s .handed .modes) (s .handed .options) (stateOf (s .handed) (s .work) (s .bodies) (s .map-room)) chunk .state) (recordIn (x .filter)) (s .work) (s .bodies) (s .map-room) (t .work) (t .bodies) (t .map-room)) f (p .rooms) in
       let r : t .handed ≡ s .handed = a .1 ∙ p .handed-is ∙ ap (λ (z : Called). z .handed) q in (
         λ i. record { handed = r i; work = rooms .0 i; bodies = rooms .1 i; map-room = rooms .2 i },
         unwritten out out′ (x .counts .bytes) (subst (λ (z : Called). Wrote (flatten (z .out)) out 0 out′ (x .counts .bytes)) q (p .written)),
@@ -135,9 +133,9 @@ tally-stays t c e = rw e
 pub refusing : Refusing
 refusing = record {
   no-record = blank-unsound;
-  start = λ L o map-room x p. (
-    p .answer-is ∙ start-number L o map-room,
-    λ e. p .handed-is ∙ start-blank L o map-room (ap (λ (k : ℕ). eqb k 0) (sym (p .answer-is)) ∙ e),
+  start = λ L M o map-room x p. (
+    p .answer-is ∙ start-number L M o map-room,
+    λ e. p .handed-is ∙ start-blank L M o map-room (ap (λ (k : ℕ). eqb k 0) (sym (p .answer-is)) ∙ e),
   );
   push = λ s chunk out x out′ t a. (
     a .0 .answer-is ∙ called-number (s .handed) (s .work) (s .bodies) (s .map-room) chunk (length out) ∙ push-number (s .handed) (s .work) (s .bodies) (s .map-room) chunk (length out),

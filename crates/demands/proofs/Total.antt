@@ -1,11 +1,11 @@
 -- Some result is allowed of every input: the definition's answer, counts and record, with rooms that begin with the bytes of its state.
 -- Rests on SoundnessLaws of `meaning`, and on Once for the struct of a record.
-use Prim.Native.Nat.{ℕ, zero, suc, _+_, _-_, _/_, _≤_, _<_, min}
+use Prim.Native.Nat.{ℕ, zero, suc, _+_, _-_, _≤_}
 use mathlib.Core.Path.{_≡_, refl, sym, ap, _∙_, subst}
 use mathlib.Core.Bool.{Bool, true, false, cond}
-use mathlib.Core.List.{List, [], _∷_, _++_, map, flatten, append-nil}
+use mathlib.Core.List.{List, [], _∷_, _++_, flatten, append-nil}
 use native.Mathlib.Omega.{arith}
-use lib.ListN.{length, take, drop, length-append, length-drop}
+use lib.ListN.{length, drop, length-append, length-drop}
 use lib.Dec.{eqb, leb}
 use borrow.Author.Tests.{eqb-true}
 use Rattle.meaning.specs.Bytes.{Bytes}
@@ -16,7 +16,7 @@ use Rattle.meaning.specs.Rooms.{packetLimit, goodWorkRoom, goodFragmentRoom, go
 use Rattle.meaning.specs.Learn.{Fragment, fragmentBytes}
 use Rattle.meaning.specs.Refusals.{numberOf, answerNumber}
 use Rattle.meaning.specs.Record.{State, Record, recordOf, stateOf, bodiesOf}
-use Rattle.meaning.specs.Soundness.{sound, soundRooms, soundRefusal}
+use Rattle.meaning.specs.Soundness.{sound, soundRefusal}
 use Rattle.meaning.specs.Calls.{countsOf, Called}
 use Rattle.meaning.specs.Start.{startRefusal, started}
 use Rattle.meaning.specs.Push.{push, filtered, lengthRefusal, pushRefusal, called}
@@ -24,14 +24,15 @@ use Rattle.meaning.specs.Dropped.{droppedNow}
 use Rattle.meaning.specs.Tally.{addCounts, fits64, tallyRefusal, tallied}
 use Rattle.meaning.specs.declared.Limits.{Limits}
 use Rattle.meaning.specs.declared.Options.{Options}
+use Rattle.meaning.specs.declared.Modes.{Modes}
 use Rattle.meaning.specs.declared.Counts.{Counts}
 use Rattle.meaning.specs.declared.Answer.{Answer}
 use Rattle.meaning.specs.declared.Answer.the-variants.{Done, Refused}
 use Rattle.meaning.specs.declared.Refusal.the-variants.{WorkRoom, FragmentRoom, MapRoom, Unsound, Long, Short, Tally, Input, Wishes}
 use Rattle.meaning.proofs.Writes.{wrote-none}
-use Rattle.meaning.proofs.SoundnessLaws.{HoldsState, state-holds, push-holds, state-back, good-limit}
+use Rattle.meaning.proofs.SoundnessLaws.{state-holds, push-holds, state-back, good-limit}
 use Rattle.recorder.specs.Filter.{recordIn}
-use Rattle.recorder.specs.Calls.{StartedAs, PushedAs, RoomsAfter, DroppedAs}
+use Rattle.recorder.specs.Calls.{RoomsAfter}
 use Rattle.soundness.proofs.PartLaws.{limit-fits}
 use Rattle.recorder.proofs.StateLaws.{record-parts}
 use Rattle.demands.specs.Demands.{Recorder, Call, Push, Ask, Result, Pushed, Asked, Allows, Total}
@@ -61,9 +62,9 @@ at-most : (a : Bool) (x y : ℕ) → x ≤ 9 → y ≤ 9 → cond a x y ≤ 9
 at-most true x y h k = h
 at-most false x y h k = k
 
-start-few : (L : Limits) (o : Options) (map-room : List ℕ) → started L o map-room .number ≤ 9
+start-few : (L : Limits) (M : Modes) (o : Options) (map-room : List ℕ) → started L M o map-room .number ≤ 9
 unfolding started startRefusal
-start-few L o map-room =
+start-few L M o map-room =
     let d = wantsAssets o in
     let c = goodMapRoom (length map-room) in
     let b = goodFragmentRoom (L .total) (L .most) in
@@ -100,11 +101,11 @@ record-of r = refl
 
 -- ---- a push
 
-bytes-are : (L : Limits) (o : Options) (st : State) (chunk : Bytes) → push L o st chunk .counts .bytes ≡ length (flatten (push L o st chunk .out))
+bytes-are : (L : Limits) (M : Modes) (o : Options) (st : State) (chunk : Bytes) → push L M o st chunk .counts .bytes ≡ length (flatten (push L M o st chunk .out))
 unfolding push filtered flatten
-bytes-are L o st chunk = go (copiesAll o) refl
+bytes-are L M o st chunk = go (copiesAll o) refl
   where
-    go : (b : Bool) → copiesAll o ≡ b → push L o st chunk .counts .bytes ≡ length (flatten (push L o st chunk .out))
+    go : (b : Bool) → copiesAll o ≡ b → push L M o st chunk .counts .bytes ≡ length (flatten (push L M o st chunk .out))
     go true e = rw e (ap length (sym (append-nil chunk)))
     go false e = rw e refl
 
@@ -140,7 +141,7 @@ module _ (s : Recorder) (chunk out : Bytes) where
             counts-are = refl;
             handed-is = record-of (c .handed);
             written = subst (λ (z : Called). Wrote (flatten (z .out)) out 0 out (z .counts .bytes)) (sym q) (wrote-none out 0);
-            rooms = subst (λ (b : Bool). RoomsAfter b (push (r .limits) (r .options) (stateOf r (s .work) (s .bodies) (s .map-room)) chunk .state) (recordIn (filterOf (c .handed))) (s .work) (s .bodies) (s .map-room) (s .work) (s .bodies) (s .map-room)) (sym e) (refl, refl, refl);
+            rooms = subst (λ (b : Bool). RoomsAfter b (push (r .limits) (r .modes) (r .options) (stateOf r (s .work) (s .bodies) (s .map-room)) chunk .state) (recordIn (filterOf (c .handed))) (s .work) (s .bodies) (s .map-room) (s .work) (s .bodies) (s .map-room)) (sym e) (refl, refl, refl);
             work-length = refl;
             bodies-length = refl;
           },
@@ -151,7 +152,7 @@ module _ (s : Recorder) (chunk out : Bytes) where
   -- ---- not refused: the rooms begin with the bytes of the state
 
   abbrev st : State
-  st = push (r .limits) (r .options) (stateOf r (s .work) (s .bodies) (s .map-room)) chunk .state
+  st = push (r .limits) (r .modes) (r .options) (stateOf r (s .work) (s .bodies) (s .map-room)) chunk .state
 
   abbrev kept : Bytes
   kept = bodiesOf (st .known .fragments)
@@ -160,22 +161,22 @@ module _ (s : Recorder) (chunk out : Bytes) where
   record Fits : Type 0 where
     work-fits : length (st .held) ≤ length (s .work)
     bodies-fit : length kept ≤ length (s .bodies)
-    back : stateOf (recordOf (r .limits) (r .options) st) (st .held ++ drop (length (st .held)) (s .work)) (kept ++ drop (length kept) (s .bodies)) (st .known .map-room) ≡ st
+    back : stateOf (recordOf (r .limits) (r .modes) (r .options) st) (st .held ++ drop (length (st .held)) (s .work)) (kept ++ drop (length kept) (s .bodies)) (st .known .map-room) ≡ st
 
   fits : sound r (length (s .work)) (length (s .bodies)) (length (s .map-room)) ≡ true → Fits
   fits e =
       let p = record-parts r (length (s .work)) (length (s .bodies)) (length (s .map-room)) e in
       let four : 4 ≤ packetLimit (r .limits .work) = subst (λ (n : ℕ). 4 ≤ packetLimit n) (sym (p .work-is)) (good-limit (length (s .work)) (p .work-good)) in
-      let h = push-holds (r .limits) (r .options) (stateOf r (s .work) (s .bodies) (s .map-room)) chunk four (state-holds r (s .work) (s .bodies) (s .map-room) e) in
+      let h = push-holds (r .limits) (r .modes) (r .options) (stateOf r (s .work) (s .bodies) (s .map-room)) chunk four (state-holds r (s .work) (s .bodies) (s .map-room) e) in
       record {
         work-fits = omega (arith, h .held-few, limit-fits (r .limits .work), p .work-is);
         bodies-fit = omega (arith, bodies-length (st .known .fragments), h .known-holds .fragments-hold .within, p .total-is);
-        back = state-back (r .limits) (r .options) st (omega (arith, p .total-is, p .total-few)) h (drop (length (st .held)) (s .work)) (drop (length kept) (s .bodies));
+        back = state-back (r .limits) (r .modes) (r .options) st (omega (arith, p .total-is, p .total-few)) h (drop (length (st .held)) (s .work)) (drop (length kept) (s .bodies));
       }
 
   pub called-accepted : eqb (c .number) 0 ≡ true
       → (sound r (length (s .work)) (length (s .bodies)) (length (s .map-room)) ≡ true)
-      × (c ≡ record { number = 0; out = push (r .limits) (r .options) (stateOf r (s .work) (s .bodies) (s .map-room)) chunk .out; counts = push (r .limits) (r .options) (stateOf r (s .work) (s .bodies) (s .map-room)) chunk .counts; handed = recordOf (r .limits) (r .options) st })
+      × (c ≡ record { number = 0; out = push (r .limits) (r .modes) (r .options) (stateOf r (s .work) (s .bodies) (s .map-room)) chunk .out; counts = push (r .limits) (r .modes) (r .options) (stateOf r (s .work) (s .bodies) (s .map-room)) chunk .counts; handed = recordOf (r .limits) (r .modes) (r .options) st })
   called-accepted e =
       let z : eqb (pushRefusal r (length (s .work)) (length (s .bodies)) (length (s .map-room)) (length chunk) (length out)) 0 ≡ true =
       ap (λ (n : ℕ). eqb n 0) (sym (called-number r (s .work) (s .bodies) (s .map-room) chunk (length out))) ∙ e in
@@ -184,10 +185,10 @@ module _ (s : Recorder) (chunk out : Bytes) where
       x : ℕ
       x = pushRefusal r (length (s .work)) (length (s .bodies)) (length (s .map-room)) (length chunk) (length out)
 
-      done : eqb x 0 ≡ true → form x (r .limits) (r .options) (stateOf r (s .work) (s .bodies) (s .map-room)) r chunk
-          ≡ record { number = 0; out = push (r .limits) (r .options) (stateOf r (s .work) (s .bodies) (s .map-room)) chunk .out; counts = push (r .limits) (r .options) (stateOf r (s .work) (s .bodies) (s .map-room)) chunk .counts; handed = recordOf (r .limits) (r .options) st }
+      done : eqb x 0 ≡ true → form x (r .limits) (r .modes) (r .options) (stateOf r (s .work) (s .bodies) (s .map-room)) r chunk
+          ≡ record { number = 0; out = push (r .limits) (r .modes) (r .options) (stateOf r (s .work) (s .bodies) (s .map-room)) chunk .out; counts = push (r .limits) (r .modes) (r .options) (stateOf r (s .work) (s .bodies) (s .map-room)) chunk .counts; handed = recordOf (r .limits) (r .modes) (r .options) st }
       done z = ap (λ (b : Bool). cond b
-          (record { number = 0; out = push (r .limits) (r .options) (stateOf r (s .work) (s .bodies) (s .map-room)) chunk .out; counts = push (r .limits) (r .options) (stateOf r (s .work) (s .bodies) (s .map-room)) chunk .counts; handed = recordOf (r .limits) (r .options) st })
+          (record { number = 0; out = push (r .limits) (r .modes) (r .options) (stateOf r (s .work) (s .bodies) (s .map-room)) chunk .out; counts = push (r .limits) (r .modes) (r .options) (stateOf r (s .work) (s .bodies) (s .map-room)) chunk .counts; handed = recordOf (r .limits) (r .modes) (r .options) st })
           (record { number = x; out = []; counts = countsOf 0; handed = r })) z
 
       sound-of : eqb x 0 ≡ true → sound r (length (s .work)) (length (s .bodies)) (length (s .map-room)) ≡ true
@@ -200,7 +201,7 @@ module _ (s : Recorder) (chunk out : Bytes) where
       let work : Bytes = st .held ++ drop (length (st .held)) (s .work) in
       let bodies : Bytes = kept ++ drop (length kept) (s .bodies) in
       let y : Bytes = flatten (c .out) in
-      let n : c .counts .bytes ≡ length y = ap (λ (z : Called). z .counts .bytes) (q .1) ∙ bytes-are (r .limits) (r .options) (stateOf r (s .work) (s .bodies) (s .map-room)) chunk ∙ ap (λ (z : Called). length (flatten (z .out))) (sym (q .1)) in (
+      let n : c .counts .bytes ≡ length y = ap (λ (z : Called). z .counts .bytes) (q .1) ∙ bytes-are (r .limits) (r .modes) (r .options) (stateOf r (s .work) (s .bodies) (s .map-room)) chunk ∙ ap (λ (z : Called). length (flatten (z .out))) (sym (q .1)) in (
         Pushed (record { answer = a .0; counts = c .counts; filter = filterOf (c .handed) }) (y ++ drop (c .counts .bytes) out),
         record { handed = c .handed; work = work; bodies = bodies; map-room = st .known .map-room },
         (
@@ -238,9 +239,9 @@ ask-total s =
 
 pub total : Total
 total = record {
-  start = λ L o map-room.
-      let a = answer-with (started L o map-room .number) (start-few L o map-room) in
-      (record { answer = a .0; filter = filterOf (started L o map-room .handed) }, record { answer-is = a .1; handed-is = record-of (started L o map-room .handed) });
+  start = λ L M o map-room.
+      let a = answer-with (started L M o map-room .number) (start-few L M o map-room) in
+      (record { answer = a .0; filter = filterOf (started L M o map-room .handed) }, record { answer-is = a .1; handed-is = record-of (started L M o map-room .handed) });
   call = λ s c. calls s c;
   tally = λ t c. let a = answer-with (tallyRefusal t c) (tally-few t c) in (tallied t c, a .0, (refl, a .1));
   narrow = narrow-total;

@@ -23,6 +23,7 @@ use Rattle.meaning.specs.Recount.{packetsOf, Sized, TableAlone, PayloadRecounte
 use Rattle.meaning.specs.Less.{Fewer, Thinned}
 use Rattle.meaning.specs.declared.Limits.{Limits}
 use Rattle.meaning.specs.declared.Options.{Options}
+use Rattle.meaning.specs.declared.Modes.{Modes}
 use Rattle.meaning.specs.declared.Counts.{Counts}
 use Rattle.meaning.specs.declared.Answer.{Answer}
 use Rattle.meaning.proofs.Examples.{Example, starredTables, noCaptions, packet12}
@@ -81,9 +82,9 @@ abbrev pub recording : List Result → List Bytes
 recording xs = packetsOf (flatten (map (λ x. told x .1) xs))
 
 -- Freshly started: by a start that was not refused, with rooms of the limits' lengths.
-abbrev pub Begun : Limits → Options → Recorder → Type 0
-Begun L o s =
-    (x : started.Started) × StartedAs L o (s .map-room) x × (answerNumber (x .answer) ≡ 0) × (s .handed ≡ recordIn (x .filter)) × (L .work ≡ length (s .work)) × (L .total ≡ length (s .bodies))
+abbrev pub Begun : Limits → Modes → Options → Recorder → Type 0
+Begun L M o s =
+    (x : started.Started) × StartedAs L M o (s .map-room) x × (answerNumber (x .answer) ≡ 0) × (s .handed ≡ recordIn (x .filter)) × (L .work ≡ length (s .work)) × (L .total ≡ length (s .bodies))
 
 -- ---- narrowing: n is a table, a payload or a packet, c what the definition changes, d the output, which is d′ then
 abbrev pub Narrows : Bytes → Option Change → Bytes → narrow.Narrowed → Bytes → Type 0
@@ -103,7 +104,7 @@ unsound s = not (sound (s .handed) (length (s .work)) (length (s .bodies)) (leng
 
 -- A call that is refused changes nothing.
 pub record Refusing : Type 0 where
-  pub start : (L : Limits) (o : Options) (map-room : List ℕ) (x : started.Started) → StartedAs L o map-room x
+  pub start : (L : Limits) (M : Modes) (o : Options) (map-room : List ℕ) (x : started.Started) → StartedAs L M o map-room x
       → (answerNumber (x .answer) ≡ lowest ((1, not (goodWorkRoom (L .work))) ∷ (2, not (goodFragmentRoom (L .total) (L .most))) ∷ (3, not (goodMapRoom (length map-room))) ∷ (9, not (wantsAssets o)) ∷ []))
       × (eqb (answerNumber (x .answer)) 0 ≡ false → recordIn (x .filter) ≡ blank)
   -- which is no record: every call refuses it
@@ -121,7 +122,7 @@ pub record Refusing : Type 0 where
 
 -- Every input has an answer: some result is allowed, so no promise asks for what cannot be.
 pub record Total : Type 0 where
-  pub start : (L : Limits) (o : Options) (map-room : List ℕ) → (x : started.Started) × StartedAs L o map-room x
+  pub start : (L : Limits) (M : Modes) (o : Options) (map-room : List ℕ) → (x : started.Started) × StartedAs L M o map-room x
   pub call : (s : Recorder) (c : Call) → (x : Result) × (t : Recorder) × Allows s c x t
   pub tally : (t c : Counts) → (u : Counts) × (a : Answer) × TalliedAs t c u a
   pub narrow : (n : Bytes) (c : Option Change) (d : Bytes) → (x : narrow.Narrowed) × (d′ : Bytes) × Narrows n c d x d′
@@ -140,7 +141,7 @@ pub record Same (s t : Recorder) : Type 0 where
   pub lengths-same : (length (s .work) ≡ length (t .work)) × (length (s .bodies) ≡ length (t .bodies))
 
 pub record Unique : Type 0 where
-  pub start : (L : Limits) (o : Options) (map-room : List ℕ) (x y : started.Started) → StartedAs L o map-room x → StartedAs L o map-room y → x ≡ y
+  pub start : (L : Limits) (M : Modes) (o : Options) (map-room : List ℕ) (x y : started.Started) → StartedAs L M o map-room x → StartedAs L M o map-room y → x ≡ y
   pub series : (s t : Recorder) → Same s t → (cs : List Call) (xs ys : List Result) (u v : Recorder) → Series s cs xs u → Series t cs ys v → (xs ≡ ys) × Same u v
   pub tally : (t c u v : Counts) (a b : Answer) → TalliedAs t c u a → TalliedAs t c v b → (u ≡ v) × (a ≡ b)
   pub narrow : (n : Bytes) (c : Option Change) (d : Bytes) (x y : narrow.Narrowed) (e f : Bytes) → Narrows n c d x e → Narrows n c d y f → (x ≡ y) × (e ≡ f)
@@ -153,16 +154,16 @@ accepted s chunk = cut (packetLimit (length (s .work))) (heldIn s ++ chunk) .pac
 pub record Recount : Type 0 where
   pub packets : (s : Recorder) (chunk out : Bytes) (x : pushed.Pushed) (out′ : Bytes) (t : Recorder) → Allows s (Push chunk out) (Pushed x out′) t
       → copiesAll (s .handed .options) ≡ false → let y = take (x .counts .bytes) out′ in
-      (flatten (packetsOf y) ≡ y) × Sized (packetsOf y) × (x .counts .written ≡ length (packetsOf y)) × Written (s .handed .options) (accepted s chunk) (packetsOf y) (x .counts .rewritten)
+      (flatten (packetsOf y) ≡ y) × Sized (packetsOf y) × (x .counts .written ≡ length (packetsOf y)) × Written (s .handed .modes) (s .handed .options) (accepted s chunk) (packetsOf y) (x .counts .rewritten)
   pub one-way : (ps qs : List Bytes) → Sized ps → Sized qs → flatten ps ≡ flatten qs → ps ≡ qs
   pub table : (o : Options) (t d : Bytes) (x : narrow.Narrowed) (d′ : Bytes) (c : Change) → Narrows t (changeTable o t) d x d′ → changeTold x d′ ≡ some c → TableAlone o t c
   pub payload : (o : Options) (p : ℕ) (s d : Bytes) (x : narrow.Narrowed) (d′ : Bytes) (c : Change) → Narrows s (changePayload o p s) d x d′ → changeTold x d′ ≡ some c
       → PayloadRecounted o p s (c .out) (c .stays) (c .goes)
-  pub packet : (o : Options) (p d : Bytes) (x : narrow.Narrowed) (d′ : Bytes) (c : Change) → Narrows p (changePacket o p) d x d′ → changeTold x d′ ≡ some c → PacketRecounted o p c
+  pub packet : (M : Modes) (o : Options) (p d : Bytes) (x : narrow.Narrowed) (d′ : Bytes) (c : Change) → Narrows p (changePacket M o p) d x d′ → changeTold x d′ ≡ some c → PacketRecounted o p c
 
--- ---- demand 3: of two series, freshly started with the same limits and equal rooms, given the same chunks and outputs of equal length,
-pub record Beside (L : Limits) (o₁ o₂ : Options) (xs₁ xs₂ : List Result) : Type 0 where
-  pub begin : (s₁ : Recorder) × (s₂ : Recorder) × Begun L o₁ s₁ × Begun L o₂ s₂ × (s₁ .work ≡ s₂ .work) × (s₁ .bodies ≡ s₂ .bodies) × (s₁ .map-room ≡ s₂ .map-room)
+-- ---- demand 3: of two series, freshly started with the same limits, the same modes and equal rooms, given the same chunks and outputs of equal length,
+pub record Beside (L : Limits) (M : Modes) (o₁ o₂ : Options) (xs₁ xs₂ : List Result) : Type 0 where
+  pub begin : (s₁ : Recorder) × (s₂ : Recorder) × Begun L M o₁ s₁ × Begun L M o₂ s₂ × (s₁ .work ≡ s₂ .work) × (s₁ .bodies ≡ s₂ .bodies) × (s₁ .map-room ≡ s₂ .map-room)
   pub calls : (cs₁ : List Call) × (cs₂ : List Call) × (map given cs₁ ≡ map given cs₂)
   pub series₁ : (t : Recorder) × Series (begin .0) (calls .0) xs₁ t
   pub series₂ : (t : Recorder) × Series (begin .1) (calls .1) xs₂ t
@@ -170,8 +171,8 @@ pub record Beside (L : Limits) (o₁ o₂ : Options) (xs₁ xs₂ : List Result)
 -- the first's packets come, in order, from the second's, each narrowed by the first's wishes; and the same calls are refused by the same numbers.
 abbrev pub LessIsLess : Type 0
 LessIsLess =
-    (L : Limits) (o₁ o₂ : Options) (xs₁ xs₂ : List Result) → Beside L o₁ o₂ xs₁ xs₂ → Fewer o₁ o₂ → copiesAll o₁ ≡ false → copiesAll o₂ ≡ false
-    → Thinned (narrowedPacket o₁) (recording xs₁) (recording xs₂) × (map (λ x. told x .0) xs₁ ≡ map (λ x. told x .0) xs₂)
+    (L : Limits) (M : Modes) (o₁ o₂ : Options) (xs₁ xs₂ : List Result) → Beside L M o₁ o₂ xs₁ xs₂ → Fewer o₁ o₂ → copiesAll o₁ ≡ false → copiesAll o₂ ≡ false
+    → Thinned (narrowedPacket M o₁) (recording xs₁) (recording xs₂) × (map (λ x. told x .0) xs₁ ≡ map (λ x. told x .0) xs₂)
 
 -- ---- in the user's words
 abbrev pub withoutCaptions : Options → Options
@@ -179,11 +180,11 @@ withoutCaptions o = record { service = o .service; caption = false; carousel = o
 
 pub record InWords : Type 0 where
   -- the clean recording is the captioned one less its captions
-  pub clean : (L : Limits) (o : Options) (xs₁ xs₂ : List Result) → Beside L (withoutCaptions o) o xs₁ xs₂ → copiesAll o ≡ false
-      → Thinned (narrowedPacket (withoutCaptions o)) (recording xs₁) (recording xs₂)
+  pub clean : (L : Limits) (M : Modes) (o : Options) (xs₁ xs₂ : List Result) → Beside L M (withoutCaptions o) o xs₁ xs₂ → copiesAll o ≡ false
+      → Thinned (narrowedPacket M (withoutCaptions o)) (recording xs₁) (recording xs₂)
   -- a recording of captions and tables is any that has captions, of the same service, less all else: 02 [1]
-  pub captions-and-tables : (L : Limits) (o : Options) (xs₁ xs₂ : List Result) → Beside L (captionsOnly (o .service)) o xs₁ xs₂ → o .caption ≡ true → copiesAll o ≡ false
-      → Thinned (narrowedPacket (captionsOnly (o .service))) (recording xs₁) (recording xs₂)
+  pub captions-and-tables : (L : Limits) (M : Modes) (o : Options) (xs₁ xs₂ : List Result) → Beside L M (captionsOnly (o .service)) o xs₁ xs₂ → o .caption ≡ true → copiesAll o ≡ false
+      → Thinned (narrowedPacket M (captionsOnly (o .service))) (recording xs₁) (recording xs₂)
   -- nothing is lost silently: held before + chunk = accepted packets' bytes + skipped + held after, and `lost` counts each MPT that finds no place
   pub nothing-lost : (s : Recorder) (chunk out : Bytes) (x : pushed.Pushed) (out′ : Bytes) (t : Recorder) → Allows s (Push chunk out) (Pushed x out′) t
       → answerNumber (x .answer) ≡ 0 → copiesAll (s .handed .options) ≡ false → let k = stateOf (s .handed) (s .work) (s .bodies) (s .map-room) .known in
@@ -195,7 +196,7 @@ pub record InWords : Type 0 where
 pub record Starred : Type 0 where
   pub tables : (e : Example) → List·Memᴰ e starredTables → (d : Bytes) (x : narrow.Narrowed) (d′ : Bytes) → length (e .table) ≤ length d
       → Narrows (e .table) (changeTable (e .options) (e .table)) d x d′ → changeTold x d′ ≡ e .change
-  pub one : (L : Limits) (s t : Recorder) (c d : Bytes) (x : pushed.Pushed) → Begun L noCaptions s → Allows s (Push (packet12 ++ (0x00 ∷ [])) c) (Pushed x d) t → 6 ≤ length c
+  pub one : (L : Limits) (M : Modes) (s t : Recorder) (c d : Bytes) (x : pushed.Pushed) → Begun L M noCaptions s → Allows s (Push (packet12 ++ (0x00 ∷ [])) c) (Pushed x d) t → 6 ≤ length c
       → (x .counts .skipped ≡ 3) × (heldIn t ≡ 0x01 ∷ 0xAA ∷ 0x00 ∷ [])
-  pub two : (L : Limits) (s t u : Recorder) (c d e f : Bytes) (x y : pushed.Pushed) → Begun L noCaptions s → Allows s (Push packet12 c) (Pushed x d) t → 5 ≤ length c
+  pub two : (L : Limits) (M : Modes) (s t u : Recorder) (c d e f : Bytes) (x y : pushed.Pushed) → Begun L M noCaptions s → Allows s (Push packet12 c) (Pushed x d) t → 5 ≤ length c
       → Allows t (Push (0x00 ∷ []) e) (Pushed y f) u → 1 ≤ length e → (x .counts .accepted ≡ 1) × (take (x .counts .bytes) d ≡ packet12) × (heldIn u ≡ 0x00 ∷ [])

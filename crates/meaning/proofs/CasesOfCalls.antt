@@ -1,23 +1,19 @@
 -- Small cases of the calls: a start, a push, a series of them. 01, "Finding packets", "Keep, drop, ready" and "Refusal numbers".
 use Prim.Native.Nat.{ℕ}
-use mathlib.Core.Path.{_≡_, refl, ap}
-use mathlib.Core.Bool.{Bool, true, false, cond}
-use mathlib.Core.List.{List, [], _∷_, _++_}
+use mathlib.Core.Path.{_≡_, refl}
+use mathlib.Core.Bool.{true, false}
+use mathlib.Core.List.{[], _∷_, _++_}
 use mathlib.Core.Option.{none, some}
-use lib.ListN.{length, take, drop, replicate}
-use lib.Dec.{eqb}
+use lib.ListN.{length, take, drop}
 use Rattle.meaning.specs.Bytes.{Bytes}
 use Rattle.meaning.specs.Sets.{inSet, withId}
 use Rattle.meaning.specs.Mmtp.{Mmtp}
+use Rattle.meaning.specs.Wishes.{allOff}
 use Rattle.meaning.specs.Learn.{Known}
-use Rattle.meaning.specs.Rules.{dropped}
-use Rattle.meaning.specs.Record.{State, Record, stateOf, recordOf}
-use Rattle.meaning.specs.Soundness.{sound, soundRefusal}
-use Rattle.meaning.specs.Calls.{countsOf}
-use Rattle.meaning.specs.Start.{noWords, fresh, blank, started}
-use Rattle.meaning.specs.Push.{withheld, Passed, passOne, pass, push, lengthRefusal, pushRefusal, called}
-use Rattle.meaning.specs.Dropped.{droppedNow}
-use Rattle.meaning.specs.Series.{callRefusal, series}
+use Rattle.meaning.specs.Record.{State}
+use Rattle.meaning.specs.Start.{noWords, fresh}
+use Rattle.meaning.specs.Push.{withheld, Passed, passOne, pass, push}
+use Rattle.meaning.specs.Series.{series}
 use Rattle.meaning.specs.declared.Limits.{Limits}
 use Rattle.meaning.specs.declared.Service.the-variants.{Every}
 use Rattle.meaning.specs.declared.Options.{Options}
@@ -87,17 +83,17 @@ pub record Pushes : Type 0 where
   pub not-written : passOne true (some (7 ∷ [])) (8 ∷ []) 2 behind ≡ record { out = (9 ∷ []) ∷ []; rewritten = 1; lost = 5; known = after }
   pub as-it-is : passOne false none (8 ∷ []) 2 behind ≡ record { out = (8 ∷ []) ∷ (9 ∷ []) ∷ []; rewritten = 1; lost = 5; known = after }
   pub rewritten : passOne false (some (7 ∷ [])) (8 ∷ []) 2 behind ≡ record { out = (7 ∷ []) ∷ (9 ∷ []) ∷ []; rewritten = 2; lost = 5; known = after }
-  pub none-left : pass limits noCaptions after [] ≡ record { out = []; rewritten = 0; lost = 0; known = after }
+  pub none-left : pass limits allOff noCaptions after [] ≡ record { out = []; rewritten = 0; lost = 0; known = after }
   -- a packet is asked after it was learned from: 0x8003 makes its own identifier one that is dropped
-  pub data-at-once : pass limits noCarousels (start .known) (carousel ∷ []) .out ≡ []
-  pub whole : push limits noCaptions start stream
+  pub data-at-once : pass limits allOff noCarousels (start .known) (carousel ∷ []) .out ≡ []
+  pub whole : push limits allOff noCaptions start stream
       ≡ record { out = plt ∷ narrowed ∷ video ∷ []; counts = counted 118 5 3 1 0; state = record { held = 0x7F ∷ []; known = after } }
-  pub copied : push limits all-on start stream ≡ record { out = stream ∷ []; counts = counted 177 0 0 0 0; state = start }
+  pub copied : push limits allOff all-on start stream ≡ record { out = stream ∷ []; counts = counted 177 0 0 0 0; state = start }
   -- W of 4,096 bytes makes a packet of 2,052 none
-  pub above-limit : push (record { work = 4096; total = 1; most = 1 }) noCaptions start (0x7F ∷ 0xFF ∷ 0x08 ∷ 0x00 ∷ [])
+  pub above-limit : push (record { work = 4096; total = 1; most = 1 }) allOff noCaptions start (0x7F ∷ 0xFF ∷ 0x08 ∷ 0x00 ∷ [])
       ≡ record { out = []; counts = counted 0 0 0 0 1; state = record { held = 0xFF ∷ 0x08 ∷ 0x00 ∷ []; known = start .known } }
   -- in two pieces, with a refused one between them, which counts nothing
-  pub in-pieces : series limits noCaptions start ((take 70 stream, 70) ∷ (stream, 9) ∷ (drop 70 stream, 65536) ∷ [])
+  pub in-pieces : series limits allOff noCaptions start ((take 70 stream, 70) ∷ (stream, 9) ∷ (drop 70 stream, 65536) ∷ [])
       ≡ record { out = plt ∷ narrowed ∷ video ∷ []; counts = counted 118 5 3 1 0; state = record { held = 0x7F ∷ []; known = after } }
 
 pub pushes : Pushes

@@ -7,7 +7,7 @@ use mathlib.Core.List.{List, [], _∷_, _++_}
 use mathlib.Core.Option.{Option, none, some}
 use lib.ListN.{replicate}
 use Rattle.meaning.specs.Bytes.{Bytes}
-use Rattle.meaning.specs.Wishes.{wanted, wantsAssets, captionsOnly, copiesAll}
+use Rattle.meaning.specs.Wishes.{wanted, wantsAssets, captionsOnly, copiesAll, allOff}
 use Rattle.meaning.specs.Narrow.{Change, changeTable}
 use Rattle.meaning.specs.Learn.{Known}
 use Rattle.meaning.specs.Rules.{drops}
@@ -118,7 +118,7 @@ pub record Starts : Type 0 where
   pub refused : startRefusal 4096 1 1 32768 (wishes false true true false) ≡ 9
   pub taken : (startRefusal 4096 1 1 32768 (captionsOnly Every) ≡ 0) × (startRefusal 4096 1 1 32768 (wishes false false false true) ≡ 0)
   pub lower-first : (startRefusal 4096 1 1 32767 (wishes false true true false) ≡ 3) × (startRefusal 4096 0 1 32768 (wishes false true true false) ≡ 2) × (startRefusal 4095 1 1 32768 (wishes false true true false) ≡ 1)
-  pub handed-blank : started (record { work = 4096; total = 1; most = 1 }) (wishes false true true false) (replicate 32768 0) .handed ≡ blank
+  pub handed-blank : started (record { work = 4096; total = 1; most = 1 }) allOff (wishes false true true false) (replicate 32768 0) .handed ≡ blank
 
 pub starts : Starts
 unfolding startRefusal started wantsAssets captionsOnly

@@ -1,14 +1,13 @@
 -- Small cases of narrowing: 01, "Narrowing". M and M₁ are those of 01's examples.
 use Prim.Native.Nat.{ℕ}
 use mathlib.Core.Path.{_≡_, refl}
-use mathlib.Core.Bool.{Bool, true, false}
-use mathlib.Core.List.{List, [], _∷_, _++_}
+use mathlib.Core.Bool.{true, false}
+use mathlib.Core.List.{[], _∷_, _++_}
 use mathlib.Core.Option.{none, some}
 use lib.ListN.{replicate, drop}
 use Rattle.meaning.specs.Bytes.{Bytes}
-use Rattle.meaning.specs.Tables.{Table}
-use Rattle.meaning.specs.Wishes.{wanted}
-use Rattle.meaning.specs.Narrow.{mptWithout, isService, lastOf, pltOnly, newBody, tableBytes, narrowTable, relength, paBytes, narrowPa, paMessage, payloadBytes, narrowPayload, narrowPacket, narrowedPacket, isPart, byPart, stayed, went, tableParts, Change, changeTable, changePayload, changePacket, changeMade, changedBytes, noneOfEach, staysOf, goesOf}
+use Rattle.meaning.specs.Wishes.{wanted, allOff}
+use Rattle.meaning.specs.Narrow.{mptWithout, isService, lastOf, pltOnly, newBody, tableBytes, narrowTable, relength, paBytes, narrowPa, paMessage, payloadBytes, narrowPayload, narrowPacket, narrowedPacket, byPart, stayed, went, tableParts, Change, changeTable, changePayload, changePacket, changeMade, changedBytes, noneOfEach, staysOf, goesOf}
 use Rattle.meaning.specs.declared.Part.the-variants.{Caption, Carousel, Other}
 use Rattle.meaning.specs.declared.Service.the-variants.{Every}
 use Rattle.meaning.specs.declared.Options.{Options}
@@ -121,15 +120,15 @@ pub record Messages : Type 0 where
   pub not-pa : paMessage (0x00 ∷ 0x00 ∷ 0x80 ∷ 0x03 ∷ 0x07 ∷ 0x00 ∷ 0x00 ∷ 0x00 ∷ 0x01 ∷ 0x09 ∷ []) ≡ none
   pub length-follows : payloadBytes payload (7 ∷ 8 ∷ []) ≡ 0x3E ∷ 0x55 ∷ 0x00 ∷ 0x00 ∷ 0x07 ∷ 0x00 ∷ 0x00 ∷ 0x00 ∷ 0x02 ∷ 7 ∷ 8 ∷ []
   pub of-payload : narrowPayload noCaptions 5 payload ≡ some narrowed
-  pub of-packet : narrowPacket noCaptions (packet 0x00 0x61 0x02 payload) ≡ some (packet 0xBB 0x61 0x02 narrowed)
+  pub of-packet : narrowPacket allOff noCaptions (packet 0x00 0x61 0x02 payload) ≡ some (packet 0xBB 0x61 0x02 narrowed)
   -- a PLT is one on identifier 0 alone
   pub plt-on-zero : narrowPayload (service 0x0401) 0 (alone-in 0x13 (pltWith 0x01)) ≡ some (alone-in 0x0D (oneService 0x01))
   pub plt-on-five : narrowPayload (service 0x0401) 5 (alone-in 0x13 (pltWith 0x01)) ≡ none
-  pub plt-packet-on-five : narrowPacket (service 0x0401) (packet 0x00 0x61 0x02 (alone-in 0x13 (pltWith 0x01))) ≡ none
-  pub not-rewritable : narrowPacket noCaptions (packet 0x00 0x20 0x02 (replicate 8 0 ++ drop 7 (packet 0x00 0x20 0x02 payload))) ≡ none
-  pub no-signalling : narrowPacket noCaptions (packet 0x00 0x61 0x00 payload) ≡ none
-  pub itself : narrowedPacket noCarousels (packet 0x00 0x61 0x02 payload) ≡ packet 0x00 0x61 0x02 payload
-  pub another : narrowedPacket noCaptions (packet 0x00 0x61 0x02 payload) ≡ packet 0xBB 0x61 0x02 narrowed
+  pub plt-packet-on-five : narrowPacket allOff (service 0x0401) (packet 0x00 0x61 0x02 (alone-in 0x13 (pltWith 0x01))) ≡ none
+  pub not-rewritable : narrowPacket allOff noCaptions (packet 0x00 0x20 0x02 (replicate 8 0 ++ drop 7 (packet 0x00 0x20 0x02 payload))) ≡ none
+  pub no-signalling : narrowPacket allOff noCaptions (packet 0x00 0x61 0x00 payload) ≡ none
+  pub itself : narrowedPacket allOff noCarousels (packet 0x00 0x61 0x02 payload) ≡ packet 0x00 0x61 0x02 payload
+  pub another : narrowedPacket allOff noCaptions (packet 0x00 0x61 0x02 payload) ≡ packet 0xBB 0x61 0x02 narrowed
 
 pub message-cases : Messages
 unfolding relength paBytes narrowPa paMessage payloadBytes narrowPayload narrowPacket narrowedPacket
@@ -165,10 +164,10 @@ pub record Counted : Type 0 where
   pub of-no-mpt : tableParts (record { number = 0x21; version = 0; body = three }) ≡ []
   pub in-table : changeTable noCaptions (M ++ more) ≡ some (record { out = M₁; stays = 0 ∷ 0 ∷ 1 ∷ []; goes = 1 ∷ 0 ∷ 0 ∷ [] })
   pub in-payload : changePayload noCaptions 5 payload ≡ some (record { out = narrowed; stays = 0 ∷ 0 ∷ 2 ∷ []; goes = 1 ∷ 0 ∷ 0 ∷ [] })
-  pub in-packet : changePacket noCaptions (packet 0x00 0x61 0x02 payload)
+  pub in-packet : changePacket allOff noCaptions (packet 0x00 0x61 0x02 payload)
       ≡ some (record { out = packet 0xBB 0x61 0x02 narrowed; stays = 0 ∷ 0 ∷ 2 ∷ []; goes = 1 ∷ 0 ∷ 0 ∷ [] })
   pub on-five : changePayload (service 0x0401) 5 (alone-in 0x13 (pltWith 0x01)) ≡ none
-  pub unchanged : (changePayload noCarousels 5 payload ≡ none) × (changePacket noCarousels (packet 0x00 0x61 0x02 payload) ≡ none)
+  pub unchanged : (changePayload noCarousels 5 payload ≡ none) × (changePacket allOff noCarousels (packet 0x00 0x61 0x02 payload) ≡ none)
 
 pub counted : Counted
 unfolding byPart stayed went tableParts changeTable changePayload changePacket

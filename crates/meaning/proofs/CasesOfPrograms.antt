@@ -4,10 +4,10 @@ use mathlib.Core.Path.{_≡_, refl}
 use mathlib.Core.Bool.{Bool, true, false}
 use mathlib.Core.List.{[], _∷_, _++_, flatten}
 use mathlib.Core.Option.{none, some}
-use lib.ListN.{length, take, drop, replicate}
+use lib.ListN.{take, drop, replicate}
 use Rattle.meaning.specs.Bytes.{Bytes}
 use Rattle.meaning.specs.Series.{Series}
-use Rattle.meaning.specs.Wishes.{wantsAssets}
+use Rattle.meaning.specs.Wishes.{wantsAssets, allOff}
 use Rattle.meaning.specs.Programs.{optionsOf, inputRefused, inputOptions, inputRefusal, chunk, programLimits, programLent, programCalls, digits, item, refusedLine, sumsLine, filterWrites, sumsWrites}
 use Rattle.meaning.specs.declared.Service.the-variants.{Every, Only}
 use Rattle.meaning.specs.declared.Options.{Options}
@@ -96,7 +96,7 @@ abbrev two-lists : Bytes
 two-lists = signal 0x2A 0 0x12 (0x80 ∷ 1 ∷ 0 ∷ 0x0D ∷ 2 ∷ 2 ∷ 4 ∷ 1 ∷ 0 ∷ 0 ∷ 6 ∷ 2 ∷ 4 ∷ 2 ∷ 0 ∷ 0 ∷ 7 ∷ []) ++ narrowed
 
 abbrev in-two : Series
-in-two = programCalls noCaptions (take 70 stream ∷ drop 70 stream ∷ [])
+in-two = programCalls allOff noCaptions (take 70 stream ∷ drop 70 stream ∷ [])
 
 pub record Written : Type 0 where
   pub pieces : (flatten (in-two .out) ≡ all-of-it) × (in-two .counts ≡ record { bytes = 118; accepted = 5; written = 3; rewritten = 1; skipped = 0; lost = 0 })

@@ -1,10 +1,10 @@
 -- Small cases of the record: how its numbers are packed, and how it holds a state. 01, "Rooms and their ends".
 use mathlib.Core.Path.{_≡_, refl}
 use mathlib.Core.Bool.{true, false}
-use mathlib.Core.List.{List, [], _∷_, _++_}
+use mathlib.Core.List.{[], _∷_}
 use lib.ListN.{replicate}
-use Rattle.meaning.specs.Bytes.{Bytes}
-use Rattle.meaning.specs.Learn.{Fragment, Known}
+use Rattle.meaning.specs.Wishes.{allOff}
+use Rattle.meaning.specs.Learn.{Fragment}
 use Rattle.meaning.specs.Record.{State, slots, Record, packPair, pairOf, fragmentHead, fragmentIdentifier, fragmentFlags, fragmentLength, recordOf, fragmentsIn, stateOf, bodiesOf}
 use Rattle.meaning.specs.Soundness.{rising, distinct, sound, firsts, identifiers}
 use Rattle.meaning.specs.declared.Limits.{Limits}
@@ -60,6 +60,7 @@ state = record {
 abbrev holding : Record
 holding = record {
   limits = limits;
+  modes = allOff;
   options = options;
   held-count = 2;
   plt-seen = true;
@@ -73,7 +74,7 @@ holding = record {
 }
 
 pub record Kept : Type 0 where
-  pub as-record : recordOf limits options state ≡ holding
+  pub as-record : recordOf limits allOff options state ≡ holding
   pub as-state : stateOf holding (0x7F ∷ 0x01 ∷ 0xEE ∷ []) (7 ∷ 8 ∷ 0xEE ∷ []) (0x77 ∷ 1 ∷ []) ≡ state
   pub is-sound : sound holding 4096 10 32768 ≡ true
 

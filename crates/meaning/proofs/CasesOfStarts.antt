@@ -2,21 +2,19 @@
 use Prim.Native.Nat.{ℕ}
 use mathlib.Core.Path.{_≡_, refl, ap}
 use mathlib.Core.Bool.{Bool, true, false, cond}
-use mathlib.Core.List.{List, [], _∷_, _++_}
+use mathlib.Core.List.{List, [], _∷_}
 use lib.ListN.{length, replicate}
 use lib.Dec.{eqb}
 use Rattle.meaning.specs.Bytes.{Bytes}
+use Rattle.meaning.specs.Wishes.{allOff}
 use Rattle.meaning.specs.Rules.{dropped}
 use Rattle.meaning.specs.Record.{Record, stateOf}
 use Rattle.meaning.specs.Soundness.{sound, soundRefusal}
-use Rattle.meaning.specs.Calls.{countsOf}
 use Rattle.meaning.specs.Start.{noWords, fresh, blank, started}
 use Rattle.meaning.specs.Push.{lengthRefusal, pushRefusal, called}
 use Rattle.meaning.specs.Dropped.{droppedNow}
 use Rattle.meaning.specs.Series.{callRefusal}
 use Rattle.meaning.specs.declared.Limits.{Limits}
-use Rattle.meaning.specs.declared.Service.the-variants.{Every}
-use Rattle.meaning.specs.declared.Options.{Options}
 use Rattle.meaning.specs.declared.Counts.{Counts}
 use Rattle.meaning.proofs.Examples.{noCaptions}
 
@@ -29,6 +27,7 @@ zeros n = replicate n 0
 abbrev started-record : ℕ → Record
 started-record held-count = record {
   limits = limits;
+  modes = allOff;
   options = noCaptions;
   held-count = held-count;
   plt-seen = false;
@@ -62,8 +61,8 @@ pub record Answers : Type 0 where
   -- all zero, and unsound with any rooms
   pub blank-zero : (blank .held-count ≡ 0) × (blank .plt-seen ≡ false) × (blank .package-count ≡ 0) × (blank .limits .work ≡ 0) × (blank .options .eit ≡ false)
   pub blank-unsound : (soundRefusal blank 0 0 32768 ≡ 4) × (soundRefusal blank 4096 10 32768 ≡ 4)
-  pub start : started limits noCaptions (zeros 32768) ≡ record { number = 0; out = []; counts = counted 0 0 0; handed = started-record 0 }
-  pub no-start : started limits noCaptions (zeros 32767) ≡ record { number = 3; out = []; counts = counted 0 0 0; handed = blank }
+  pub start : started limits allOff noCaptions (zeros 32768) ≡ record { number = 0; out = []; counts = counted 0 0 0; handed = started-record 0 }
+  pub no-start : started limits allOff noCaptions (zeros 32767) ≡ record { number = 3; out = []; counts = counted 0 0 0; handed = blank }
   -- 01's example 12, by the record
   pub taken : called (started-record 0) (zeros 4096) (zeros 10) (zeros 32768) packet12 5
       ≡ record { number = 0; out = packet12 ∷ []; counts = counted 5 1 0; handed = started-record 0 }

@@ -1,10 +1,11 @@
 -- Each way to be unsound: every clause of 01's "Unsound" in its order and its words, and that of 02 [1], as a record that is unsound by this clause alone and
 -- the nearest one that is sound: the two differ in one number, by one where a note says no other. The program `unsound` runs the same.
-use Prim.Native.Nat.{ℕ, zero, suc, _+_, _-_, _*_}
+use Prim.Native.Nat.{ℕ, zero, suc, _-_, _*_}
 use mathlib.Core.Path.{_≡_, refl}
 use mathlib.Core.Bool.{Bool, true, false}
-use mathlib.Core.List.{List, [], _∷_, _++_}
+use mathlib.Core.List.{List, [], _∷_}
 use lib.ListN.{replicate}
+use Rattle.meaning.specs.Wishes.{allOff}
 use Rattle.meaning.specs.Record.{Record}
 use Rattle.meaning.specs.Soundness.{rising, distinct, soundRooms, soundHeld, soundPackages, soundMaps, soundFragments, sound}
 use Rattle.meaning.specs.declared.Limits.{Limits}
@@ -32,6 +33,7 @@ copy-all = record { service = Every; caption = true; carousel = true; eit = true
 abbrev recording : Limits → Options → ℕ → Slots → Slots → Slots → Record
 recording L o held-count packages map-heads fragment-heads = record {
   limits = L;
+  modes = allOff;
   options = o;
   held-count = held-count;
   plt-seen = true;

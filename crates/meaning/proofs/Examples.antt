@@ -8,6 +8,7 @@ use mathlib.Core.Option.{Option, none, some}
 use native.Mathlib.Omega.{arith}
 use lib.ListN.{length, replicate}
 use Rattle.meaning.specs.Bytes.{Bytes}
+use Rattle.meaning.specs.Wishes.{allOff}
 use Rattle.meaning.specs.Narrow.{Change, changeTable, noneOfEach}
 use Rattle.meaning.specs.Record.{State}
 use Rattle.meaning.specs.Start.{fresh}
@@ -117,10 +118,10 @@ AllCompute (e ∷ es) = Computes e × AllCompute es
 
 pub record Starred : Type 0 where
   pub tables : AllCompute starredTables
-  pub ex11 : push limits noCaptions start (packet12 ++ (0x00 ∷ []))
+  pub ex11 : push limits allOff noCaptions start (packet12 ++ (0x00 ∷ []))
       ≡ record { out = []; counts = counts 0 0 3; state = holding (0x01 ∷ 0xAA ∷ 0x00 ∷ []) }
-  pub ex12 : push limits noCaptions start packet12 ≡ record { out = packet12 ∷ []; counts = counts 5 1 0; state = holding [] }
-  pub ex12-next : push limits noCaptions (holding []) (0x00 ∷ []) ≡ record { out = []; counts = counts 0 0 0; state = holding (0x00 ∷ []) }
+  pub ex12 : push limits allOff noCaptions start packet12 ≡ record { out = packet12 ∷ []; counts = counts 5 1 0; state = holding [] }
+  pub ex12-next : push limits allOff noCaptions (holding []) (0x00 ∷ []) ≡ record { out = []; counts = counts 0 0 0; state = holding (0x00 ∷ []) }
 
 pub starred : Starred
 unfolding changeTable push fresh

@@ -18,6 +18,7 @@ use Rattle.meaning.specs.Series.{Lent, callRefusal, Series, seriesOn, se
 use Rattle.meaning.specs.Less.{Fewer, Thinned}
 use Rattle.meaning.specs.declared.Limits.{Limits}
 use Rattle.meaning.specs.declared.Options.{Options}
+use Rattle.meaning.specs.declared.Modes.{Modes}
 use Rattle.meaning.proofs.ListLaws.{clash}
 use Rattle.meaning.proofs.NarrowLaws.{packet-narrows}
 use Rattle.meaning.proofs.RuleLaws.{withheld-under}
@@ -36,45 +37,45 @@ thinned-append {f} t u = record {
 thinned-nil : {f : Bytes → Bytes} → Thinned f [] []
 thinned-nil = record { from = []; some-of = Sublistᴰ·slnil; changed = refl }
 
-module _ (L : Limits) {o₁ o₂ : Options} (fewer : Fewer o₁ o₂) where
+module _ (L : Limits) (M : Modes) {o₁ o₂ : Options} (fewer : Fewer o₁ o₂) where
   -- ---- packets in order: what is known does not depend on wishes
 
-  pass-known : (k : Known) (ps : List Bytes) → pass L o₁ k ps .known ≡ pass L o₂ k ps .known
+  pass-known : (k : Known) (ps : List Bytes) → pass L M o₁ k ps .known ≡ pass L M o₂ k ps .known
   unfolding pass
   pass-known k [] = refl
   pass-known k (p ∷ ps) = go (withheld o₁ (learn L k p .known) (mmtpOf p)) (withheld o₂ (learn L k p .known) (mmtpOf p)) (pass-known (learn L k p .known) ps)
     where
-      go : (a b : Bool) → pass L o₁ (learn L k p .known) ps .known ≡ pass L o₂ (learn L k p .known) ps .known
-          → passOne a (narrowPacket o₁ p) p (learn L k p .lost) (pass L o₁ (learn L k p .known) ps) .known
-          ≡ passOne b (narrowPacket o₂ p) p (learn L k p .lost) (pass L o₂ (learn L k p .known) ps) .known
+      go : (a b : Bool) → pass L M o₁ (learn L k p .known) ps .known ≡ pass L M o₂ (learn L k p .known) ps .known
+          → passOne a (narrowPacket M o₁ p) p (learn L k p .lost) (pass L M o₁ (learn L k p .known) ps) .known
+          ≡ passOne b (narrowPacket M o₂ p) p (learn L k p .lost) (pass L M o₂ (learn L k p .known) ps) .known
       go true true ih = ih
       go true false ih = ih
       go false true ih = ih
       go false false ih = ih
 
-  again : (p : Bytes) → narrowedPacket o₁ (Option·getD (narrowPacket o₂ p) p) ≡ Option·getD (narrowPacket o₁ p) p
+  again : (p : Bytes) → narrowedPacket M o₁ (Option·getD (narrowPacket M o₂ p) p) ≡ Option·getD (narrowPacket M o₁ p) p
   unfolding narrowedPacket
-  again p = packet-narrows fewer .twice p
+  again p = packet-narrows M fewer .twice p
 
-  pass-thinned : (k : Known) (ps : List Bytes) → Thinned (narrowedPacket o₁) (pass L o₁ k ps .out) (pass L o₂ k ps .out)
+  pass-thinned : (k : Known) (ps : List Bytes) → Thinned (narrowedPacket M o₁) (pass L M o₁ k ps .out) (pass L M o₂ k ps .out)
   unfolding pass
   pass-thinned k [] = thinned-nil
   pass-thinned k (p ∷ ps) =
       go (withheld o₁ (learn L k p .known) (mmtpOf p)) refl (withheld o₂ (learn L k p .known) (mmtpOf p)) refl (pass-thinned (learn L k p .known) ps)
     where
       r₁ : Passed
-      r₁ = pass L o₁ (learn L k p .known) ps
+      r₁ = pass L M o₁ (learn L k p .known) ps
 
       r₂ : Passed
-      r₂ = pass L o₂ (learn L k p .known) ps
+      r₂ = pass L M o₂ (learn L k p .known) ps
 
       go : (a : Bool) → withheld o₁ (learn L k p .known) (mmtpOf p) ≡ a → (b : Bool) → withheld o₂ (learn L k p .known) (mmtpOf p) ≡ b
-          → Thinned (narrowedPacket o₁) (r₁ .out) (r₂ .out)
-          → Thinned (narrowedPacket o₁) (passOne a (narrowPacket o₁ p) p (learn L k p .lost) r₁ .out) (passOne b (narrowPacket o₂ p) p (learn L k p .lost) r₂ .out)
+          → Thinned (narrowedPacket M o₁) (r₁ .out) (r₂ .out)
+          → Thinned (narrowedPacket M o₁) (passOne a (narrowPacket M o₁ p) p (learn L k p .lost) r₁ .out) (passOne b (narrowPacket M o₂ p) p (learn L k p .lost) r₂ .out)
       go true ea true eb t = t
       go true ea false eb t = record { from = t .from; some-of = Sublistᴰ·cons (t .some-of); changed = t .changed }
       go false ea false eb t = record {
-        from = Option·getD (narrowPacket o₂ p) p ∷ t .from;
+        from = Option·getD (narrowPacket M o₂ p) p ∷ t .from;
         some-of = Sublistᴰ·cons-cons refl (t .some-of);
         changed = ap₂ (λ (x : Bytes) (l : List Bytes). x ∷ l) (sym (again p)) (t .changed);
       }
@@ -83,11 +84,11 @@ module _ (L : Limits) {o₁ o₂ : Options} (fewer : Fewer o₁ o₂) where
   -- ---- one call, neither set to copy all
 
   module _ (some₁ : copiesAll o₁ ≡ false) (some₂ : copiesAll o₂ ≡ false) where
-    pub push-thinned : (st : State) (chunk : Bytes) → Thinned (narrowedPacket o₁) (push L o₁ st chunk .out) (push L o₂ st chunk .out)
+    pub push-thinned : (st : State) (chunk : Bytes) → Thinned (narrowedPacket M o₁) (push L M o₁ st chunk .out) (push L M o₂ st chunk .out)
     unfolding push filtered
     push-thinned st chunk = rw (some₁, some₂) (pass-thinned (st .known) (cut (packetLimit (L .work)) (st .held ++ chunk) .packets))
 
-    pub push-state : (st : State) (chunk : Bytes) → push L o₁ st chunk .state ≡ push L o₂ st chunk .state
+    pub push-state : (st : State) (chunk : Bytes) → push L M o₁ st chunk .state ≡ push L M o₂ st chunk .state
     unfolding push filtered
     push-state st chunk =
         rw (some₁, some₂)
@@ -97,23 +98,23 @@ module _ (L : Limits) {o₁ o₂ : Options} (fewer : Fewer o₁ o₂) where
     -- ---- demand 3: any series of calls, each with its chunk and the length of its output
 
     pub less-is-less : (st : State) (cs : List Lent)
-        → Thinned (narrowedPacket o₁) (series L o₁ st cs .out) (series L o₂ st cs .out) × (series L o₁ st cs .state ≡ series L o₂ st cs .state)
+        → Thinned (narrowedPacket M o₁) (series L M o₁ st cs .out) (series L M o₂ st cs .out) × (series L M o₁ st cs .state ≡ series L M o₂ st cs .state)
     unfolding series
     less-is-less st [] = (thinned-nil, refl)
     less-is-less st (c ∷ cs) =
         go (eqb (callRefusal L st c) 0) (less-is-less st cs)
-        (subst (λ (z : State). Thinned (narrowedPacket o₁) (series L o₁ (push L o₁ st (c .0) .state) cs .out) (series L o₂ z cs .out) × (series L o₁ (push L o₁ st (c .0) .state) cs .state ≡ series L o₂ z cs .state))
-        (push-state st (c .0)) (less-is-less (push L o₁ st (c .0) .state) cs))
+        (subst (λ (z : State). Thinned (narrowedPacket M o₁) (series L M o₁ (push L M o₁ st (c .0) .state) cs .out) (series L M o₂ z cs .out) × (series L M o₁ (push L M o₁ st (c .0) .state) cs .state ≡ series L M o₂ z cs .state))
+        (push-state st (c .0)) (less-is-less (push L M o₁ st (c .0) .state) cs))
       where
         r₁ : Series
-        r₁ = series L o₁ (push L o₁ st (c .0) .state) cs
+        r₁ = series L M o₁ (push L M o₁ st (c .0) .state) cs
 
         r₂ : Series
-        r₂ = series L o₂ (push L o₂ st (c .0) .state) cs
+        r₂ = series L M o₂ (push L M o₂ st (c .0) .state) cs
 
-        go : (a : Bool) → Thinned (narrowedPacket o₁) (series L o₁ st cs .out) (series L o₂ st cs .out) × (series L o₁ st cs .state ≡ series L o₂ st cs .state)
-            → Thinned (narrowedPacket o₁) (r₁ .out) (r₂ .out) × (r₁ .state ≡ r₂ .state)
-            → Thinned (narrowedPacket o₁) (cond a (seriesOn (push L o₁ st (c .0)) r₁) (series L o₁ st cs) .out) (cond a (seriesOn (push L o₂ st (c .0)) r₂) (series L o₂ st cs) .out)
-            × (cond a (seriesOn (push L o₁ st (c .0)) r₁) (series L o₁ st cs) .state ≡ cond a (seriesOn (push L o₂ st (c .0)) r₂) (series L o₂ st cs) .state)
+        go : (a : Bool) → Thinned (narrowedPacket M o₁) (series L M o₁ st cs .out) (series L M o₂ st cs .out) × (series L M o₁ st cs .state ≡ series L M o₂ st cs .state)
+            → Thinned (narrowedPacket M o₁) (r₁ .out) (r₂ .out) × (r₁ .state ≡ r₂ .state)
+            → Thinned (narrowedPacket M o₁) (cond a (seriesOn (push L M o₁ st (c .0)) r₁) (series L M o₁ st cs) .out) (cond a (seriesOn (push L M o₂ st (c .0)) r₂) (series L M o₂ st cs) .out)
+            × (cond a (seriesOn (push L M o₁ st (c .0)) r₁) (series L M o₁ st cs) .state ≡ cond a (seriesOn (push L M o₂ st (c .0)) r₂) (series L M o₂ st cs) .state)
         go true skipped done = (thinned-append (push-thinned st (c .0)) (done .0), done .1)
         go false skipped done = skipped

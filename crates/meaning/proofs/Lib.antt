@@ -20,6 +20,7 @@ pub mod CasesOfCalls
 pub mod CasesOfStarts
 pub mod CasesOfPrograms
 pub mod CasesOfCaptions
+pub mod CasesOfIp
 pub mod CasesOfRecount
 pub mod CasesOfLost
 pub mod ListLaws
@@ -29,7 +30,15 @@ pub mod CutLaws
 pub mod Framed
 pub mod TableLaws
 pub mod PaLaws
+pub mod ChecksumLaws
+pub mod FieldLaws
+pub mod IpTests
+pub mod ReceiverLaws
+pub mod AfreshLaws
+pub mod IpLaws
+pub mod PacketLaws
 pub mod NarrowLaws
+pub mod ModesOff
 pub mod RuleLaws
 pub mod CountLaws
 pub mod LessIsLess

@@ -29,6 +29,7 @@ use Rattle.meaning.specs.Push.{withheld, Passed, passOne, pass, filtered
 use Rattle.meaning.specs.Recount.{mptIn, mptsIn, ListKept, ListLost, joinedMessages, messagesBy, observedMessages, mptIdentifiers, identifiersFrom, observedMpts, lostOf}
 use Rattle.meaning.specs.declared.Limits.{Limits}
 use Rattle.meaning.specs.declared.Options.{Options}
+use Rattle.meaning.specs.declared.Modes.{Modes}
 use Rattle.meaning.proofs.ListLaws.{clash}
 use Rattle.meaning.proofs.TableLaws.{mpt-split}
 use Rattle.meaning.proofs.SoundnessKept.{putHead, put-is, put-length, list-length}
@@ -361,15 +362,15 @@ told-learn L k p few = told-packet L k few (mmtpOf p)
 
 -- ---- a run, and a call
 
-pass-lost : (L : Limits) (o : Options) (k : Known) (ps : List Bytes) → length (k .map-heads) ≤ 64 → pass L o k ps .lost ≡ lostOf (ids k) (observedMpts L k ps)
+pass-lost : (L : Limits) (M : Modes) (o : Options) (k : Known) (ps : List Bytes) → length (k .map-heads) ≤ 64 → pass L M o k ps .lost ≡ lostOf (ids k) (observedMpts L k ps)
 unfolding pass observedMpts lostOf
-pass-lost L o k [] few = refl
-pass-lost L o k (p ∷ ps) few =
+pass-lost L M o k [] few = refl
+pass-lost L M o k (p ∷ ps) few =
     let t = told-learn L k p few in
-    go (withheld o (learn L k p .known) (mmtpOf p)) t (pass-lost L o (learn L k p .known) ps (t .few))
+    go (withheld o (learn L k p .known) (mmtpOf p)) t (pass-lost L M o (learn L k p .known) ps (t .few))
   where
     r : Passed
-    r = pass L o (learn L k p .known) ps
+    r = pass L M o (learn L k p .known) ps
 
     rest : List ℕ
     rest = observedMpts L (learn L k p .known) ps
@@ -380,12 +381,12 @@ pass-lost L o k (p ∷ ps) few =
         ap₂ (λ (a c : ℕ). a + c) (t .lost-is) (ih ∙ ap (λ (h : List ℕ). lostOf h rest) (t .held-is)) ∙ sym (lost-append (ids k) (identifiersFrom L (mmtpOf p) k) rest)
 
     go : (a : Bool) → Told k (identifiersFrom L (mmtpOf p) k) (learn L k p) → r .lost ≡ lostOf (ids (learn L k p .known)) rest
-        → passOne a (narrowPacket o p) p (learn L k p .lost) r .lost ≡ lostOf (ids k) (identifiersFrom L (mmtpOf p) k ++ rest)
+        → passOne a (narrowPacket M o p) p (learn L k p .lost) r .lost ≡ lostOf (ids k) (identifiersFrom L (mmtpOf p) k ++ rest)
     go true t ih = sums t ih
     go false t ih = sums t ih
 
 -- The maps lost of a call: of the MPTs of its packets in order, those that find no place beside the lists held before.
-pub lost-recounted : (L : Limits) (o : Options) (st : State) (chunk : Bytes) → copiesAll o ≡ false → length (st .known .map-heads) ≤ 64
-    → push L o st chunk .counts .lost ≡ lostOf (firsts (st .known .map-heads)) (observedMpts L (st .known) (cut (packetLimit (L .work)) (st .held ++ chunk) .packets))
+pub lost-recounted : (L : Limits) (M : Modes) (o : Options) (st : State) (chunk : Bytes) → copiesAll o ≡ false → length (st .known .map-heads) ≤ 64
+    → push L M o st chunk .counts .lost ≡ lostOf (firsts (st .known .map-heads)) (observedMpts L (st .known) (cut (packetLimit (L .work)) (st .held ++ chunk) .packets))
 unfolding push filtered
-lost-recounted L o st chunk e few = rw e (pass-lost L o (st .known) (cut (packetLimit (L .work)) (st .held ++ chunk) .packets) few)
+lost-recounted L M o st chunk e few = rw e (pass-lost L M o (st .known) (cut (packetLimit (L .work)) (st .held ++ chunk) .packets) few)

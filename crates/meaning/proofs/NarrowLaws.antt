@@ -1,28 +1,29 @@
 -- Narrowed payloads and packets: read again as what they were with the narrowed message, never longer than before, and narrowing by
--- more wishes and then by fewer is narrowing by the fewer. Then what is public of it. Rests on PaLaws.
+-- more wishes and then by fewer is narrowing by the fewer. Then what is public of it. Rests on PaLaws and PacketLaws.
 use Prim.Native.Nat.{ℕ, _+_, _-_, _*_, _/_, _%_, _≤_, _<_}
-use mathlib.Core.Path.{_≡_, refl, sym, ap, ap₂, _∙_, subst}
+use mathlib.Core.Path.{_≡_, refl, sym, ap, _∙_, subst}
 use mathlib.Core.Bool.{Bool, true, false, cond, _&&_}
-use mathlib.Core.List.{[], _∷_, _++_, append-assoc, append-nil}
+use mathlib.Core.List.{[], _∷_, _++_, append-nil}
 use mathlib.Core.Option.{Option, none, some, Option·map, Option·getD, Option·none-ne-some, Option·some-injective}
 use native.Mathlib.Omega.{arith}
-use lib.ListN.{length, take, drop, getD, length-append, length-drop, take-append-drop, List·getD-append}
-use lib.Seq.{take-at, drop-at, length-take-le, getD-take}
+use lib.ListN.{length, take, drop, length-append, length-drop}
+use lib.Seq.{take-at, drop-at, length-take-le}
 use lib.Dec.{leb, eqb}
 use borrow.Author.Tests.{le-leb, leb-true, eqb-true}
-use Rattle.meaning.specs.Bytes.{Bytes, be16, be16At, put16, put32}
+use Rattle.meaning.specs.Bytes.{Bytes, be16, put16, put32}
 use Rattle.meaning.specs.Lists.{isSome}
 use Rattle.meaning.specs.Readers.{Out, give, byte, u16, u32, bytes, counted32}
-use Rattle.meaning.specs.Mmtp.{Offset, byHeaderType, compressed, udp, offsetOf, MmtpHeader, mmtpHeader, Mmtp, mmtpFrom, mmtpAt, mmtpOf, isSignalling}
+use Rattle.meaning.specs.Mmtp.{Mmtp, mmtpOf, isSignalling}
 use Rattle.meaning.specs.Messages.{Message, message, messageBody, isLong, indicator, aggregated}
-use Rattle.meaning.specs.Narrow.{narrowPa, paOf, paMessage, payloadBytes, payloadFor, narrowPayload, packetBytes, packetFor, narrowPacket, narrowTable}
+use Rattle.meaning.specs.Narrow.{narrowPa, paOf, paMessage, payloadBytes, payloadFor, narrowPayload, mayRewrite, packetBytes, packetFor, narrowPacket, narrowTable}
 use Rattle.meaning.specs.Less.{Fewer}
 use Rattle.meaning.specs.declared.Options.{Options}
+use Rattle.meaning.specs.declared.Modes.{Modes}
 use Rattle.meaning.proofs.ListLaws.{clash, and-both}
-use Rattle.meaning.proofs.Local.{mmtpHeader-local}
 use Rattle.meaning.proofs.Framed.{before}
 use Rattle.meaning.proofs.TableLaws.{Narrows, narrows-again, be16-put, be16-small, table-narrows}
 use Rattle.meaning.proofs.PaLaws.{pa-narrows}
+use Rattle.meaning.proofs.PacketLaws.{withPayload, packet-split}
 
 -- ---- a message of 32 bits' length
 
@@ -215,164 +216,14 @@ module _ {o₁ o₂ : Options} (fewer : Fewer o₁ o₂) (p : ℕ) where
 
 -- ---- packets
 
--- UDP is never rewritable
-udp-fixed : (header : ℕ) (s : Bytes) (at : ℕ) (w : Bool) → udp header s ≡ some (at, w) → w ≡ false
-unfolding udp
-udp-fixed header s at w e = go (leb (header + 4) (length s)) (eqb (be16At s (header + 2)) 123) e
-  where
-    go : (a b : Bool) → cond {A = Offset} a (cond {A = Offset} b none (some (header + 8, false))) none ≡ some (at, w) → w ≡ false
-    go false b q = absurd (Option·none-ne-some _ q)
-    go true true q = absurd (Option·none-ne-some _ q)
-    go true false q = sym (ap (λ z. z .1) (Option·some-injective _ _ q))
-
--- an offset that may be rewritten is at 3, and stays there whatever follows the first three bytes
-pub record Rewritable (type : ℕ) (s : Bytes) (at : ℕ) : Type 0 where
-  pub three : at ≡ 3
-  pub long : 3 ≤ length s
-  pub again : (t : Bytes) → 3 ≤ length t → getD t 2 0 ≡ getD s 2 0 → offsetOf type t ≡ some (3, true)
-
-header-type-offset : (k at : ℕ) → byHeaderType k ≡ some (at, true) → (at ≡ 3) × (byHeaderType k ≡ some (3, true))
-unfolding byHeaderType
-header-type-offset k at e = go (eqb k 0x21) (eqb k 0x61) (eqb k 0x20) (eqb k 0x60) e
-  where
-    by : Bool → Bool → Bool → Bool → Offset
-    by a b c d = cond a (some (3, true)) (cond b (some (3, true)) (cond c (some (23, false)) (cond d (some (45, false)) none)))
-
-    go : (a b c d : Bool) → by a b c d ≡ some (at, true) → (at ≡ 3) × (by a b c d ≡ some (3, true))
-    go true b c d q = (sym (ap (λ z. z .0) (Option·some-injective _ _ q)), refl)
-    go false true c d q = (sym (ap (λ z. z .0) (Option·some-injective _ _ q)), refl)
-    go false false true d q = clash (let z : false ≡ true = ap (λ z. z .1) (Option·some-injective _ _ q) in cc)
-    go false false false true q = clash (let z : false ≡ true = ap (λ z. z .1) (Option·some-injective _ _ q) in cc)
-    go false false false false q = absurd (Option·none-ne-some _ q)
-
-compressed-offset : (s : Bytes) (at : ℕ) → compressed s ≡ some (at, true)
-    → (at ≡ 3) × (3 ≤ length s) × ((t : Bytes) → 3 ≤ length t → getD t 2 0 ≡ getD s 2 0 → compressed t ≡ some (3, true))
-unfolding compressed
-compressed-offset s at e = go (leb 3 (length s)) refl e
-  where
-    go : (a : Bool) → leb 3 (length s) ≡ a → cond {A = Offset} a (byHeaderType (getD s 2 0)) none ≡ some (at, true)
-        → (at ≡ 3) × (3 ≤ length s) × ((t : Bytes) → 3 ≤ length t → getD t 2 0 ≡ getD s 2 0 → cond {A = Offset} (leb 3 (length t)) (byHeaderType (getD t 2 0)) none ≡ some (3, true))
-    go false ea q = absurd (Option·none-ne-some _ q)
-    go true ea q =
-        let k = header-type-offset (getD s 2 0) at q in
-        (k .0, leb-true _ _ ea, λ t l g. rw (le-leb 3 (length t) l, g) (k .1))
-
-offset-by : (type : ℕ) (s : Bytes) → offsetOf type s
-    ≡ cond (eqb type 0x03) (compressed s) (cond (eqb type 0x01) (udp (getD s 0 0 % 16 * 4) s) (cond (eqb type 0x02) (udp 40 s) none))
-unfolding offsetOf
-offset-by type s = refl
-
-pub rewritable-offset : (type : ℕ) (s : Bytes) (at : ℕ) → offsetOf type s ≡ some (at, true) → Rewritable type s at
-rewritable-offset type s at e = go (eqb type 0x03) refl (eqb type 0x01) refl (eqb type 0x02) refl (offset-by type s) e
-  where
-    by : Bytes → Bool → Bool → Bool → Offset
-    by t a b c = cond a (compressed t) (cond b (udp (getD t 0 0 % 16 * 4) t) (cond c (udp 40 t) none))
-
-    go : (a : Bool) → eqb type 0x03 ≡ a → (b : Bool) → eqb type 0x01 ≡ b → (c : Bool) → eqb type 0x02 ≡ c
-        → offsetOf type s ≡ by s (eqb type 0x03) (eqb type 0x01) (eqb type 0x02) → offsetOf type s ≡ some (at, true) → Rewritable type s at
-    go true ea b eb c ec w q =
-        let k = compressed-offset s at (sym (w ∙ ap (λ (z : Bool). by s z (eqb type 0x01) (eqb type 0x02)) ea) ∙ q) in
-        record { three = k .0; long = k .1; again = λ t l g. offset-by type t ∙ ap (λ (z : Bool). by t z (eqb type 0x01) (eqb type 0x02)) ea ∙ k .2 t l g }
-    go false ea true eb c ec w q =
-        clash (let z = udp-fixed (getD s 0 0 % 16 * 4) s at true (sym (w ∙ ap₂ (λ (x y : Bool). by s x y (eqb type 0x02)) ea eb) ∙ q) in cc)
-    go false ea false eb true ec w q =
-        clash (let z = udp-fixed 40 s at true (sym (w ∙ ap₂ (λ (x y : Bool). by s x y (eqb type 0x02)) ea eb ∙ ap (by s false false) ec) ∙ q) in cc)
-    go false ea false eb false ec w q =
-        absurd (Option·none-ne-some _ (sym (w ∙ ap₂ (λ (x y : Bool). by s x y (eqb type 0x02)) ea eb ∙ ap (by s false false) ec) ∙ q))
-
--- the packet with another payload
-abbrev pub withPayload : Mmtp → Bytes → Mmtp
-withPayload m y = record { identifier = m .identifier; payload-type = m .payload-type; rewritable = m .rewritable; payload = y }
-
-pub record PacketSplit (p : Bytes) (m : Mmtp) : Type 0 where
-  pub again : (y : Bytes) → mmtpOf (packetBytes p m y) ≡ some (withPayload m y)
-  pub same : (y z : Bytes) → packetBytes (packetBytes p m y) (withPayload m y) z ≡ packetBytes p m z
-  pub size : (y : Bytes) → length (packetBytes p m y) + length (m .payload) ≡ length p + length y
-
--- from its parts: four bytes, and the front f that the payload follows
-packet-front : (a t l k : ℕ) (f : Bytes) (m : Mmtp) (y : Bytes) → packetBytes (a ∷ t ∷ l ∷ k ∷ (f ++ m .payload)) m y ≡ a ∷ t ∷ (put16 (length (f ++ y)) ++ (f ++ y))
-unfolding packetBytes
-packet-front a t l k f m y =
-    let n : length (a ∷ t ∷ l ∷ k ∷ (f ++ m .payload)) - length (m .payload) - 4 ≡ length f = omega (arith, length-append f (m .payload)) in
-    rw (n, take-at f (m .payload) (length f) refl)
-
-packet-parts : (a t l k : ℕ) (f : Bytes) (m : Mmtp) → ((y : Bytes) → mmtpOf (a ∷ t ∷ (put16 (length (f ++ y)) ++ (f ++ y))) ≡ some (withPayload m y))
-    → PacketSplit (a ∷ t ∷ l ∷ k ∷ (f ++ m .payload)) m
-unfolding put16
-packet-parts a t l k f m g = record {
-  again = λ y. rw (packet-front a t l k f m y) (g y);
-  same = λ y z.
-      ap (λ (x : Bytes). packetBytes x (withPayload m y) z) (packet-front a t l k f m y)
-      ∙ packet-front a t _ _ f (withPayload m y) z ∙ sym (packet-front a t l k f m z);
-  size = λ y. rw (packet-front a t l k f m y) (simp length-append (omega arith));
-}
-
--- the head behind the first three bytes of the front reads the same whatever payload follows
-read-again : (t : ℕ) (pl part : Bytes) (m : Mmtp) (h : MmtpHeader) (y : Bytes) → Rewritable t pl 3
-    → ((y : Bytes) → mmtpHeader (part ++ y) ≡ some (h, y)) → h .identifier ≡ m .identifier → h .payload-type ≡ m .payload-type → m .rewritable ≡ true
-    → mmtpAt (offsetOf t ((take 3 pl ++ part) ++ y)) ((take 3 pl ++ part) ++ y) ≡ some (withPayload m y)
-read-again t pl part m h y r g ei ek ew =
-    let ev : true ≡ m .rewritable = sym ew in
-    let l3 : length (take 3 pl) ≡ 3 = length-take-le 3 pl (r .long) in
-    let s : Bytes = (take 3 pl ++ part) ++ y in
-    let long : 3 ≤ length s = omega (arith, length-append (take 3 pl ++ part) y, length-append (take 3 pl) part) in
-    let third : getD s 2 0 ≡ getD pl 2 0 =
-    ap (λ (z : Bytes). getD z 2 0) (append-assoc (take 3 pl) part y) ∙ List·getD-append (take 3 pl) (part ++ y) 0 2 (omega arith) ∙ getD-take 3 pl 2 0 (omega arith) in
-    let rest : drop 3 s ≡ part ++ y = ap (drop 3) (append-assoc (take 3 pl) part y) ∙ drop-at (take 3 pl) (part ++ y) 3 l3 in
-    rw (r .again s long third, le-leb 3 (length s) long, rest, g y)
-    (λ i. some (record { identifier = ei i; payload-type = ek i; rewritable = ev i; payload = y }))
-
-four : (a t n : ℕ) (s : Bytes) → mmtpOf (a ∷ t ∷ (put16 n ++ s)) ≡ mmtpAt (offsetOf t s) s
-unfolding mmtpOf put16
-four a t n s = let l : 4 ≤ 4 + length s = omega arith in rw (le-leb 4 (length (a ∷ t ∷ n / 256 % 256 ∷ n % 256 ∷ s)) (omega arith))
-
-packet-whole : (a t l k : ℕ) (pl : Bytes) (at : ℕ) (h : MmtpHeader) (m : Mmtp) → offsetOf t pl ≡ some (at, true) → mmtpHeader (drop at pl) ≡ some (h, m .payload)
-    → h .identifier ≡ m .identifier → h .payload-type ≡ m .payload-type → m .rewritable ≡ true → PacketSplit (a ∷ t ∷ l ∷ k ∷ pl) m
-unfolding mmtpOf
-packet-whole a t l k pl at h m ep eh ei ek ew =
-    let r = rewritable-offset t pl at ep in
-    let eh3 : mmtpHeader (drop 3 pl) ≡ some (h, m .payload) = ap (λ (n : ℕ). mmtpHeader (drop n pl)) (sym (r .three)) ∙ eh in
-    let u = mmtpHeader-local (drop 3 pl) h (m .payload) eh3 in
-    let f : Bytes = take 3 pl ++ u .part in
-    let whole : f ++ m .payload ≡ pl = append-assoc (take 3 pl) (u .part) (m .payload) ∙ ap (λ (z : Bytes). take 3 pl ++ z) (sym (u .whole)) ∙ take-append-drop 3 pl in
-    subst (λ (z : Bytes). PacketSplit (a ∷ t ∷ l ∷ k ∷ z) m) whole
-    (packet-parts a t l k f m (λ y. long a t f y (read-again t pl (u .part) m h y (subst (Rewritable t pl) (r .three) r) (u .again) ei ek ew)))
-  where
-    long : (a t : ℕ) (f y : Bytes) {o : Option Mmtp} → mmtpAt (offsetOf t (f ++ y)) (f ++ y) ≡ o → mmtpOf (a ∷ t ∷ (put16 (length (f ++ y)) ++ (f ++ y))) ≡ o
-    long a t f y e = four a t (length (f ++ y)) (f ++ y) ∙ e
-
--- what was read of a packet that may be rewritten
-pub packet-split : (p : Bytes) (m : Mmtp) → mmtpOf p ≡ some m → m .rewritable ≡ true → PacketSplit p m
-unfolding mmtpOf
-packet-split [] m e w = absurd (Option·none-ne-some _ e)
-packet-split (a ∷ []) m e w = absurd (Option·none-ne-some _ e)
-packet-split (a ∷ t ∷ []) m e w = absurd (Option·none-ne-some _ e)
-packet-split (a ∷ t ∷ l ∷ []) m e w = absurd (Option·none-ne-some _ e)
-packet-split (a ∷ t ∷ l ∷ k ∷ pl) m e w =
-    go (offsetOf t pl) refl (sym (ap (λ (b : Bool). cond b (mmtpAt (offsetOf t pl) pl) none) (le-leb 4 (length (a ∷ t ∷ l ∷ k ∷ pl)) (omega arith))) ∙ e)
-  where
-    headed : (at : ℕ) (v : Bool) → offsetOf t pl ≡ some (at, v) → (o : Out MmtpHeader) → mmtpHeader (drop at pl) ≡ o → mmtpFrom v o ≡ some m → PacketSplit (a ∷ t ∷ l ∷ k ∷ pl) m
-    headed at v ep none eo q = absurd (Option·none-ne-some _ q)
-    headed at v ep (some (h, y)) eo q =
-        let z = Option·some-injective _ _ q in
-        let ev : v ≡ true = ap (λ x. x .rewritable) z ∙ w in
-        packet-whole a t l k pl at h m (ep ∙ ap (λ (b : Bool). some (at, b)) ev) (eo ∙ ap (λ x. some (h, x .payload)) z) (ap (λ x. x .identifier) z) (ap (λ x. x .payload-type) z) w
-
-    placed : (at : ℕ) (v : Bool) → offsetOf t pl ≡ some (at, v) → (b : Bool) → cond b (mmtpFrom v (mmtpHeader (drop at pl))) none ≡ some m → PacketSplit (a ∷ t ∷ l ∷ k ∷ pl) m
-    placed at v ep false q = absurd (Option·none-ne-some _ q)
-    placed at v ep true q = headed at v ep (mmtpHeader (drop at pl)) refl q
-
-    go : (o : Offset) → offsetOf t pl ≡ o → mmtpAt o pl ≡ some m → PacketSplit (a ∷ t ∷ l ∷ k ∷ pl) m
-    go none ep q = absurd (Option·none-ne-some _ q)
-    go (some (at, v)) ep q = placed at v ep (leb at (length pl)) q
-
-module _ {o₁ o₂ : Options} (fewer : Fewer o₁ o₂) where
-  packet-again : (p : Bytes) (m : Mmtp) → mmtpOf p ≡ some m → (isSignalling m && m .rewritable) ≡ true → (y : Bytes)
-      → narrowPacket o₁ (packetBytes p m y) ≡ Option·map (λ z. packetBytes p m z) (narrowPayload o₁ (m .identifier) y)
+module _ (M : Modes) {o₁ o₂ : Options} (fewer : Fewer o₁ o₂) where
+  packet-again : (p : Bytes) (m : Mmtp) → mmtpOf p ≡ some m → (isSignalling m && mayRewrite M p m) ≡ true → (y : Bytes) → length y ≤ length (m .payload)
+      → narrowPacket M o₁ (packetBytes p m y) ≡ Option·map (λ z. packetBytes p m z) (narrowPayload o₁ (m .identifier) y)
   unfolding narrowPacket
-  packet-again p m e g y =
-      let sp = packet-split p m e (and-both (isSignalling m) (m .rewritable) g .1) in
-      rw (sp .again y, g) (go (narrowPayload o₁ (m .identifier) y) (sp .same y))
+  packet-again p m e g y l =
+      let b = and-both (isSignalling m) (mayRewrite M p m) g in
+      let sp = packet-split M p m e (b .1) in
+      rw (sp .again y, sp .may-again y l, b .0) (go (narrowPayload o₁ (m .identifier) y) (sp .same y))
     where
       go : (o : Option Bytes) → ((z : Bytes) → packetBytes (packetBytes p m y) (withPayload m y) z ≡ packetBytes p m z)
           → Option·map (packetBytes (packetBytes p m y) (withPayload m y)) o ≡ Option·map (λ z. packetBytes p m z) o
@@ -380,30 +231,30 @@ module _ {o₁ o₂ : Options} (fewer : Fewer o₁ o₂) where
       go (some z) s = ap some (s z)
 
   packet-case : (p : Bytes) (x : Option Mmtp) → mmtpOf p ≡ x
-      → (Option·getD (narrowPacket o₁ (Option·getD (packetFor o₂ p x) p)) (Option·getD (packetFor o₂ p x) p) ≡ Option·getD (packetFor o₁ p x) p)
-      × (isSome (packetFor o₂ p x) ≡ true → isSome (packetFor o₁ p x) ≡ true)
-      × ((y : Bytes) → packetFor o₂ p x ≡ some y → length y ≤ length p)
+      → (Option·getD (narrowPacket M o₁ (Option·getD (packetFor M o₂ p x) p)) (Option·getD (packetFor M o₂ p x) p) ≡ Option·getD (packetFor M o₁ p x) p)
+      × (isSome (packetFor M o₂ p x) ≡ true → isSome (packetFor M o₁ p x) ≡ true)
+      × ((y : Bytes) → packetFor M o₂ p x ≡ some y → length y ≤ length p)
   unfolding narrowPacket
   packet-case p none e = (rw e refl, λ h. h, λ y h. absurd (Option·none-ne-some _ h))
-  packet-case p (some m) e = go (isSignalling m && m .rewritable) refl
+  packet-case p (some m) e = go (isSignalling m && mayRewrite M p m) refl
     where
       n : Narrows (narrowPayload o₁ (m .identifier)) (narrowPayload o₂ (m .identifier))
       n = payload-narrows fewer (m .identifier)
 
-      go : (a : Bool) → (isSignalling m && m .rewritable) ≡ a
+      go : (a : Bool) → (isSignalling m && mayRewrite M p m) ≡ a
           → let z : Options → Option Bytes = λ o. cond a (Option·map (packetBytes p m) (narrowPayload o (m .identifier) (m .payload))) none in
-          (Option·getD (narrowPacket o₁ (Option·getD (z o₂) p)) (Option·getD (z o₂) p) ≡ Option·getD (z o₁) p)
+          (Option·getD (narrowPacket M o₁ (Option·getD (z o₂) p)) (Option·getD (z o₂) p) ≡ Option·getD (z o₁) p)
           × (isSome (z o₂) ≡ true → isSome (z o₁) ≡ true)
           × ((y : Bytes) → z o₂ ≡ some y → length y ≤ length p)
       go false ea = (rw (e, ea) refl, λ h. h, λ y h. absurd (Option·none-ne-some _ h))
       go true ea =
-          let sp = packet-split p m e (and-both (isSignalling m) (m .rewritable) ea .1) in (
-            within-twice n p (m .payload) (packetBytes p m) (narrowPacket o₁) (λ c l. packet-again p m e ea c) (narrowPayload o₂ (m .identifier) (m .payload)) refl (rw (e, ea) refl),
+          let sp = packet-split M p m e (and-both (isSignalling m) (mayRewrite M p m) ea .1) in (
+            within-twice n p (m .payload) (packetBytes p m) (narrowPacket M o₁) (λ c l. packet-again p m e ea c l) (narrowPayload o₂ (m .identifier) (m .payload)) refl (rw (e, ea) refl),
             map-some (packetBytes p m) (narrowPayload o₂ (m .identifier) (m .payload)) (narrowPayload o₁ (m .identifier) (m .payload)) (n .more (m .payload)),
             map-long (packetBytes p m) (m .payload) p (narrowPayload o₂ (m .identifier) (m .payload)) (λ c q. omega (arith, n .shorter (m .payload) c q, sp .size c)),
           )
 
-  pub packet-narrows : Narrows (narrowPacket o₁) (narrowPacket o₂)
+  pub packet-narrows : Narrows (narrowPacket M o₁) (narrowPacket M o₂)
   unfolding narrowPacket
   packet-narrows = record {
     twice = λ p. packet-case p (mmtpOf p) refl .0;
@@ -411,7 +262,8 @@ module _ {o₁ o₂ : Options} (fewer : Fewer o₁ o₂) where
     shorter = λ p. packet-case p (mmtpOf p) refl .2;
   }
 
-  -- A table alone, too.
+-- A table alone, too.
+module _ {o₁ o₂ : Options} (fewer : Fewer o₁ o₂) where
   pub alone-narrows : Narrows (narrowTable o₁) (narrowTable o₂)
   unfolding narrowTable
   alone-narrows = table-narrows fewer 0

@@ -20,6 +20,7 @@ use Rattle.meaning.specs.Series.{callRefusal, series}
 use Rattle.meaning.specs.Wishes.{wantsAssets}
 use Rattle.meaning.specs.Programs.{inputRefused, inputOptions, inputRefusal, chunk, programLimits, programLent, programCalls, Chunks}
 use Rattle.meaning.specs.declared.Options.{Options}
+use Rattle.meaning.specs.declared.Modes.{Modes}
 use Rattle.meaning.proofs.SoundnessLaws.{HoldsState, fresh-holds, series-holds}
 use Rattle.meaning.proofs.SeriesLaws.{joined, alone, series-one}
 
@@ -75,27 +76,27 @@ limit-is : packetLimit (programLimits .work) ≡ 32768
 unfolding packetLimit programLimits
 limit-is = refl
 
-pub calls-none : (o : Options) → programCalls o [] ≡ record { out = []; counts = countsOf 0; state = fresh (replicate 32768 0) }
+pub calls-none : (M : Modes) (o : Options) → programCalls M o [] ≡ record { out = []; counts = countsOf 0; state = fresh (replicate 32768 0) }
 unfolding programCalls series
-calls-none o = refl
+calls-none M o = refl
 
-module _ (o : Options) (w : wantsAssets o ≡ true) where
-  pub calls-hold : (cs : List Bytes) → HoldsState programLimits o (programCalls o cs .state)
+module _ (M : Modes) (o : Options) (w : wantsAssets o ≡ true) where
+  pub calls-hold : (cs : List Bytes) → HoldsState programLimits o (programCalls M o cs .state)
   unfolding programCalls
   calls-hold cs =
-      series-holds programLimits o (fresh (replicate 32768 0)) (map programLent cs) (omega (arith, limit-is)) (fresh-holds programLimits o (replicate 32768 0) (omega (arith, limit-is)) (length-replicate {A = ℕ} 32768 0) w)
+      series-holds programLimits M o (fresh (replicate 32768 0)) (map programLent cs) (omega (arith, limit-is)) (fresh-holds programLimits o (replicate 32768 0) (omega (arith, limit-is)) (length-replicate {A = ℕ} 32768 0) w)
 
   short-taken : (st : State) (c : Bytes) → length (st .held) < 32768 → length c ≤ 32768 → callRefusal programLimits st (programLent c) ≡ 0
   unfolding callRefusal lengthRefusal packetLimit programLimits
   short-taken st c h k = rw (le-leb (length c) 32768 k, le-leb (length (st .held) + length c) 65536 (omega arith))
 
   -- Fewer than 32,768 bytes are held, so a chunk always finds room.
-  pub call-taken : (cs : List Bytes) (c : Bytes) → length c ≤ 32768 → callRefusal programLimits (programCalls o cs .state) (programLent c) ≡ 0
-  call-taken cs c k = short-taken (programCalls o cs .state) c (omega (arith, calls-hold cs .held-few, limit-is)) k
+  pub call-taken : (cs : List Bytes) (c : Bytes) → length c ≤ 32768 → callRefusal programLimits (programCalls M o cs .state) (programLent c) ≡ 0
+  call-taken cs c k = short-taken (programCalls M o cs .state) c (omega (arith, calls-hold cs .held-few, limit-is)) k
 
   -- Whatever the stream: each of its chunks has 1 to 32,768 bytes, and its call, after those of the chunks before it, is not refused.
   pub none-refused : (s : Bytes) (before : List Bytes) (c : Bytes) (behind : List Bytes) → walk chunk s .found ≡ before ++ (c ∷ behind)
-      → (1 ≤ length c) × (length c ≤ 32768) × (callRefusal programLimits (programCalls o before .state) (programLent c) ≡ 0)
+      → (1 ≤ length c) × (length c ≤ 32768) × (callRefusal programLimits (programCalls M o before .state) (programLent c) ≡ 0)
   none-refused s before c behind e =
       let h = chunks-behind before (c ∷ behind) (subst Chunks e (stream-chunks s)) in
       (h .0, h .1, call-taken before c (h .1))
@@ -103,8 +104,8 @@ module _ (o : Options) (w : wantsAssets o ≡ true) where
   -- ---- one chunk more
 
   pub calls-one : (cs : List Bytes) (c : Bytes) → length c ≤ 32768
-      → programCalls o (cs ++ (c ∷ [])) ≡ joined (programCalls o cs) (alone (push programLimits o (programCalls o cs .state) c))
+      → programCalls M o (cs ++ (c ∷ [])) ≡ joined (programCalls M o cs) (alone (push programLimits M o (programCalls M o cs .state) c))
   unfolding programCalls
   calls-one cs c k =
-      ap (series programLimits o (fresh (replicate 32768 0))) (map-append programLent cs (c ∷ []))
-      ∙ series-one programLimits o (fresh (replicate 32768 0)) (map programLent cs) (programLent c) (call-taken cs c k)
+      ap (series programLimits M o (fresh (replicate 32768 0))) (map-append programLent cs (c ∷ []))
+      ∙ series-one programLimits M o (fresh (replicate 32768 0)) (map programLent cs) (programLent c) (call-taken cs c k)

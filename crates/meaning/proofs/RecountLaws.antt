@@ -18,25 +18,28 @@ use Rattle.meaning.specs.Packets.{sizeOf, cut}
 use Rattle.meaning.specs.Mmtp.{Mmtp, mmtpOf, isSignalling}
 use Rattle.meaning.specs.Tables.{Entry, Mpt, mpt, Package, packageEntry, plt, serviceOf, Table, table, isMpt, isPlt, PaHead, paHead, paFrom, pa}
 use Rattle.meaning.specs.Wishes.{wanted, wantedEntry, copiesAll}
-use Rattle.meaning.specs.Narrow.{mptBody, mptKeeping, mptWithout, isService, lastOf, pltKeeping, pltOnly, pltFor, newBody, tableBytes, newTable, tableFrom, narrowTable, tableAfter, tableChanges, relength, paBytes, paFor, narrowPa, paMessage, payloadBytes, payloadFor, narrowPayload, packetBytes, narrowPacket, narrowedPacket, isPart, byPart, stayed, went, partsFrom, tableParts, tablesParts, paParts, Change, changeOf, partsOfTable, partsOfMessage, partsOfPacket, changeTable, changePayload, changePacket}
+use Rattle.meaning.specs.Narrow.{mayRewrite, mptBody, mptKeeping, mptWithout, isService, lastOf, pltKeeping, pltOnly, pltFor, newBody, tableBytes, newTable, tableFrom, narrowTable, tableAfter, tableChanges, relength, paBytes, paFor, narrowPa, paMessage, payloadBytes, payloadFor, narrowPayload, packetBytes, narrowPacket, narrowedPacket, isPart, byPart, stayed, went, partsFrom, tableParts, tablesParts, paParts, Change, changeOf, partsOfTable, partsOfMessage, partsOfPacket, changeTable, changePayload, changePacket}
+use Rattle.meaning.specs.Ip.{afresh}
 use Rattle.meaning.specs.Rooms.{packetLimit}
 use Rattle.meaning.specs.Learn.{Known, learn}
 use Rattle.meaning.specs.Record.{State}
 use Rattle.meaning.specs.Push.{withheld, Passed, passOne, pass, filtered, push}
-use Rattle.meaning.specs.Recount.{u8At, mptIn, only, pltIn, lastAlone, onlyFor, TableRecounted, mptsIn, kindsIn, Recounted, TableAlone, paWithin, paIn, PayloadRecounted, PacketRecounted, mptsWithin, mptsOf, Written}
+use Rattle.meaning.specs.Recount.{u8At, mptIn, only, pltIn, lastAlone, onlyFor, TableRecounted, mptsIn, kindsIn, Recounted, TableAlone, paWithin, paIn, PayloadRecounted, PlainRecounted, PacketRecounted, mptsWithin, mptsOf, Written}
 use Rattle.meaning.specs.declared.Limits.{Limits}
 use Rattle.meaning.specs.declared.Part.{Part}
 use Rattle.meaning.specs.declared.Part.the-variants.{Caption, Carousel, Other}
 use Rattle.meaning.specs.declared.Service.{Service}
 use Rattle.meaning.specs.declared.Service.the-variants.{Every, Only}
 use Rattle.meaning.specs.declared.Options.{Options}
+use Rattle.meaning.specs.declared.Modes.{Modes}
 use Rattle.meaning.proofs.ListLaws.{and-both, keep-all, keep-map, stay-go}
 use Rattle.meaning.proofs.Local.{table-local}
 use Rattle.meaning.proofs.Framed.{before, Again, AllAgain, raw-framed}
 use Rattle.meaning.proofs.TableLaws.{mpt-split, mpt-reads, plt-split, be16-put, withBody, table-split}
 use Rattle.meaning.proofs.PaLaws.{Found, Reads, step, step-again, all-again, step-bytes, table-of, Fours, relength-length, head-split, bytes-framed, taken, tables-walked, reads-again, long}
-use Rattle.meaning.proofs.NarrowLaws.{pa-split, withPayload, packet-split}
-use Rattle.meaning.proofs.Statements.{same-wishes}
+use Rattle.meaning.proofs.NarrowLaws.{pa-split}
+use Rattle.meaning.proofs.PacketLaws.{withPayload, packet-split}
+use Rattle.meaning.proofs.Statements.{same-wishes, payload-shorter}
 use Rattle.meaning.proofs.SizeLaws.{rewritten, size-follows}
 
 -- ---- what the bytes of a table say
@@ -456,7 +459,7 @@ wanted-stay o p s y e =
 -- ---- a packet
 
 packet-laid : (p : Bytes) (m : Mmtp) (z : Bytes) → mmtpOf p ≡ some m
-    → (take 2 (packetBytes p m z) ≡ take 2 p) × (drop 4 (packetBytes p m z) ≡ take (length p - length (m .payload) - 4) (drop 4 p) ++ z)
+    → (take 2 (packetBytes p m z) ≡ take 2 p) × (drop 4 (packetBytes p m z) ≡ afresh (getD p 1 0) (take (length p - length (m .payload) - 4) (drop 4 p) ++ z))
 unfolding mmtpOf packetBytes put16
 packet-laid [] m z e = absurd (Option·none-ne-some _ e)
 packet-laid (a ∷ []) m z e = absurd (Option·none-ne-some _ e)
@@ -469,11 +472,11 @@ size-length : (y : Bytes) → sizeOf y ≡ length y → be16At y 2 ≡ length (d
 unfolding sizeOf
 size-length y e = omega (arith, length-drop 4 y)
 
-pub packet-narrowed : (o : Options) (p y : Bytes) → length p ≤ 65539 → narrowPacket o p ≡ some y → PacketRecounted o p (changeOf o (partsOfPacket (mmtpOf p)) y)
-packet-narrowed o p y few e =
-    let w = rewritten o p y e in
+pub packet-narrowed : (M : Modes) (o : Options) (p y : Bytes) → length p ≤ 65539 → narrowPacket M o p ≡ some y → PacketRecounted o p (changeOf o (partsOfPacket (mmtpOf p)) y)
+packet-narrowed M o p y few e =
+    let w = rewritten M o p y e in
     let m : Mmtp = w .read in
-    let sp = packet-split p m (w .was) (and-both (isSignalling m) (m .rewritable) (w .may) .1) in
+    let sp = packet-split M p m (w .was) (and-both (isSignalling m) (mayRewrite M p m) (w .may) .1) in
     let l = packet-laid p m (w .payload) (w .was) in
     let parts : partsOfMessage (paMessage (m .payload)) ≡ partsOfPacket (mmtpOf p) = sym (ap partsOfPacket (w .was)) in
     record {
@@ -483,17 +486,19 @@ packet-narrowed o p y few e =
       reads-after = ap mmtpOf (sym (w .is)) ∙ sp .again (w .payload);
       identifier-stays = refl;
       front-stays = ap (take 2) (sym (w .is)) ∙ l .0;
-      length-fits = size-length y (size-follows o p y few e);
+      length-fits = size-length y (size-follows M o p y few e);
       laid-out = ap (drop 4) (sym (w .is)) ∙ l .1;
+      plain-right = λ ew. subst (λ (x : Bytes). PlainRecounted (getD p 1 0) (drop 4 p) (drop 4 x)) (w .is)
+          (sp .right ew (w .payload) (payload-shorter o (m .identifier) (m .payload) (w .payload) (w .narrowed)));
       recounted = subst (λ (v : List Part). PayloadRecounted o (m .identifier) (m .payload) (w .payload) (stayed o v) (went o v)) parts
           (payload-narrowed o (m .identifier) (m .payload) (w .payload) (w .narrowed));
     }
 
-pub packet-recounted : (o : Options) (p : Bytes) (c : Change) → length p ≤ 65539 → changePacket o p ≡ some c → PacketRecounted o p c
+pub packet-recounted : (M : Modes) (o : Options) (p : Bytes) (c : Change) → length p ≤ 65539 → changePacket M o p ≡ some c → PacketRecounted o p c
 unfolding changePacket
-packet-recounted o p c few e =
-    let z = mapped (changeOf o (partsOfPacket (mmtpOf p))) (narrowPacket o p) c e in
-    subst (λ (v : Change). PacketRecounted o p v) (z .2) (packet-narrowed o p (z .0) few (z .1))
+packet-recounted M o p c few e =
+    let z = mapped (changeOf o (partsOfPacket (mmtpOf p))) (narrowPacket M o p) c e in
+    subst (λ (v : Change). PacketRecounted o p v) (z .2) (packet-narrowed M o p (z .0) few (z .1))
 
 -- ---- a table alone
 
@@ -531,34 +536,34 @@ table-recounted o t c e =
 
 -- ---- a run, and a call: all that is written is accepted packets in order, each as it was or recounted
 
-pass-written : (L : Limits) (o : Options) (k : Known) (ps : List Bytes) → Written o ps (pass L o k ps .out) (pass L o k ps .rewritten)
+pass-written : (L : Limits) (M : Modes) (o : Options) (k : Known) (ps : List Bytes) → Written M o ps (pass L M o k ps .out) (pass L M o k ps .rewritten)
 unfolding pass count narrowedPacket
-pass-written L o k [] = record { from = []; some-of = Sublistᴰ·slnil; narrowed = refl; rewritten-are = refl }
-pass-written L o k (p ∷ ps) = go (withheld o (learn L k p .known) (mmtpOf p)) (pass-written L o (learn L k p .known) ps)
+pass-written L M o k [] = record { from = []; some-of = Sublistᴰ·slnil; narrowed = refl; rewritten-are = refl }
+pass-written L M o k (p ∷ ps) = go (withheld o (learn L k p .known) (mmtpOf p)) (pass-written L M o (learn L k p .known) ps)
   where
     r : Passed
-    r = pass L o (learn L k p .known) ps
+    r = pass L M o (learn L k p .known) ps
 
-    go : (a : Bool) → Written o ps (r .out) (r .rewritten)
-        → Written o (p ∷ ps) (passOne a (narrowPacket o p) p (learn L k p .lost) r .out) (passOne a (narrowPacket o p) p (learn L k p .lost) r .rewritten)
+    go : (a : Bool) → Written M o ps (r .out) (r .rewritten)
+        → Written M o (p ∷ ps) (passOne a (narrowPacket M o p) p (learn L k p .lost) r .out) (passOne a (narrowPacket M o p) p (learn L k p .lost) r .rewritten)
     go true w = record { from = w .from; some-of = Sublistᴰ·cons (w .some-of); narrowed = w .narrowed; rewritten-are = w .rewritten-are }
     go false w = record {
       from = p ∷ w .from;
       some-of = Sublistᴰ·cons-cons refl (w .some-of);
-      narrowed = ap (λ (l : List Bytes). Option·getD (narrowPacket o p) p ∷ l) (w .narrowed);
-      rewritten-are = ap (λ (n : ℕ). cond (isSome (narrowPacket o p)) 1 0 + n) (w .rewritten-are);
+      narrowed = ap (λ (l : List Bytes). Option·getD (narrowPacket M o p) p ∷ l) (w .narrowed);
+      rewritten-are = ap (λ (n : ℕ). cond (isSome (narrowPacket M o p)) 1 0 + n) (w .rewritten-are);
     }
 
-pub push-written : (L : Limits) (o : Options) → copiesAll o ≡ false → (st : State) (chunk : Bytes)
-    → Written o (cut (packetLimit (L .work)) (st .held ++ chunk) .packets) (push L o st chunk .out) (push L o st chunk .counts .rewritten)
+pub push-written : (L : Limits) (M : Modes) (o : Options) → copiesAll o ≡ false → (st : State) (chunk : Bytes)
+    → Written M o (cut (packetLimit (L .work)) (st .held ++ chunk) .packets) (push L M o st chunk .out) (push L M o st chunk .counts .rewritten)
 unfolding push filtered
-push-written L o e st chunk = rw e (pass-written L o (st .known) (cut (packetLimit (L .work)) (st .held ++ chunk) .packets))
+push-written L M o e st chunk = rw e (pass-written L M o (st .known) (cut (packetLimit (L .work)) (st .held ++ chunk) .packets))
 
 -- A narrowed packet is the packet itself, or it is recounted.
-pub narrowed-recounted : (o : Options) (p : Bytes) → length p ≤ 65539 → (narrowedPacket o p ≡ p) ⊎ PacketRecounted o p (changeOf o (partsOfPacket (mmtpOf p)) (narrowedPacket o p))
+pub narrowed-recounted : (M : Modes) (o : Options) (p : Bytes) → length p ≤ 65539 → (narrowedPacket M o p ≡ p) ⊎ PacketRecounted o p (changeOf o (partsOfPacket (mmtpOf p)) (narrowedPacket M o p))
 unfolding narrowedPacket
-narrowed-recounted o p few = go (narrowPacket o p) refl
+narrowed-recounted M o p few = go (narrowPacket M o p) refl
   where
-    go : (x : Option Bytes) → narrowPacket o p ≡ x → (Option·getD x p ≡ p) ⊎ PacketRecounted o p (changeOf o (partsOfPacket (mmtpOf p)) (Option·getD x p))
+    go : (x : Option Bytes) → narrowPacket M o p ≡ x → (Option·getD x p ≡ p) ⊎ PacketRecounted o p (changeOf o (partsOfPacket (mmtpOf p)) (Option·getD x p))
     go none e = inl refl
-    go (some y) e = inr (packet-narrowed o p y few e)
+    go (some y) e = inr (packet-narrowed M o p y few e)

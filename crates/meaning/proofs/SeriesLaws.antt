@@ -17,6 +17,7 @@ use Rattle.meaning.specs.Tally.{addCounts}
 use Rattle.meaning.specs.Series.{Lent, callRefusal, Series, seriesOn, series}
 use Rattle.meaning.specs.declared.Limits.{Limits}
 use Rattle.meaning.specs.declared.Options.{Options}
+use Rattle.meaning.specs.declared.Modes.{Modes}
 use Rattle.meaning.specs.declared.Counts.{Counts}
 use Rattle.meaning.proofs.SoundnessLaws.{HoldsState, state-back, refusal-same}
 
@@ -47,63 +48,63 @@ alone p = record { out = p .out; counts = p .counts; state = p .state }
 joined-on : (p : Outcome) (a b : Series) → joined (seriesOn p a) b ≡ seriesOn p (joined a b)
 joined-on p a b = λ i. record { out = append-assoc (p .out) (a .out) (b .out) i; counts = counts-assoc (p .counts) (a .counts) (b .counts) i; state = b .state }
 
-module _ (L : Limits) (o : Options) where
-  pub series-append : (st : State) (cs ds : List Lent) → series L o st (cs ++ ds) ≡ joined (series L o st cs) (series L o (series L o st cs .state) ds)
+module _ (L : Limits) (M : Modes) (o : Options) where
+  pub series-append : (st : State) (cs ds : List Lent) → series L M o st (cs ++ ds) ≡ joined (series L M o st cs) (series L M o (series L M o st cs .state) ds)
   unfolding series
-  series-append st [] ds = let r = series L o st ds in λ i. record { out = r .out; counts = sym (counts-first (r .counts)) i; state = r .state }
+  series-append st [] ds = let r = series L M o st ds in λ i. record { out = r .out; counts = sym (counts-first (r .counts)) i; state = r .state }
   series-append st (c ∷ cs) ds = go (eqb (callRefusal L st c) 0) (series-append (p .state) cs ds) (series-append st cs ds)
     where
       p : Outcome
-      p = push L o st (c .0)
+      p = push L M o st (c .0)
 
-      go : (a : Bool) → series L o (p .state) (cs ++ ds) ≡ joined (series L o (p .state) cs) (series L o (series L o (p .state) cs .state) ds)
-          → series L o st (cs ++ ds) ≡ joined (series L o st cs) (series L o (series L o st cs .state) ds)
-          → cond a (seriesOn p (series L o (p .state) (cs ++ ds))) (series L o st (cs ++ ds))
-          ≡ joined (cond a (seriesOn p (series L o (p .state) cs)) (series L o st cs)) (series L o (cond a (seriesOn p (series L o (p .state) cs)) (series L o st cs) .state) ds)
-      go true taken refused = ap (seriesOn p) taken ∙ sym (joined-on p (series L o (p .state) cs) (series L o (series L o (p .state) cs .state) ds))
+      go : (a : Bool) → series L M o (p .state) (cs ++ ds) ≡ joined (series L M o (p .state) cs) (series L M o (series L M o (p .state) cs .state) ds)
+          → series L M o st (cs ++ ds) ≡ joined (series L M o st cs) (series L M o (series L M o st cs .state) ds)
+          → cond a (seriesOn p (series L M o (p .state) (cs ++ ds))) (series L M o st (cs ++ ds))
+          ≡ joined (cond a (seriesOn p (series L M o (p .state) cs)) (series L M o st cs)) (series L M o (cond a (seriesOn p (series L M o (p .state) cs)) (series L M o st cs) .state) ds)
+      go true taken refused = ap (seriesOn p) taken ∙ sym (joined-on p (series L M o (p .state) cs) (series L M o (series L M o (p .state) cs .state) ds))
       go false taken refused = refused
 
-  one-taken : (st : State) (c : Lent) → callRefusal L st c ≡ 0 → series L o st (c ∷ []) ≡ alone (push L o st (c .0))
+  one-taken : (st : State) (c : Lent) → callRefusal L st c ≡ 0 → series L M o st (c ∷ []) ≡ alone (push L M o st (c .0))
   unfolding series
-  one-taken st c e = rw e (let p = push L o st (c .0) in λ i. record { out = append-nil (p .out) i; counts = counts-last (p .counts) i; state = p .state })
+  one-taken st c e = rw e (let p = push L M o st (c .0) in λ i. record { out = append-nil (p .out) i; counts = counts-last (p .counts) i; state = p .state })
 
   -- One call more, that is not refused.
-  pub series-one : (st : State) (cs : List Lent) (c : Lent) → callRefusal L (series L o st cs .state) c ≡ 0
-      → series L o st (cs ++ (c ∷ [])) ≡ joined (series L o st cs) (alone (push L o (series L o st cs .state) (c .0)))
-  series-one st cs c e = series-append st cs (c ∷ []) ∙ ap (joined (series L o st cs)) (one-taken (series L o st cs .state) c e)
+  pub series-one : (st : State) (cs : List Lent) (c : Lent) → callRefusal L (series L M o st cs .state) c ≡ 0
+      → series L M o st (cs ++ (c ∷ [])) ≡ joined (series L M o st cs) (alone (push L M o (series L M o st cs .state) (c .0)))
+  series-one st cs c e = series-append st cs (c ∷ []) ∙ ap (joined (series L M o st cs)) (one-taken (series L M o st cs .state) c e)
 
 -- ---- the record of a state, with rooms that hold it
 
 -- A start: whatever stands in work and fragment room.
-pub fresh-back : (L : Limits) (o : Options) (work bodies : Bytes) (map-room : List ℕ) → L .total ≤ 16777216 → HoldsState L o (fresh map-room)
-    → stateOf (recordOf L o (fresh map-room)) work bodies map-room ≡ fresh map-room
+pub fresh-back : (L : Limits) (M : Modes) (o : Options) (work bodies : Bytes) (map-room : List ℕ) → L .total ≤ 16777216 → HoldsState L o (fresh map-room)
+    → stateOf (recordOf L M o (fresh map-room)) work bodies map-room ≡ fresh map-room
 unfolding fresh bodiesOf
-fresh-back L o work bodies map-room few h = state-back L o (fresh map-room) few h work bodies
+fresh-back L M o work bodies map-room few h = state-back L M o (fresh map-room) few h work bodies
 
-module _ (L : Limits) (o : Options) (st : State) (work-good : goodWorkRoom (L .work) ≡ true) (fragments-good : goodFragmentRoom (L .total) (L .most) ≡ true) (h : HoldsState L o st) where
-  -- its limits and options
-  record-says : (r : Record) → r ≡ recordOf L o st → (r .limits ≡ L) × (r .options ≡ o)
+module _ (L : Limits) (M : Modes) (o : Options) (st : State) (work-good : goodWorkRoom (L .work) ≡ true) (fragments-good : goodFragmentRoom (L .total) (L .most) ≡ true) (h : HoldsState L o st) where
+  -- its limits, modes and options
+  record-says : (r : Record) → r ≡ recordOf L M o st → (r .limits ≡ L) × (r .modes ≡ M) × (r .options ≡ o)
   unfolding recordOf
-  record-says r e = (ap (λ (z : Record). z .limits) e, ap (λ (z : Record). z .options) e)
+  record-says r e = (ap (λ (z : Record). z .limits) e, ap (λ (z : Record). z .modes) e, ap (λ (z : Record). z .options) e)
 
-  abbrev answered : ℕ → Limits → Options → State → Record → Bytes → Called
-  answered x L o st r c =
+  abbrev answered : ℕ → Limits → Modes → Options → State → Record → Bytes → Called
+  answered x L M o st r c =
       cond (eqb x 0)
-      (record { number = 0; out = push L o st c .out; counts = push L o st c .counts; handed = recordOf L o (push L o st c .state) })
+      (record { number = 0; out = push L M o st c .out; counts = push L M o st c .counts; handed = recordOf L M o (push L M o st c .state) })
       (record { number = x; out = []; counts = countsOf 0; handed = r })
 
   called-by : (r : Record) (work bodies : Bytes) (map-room : List ℕ) (c : Lent)
       → called r work bodies map-room (c .0) (c .1)
-      ≡ answered (pushRefusal r (length work) (length bodies) (length map-room) (length (c .0)) (c .1)) (r .limits) (r .options) (stateOf r work bodies map-room) r (c .0)
+      ≡ answered (pushRefusal r (length work) (length bodies) (length map-room) (length (c .0)) (c .1)) (r .limits) (r .modes) (r .options) (stateOf r work bodies map-room) r (c .0)
   unfolding called
   called-by r work bodies map-room c = refl
 
   -- A call on the record that is not refused is the call on the state.
-  pub called-taken : (r : Record) (work bodies : Bytes) (map-room : List ℕ) (c : Lent) → r ≡ recordOf L o st → stateOf r work bodies map-room ≡ st
+  pub called-taken : (r : Record) (work bodies : Bytes) (map-room : List ℕ) (c : Lent) → r ≡ recordOf L M o st → stateOf r work bodies map-room ≡ st
       → length work ≡ L .work → length bodies ≡ L .total → length map-room ≡ 32768 → callRefusal L st c ≡ 0
       → called r work bodies map-room (c .0) (c .1)
-      ≡ record { number = 0; out = push L o st (c .0) .out; counts = push L o st (c .0) .counts; handed = recordOf L o (push L o st (c .0) .state) }
+      ≡ record { number = 0; out = push L M o st (c .0) .out; counts = push L M o st (c .0) .counts; handed = recordOf L M o (push L M o st (c .0) .state) }
   called-taken r work bodies map-room c e s w b m q =
       let l = record-says r e in
-      let x = (λ i. pushRefusal (e i) (w i) (b i) (m i) (length (c .0)) (c .1)) ∙ refusal-same L o st c work-good fragments-good h ∙ q in
-      called-by r work bodies map-room c ∙ (λ i. answered (x i) (l .0 i) (l .1 i) (s i) r (c .0))
+      let x = (λ i. pushRefusal (e i) (w i) (b i) (m i) (length (c .0)) (c .1)) ∙ refusal-same L M o st c work-good fragments-good h ∙ q in
+      called-by r work bodies map-room c ∙ (λ i. answered (x i) (l .0 i) (l .1 i) (l .2 i) (s i) r (c .0))

@@ -16,7 +16,7 @@ use Rattle.meaning.specs.Readers.{bytes, walk}
 use Rattle.meaning.specs.Packets.{sizeOf, isType, candidate, followed, stepOf, cut}
 use Rattle.meaning.specs.Mmtp.{Mmtp, mmtpOf, isSignalling}
 use Rattle.meaning.specs.Wishes.{copiesAll}
-use Rattle.meaning.specs.Narrow.{narrowPayload, packetBytes, packetFor, narrowPacket}
+use Rattle.meaning.specs.Narrow.{mayRewrite, narrowPayload, packetBytes, packetFor, narrowPacket}
 use Rattle.meaning.specs.Rooms.{packetLimit}
 use Rattle.meaning.specs.Learn.{Known, learn}
 use Rattle.meaning.specs.Record.{State}
@@ -25,6 +25,7 @@ use Rattle.meaning.specs.Series.{Lent, callRefusal, seriesOn, series}
 use Rattle.meaning.specs.Recount.{packet, packetsOf, Sized}
 use Rattle.meaning.specs.declared.Limits.{Limits}
 use Rattle.meaning.specs.declared.Options.{Options}
+use Rattle.meaning.specs.declared.Modes.{Modes}
 use Rattle.meaning.specs.declared.Step.the-variants.{Packet}
 use Rattle.meaning.proofs.ListLaws.{and-both, or-left, or-right}
 use Rattle.meaning.proofs.Local.{Local}
@@ -32,6 +33,7 @@ use Rattle.meaning.proofs.Framed.{Again, AllAgain, walk-again}
 use Rattle.meaning.proofs.CutLaws.{by-steps, step-nil, cut-keep, cut-skip, cut-packet, size-four}
 use Rattle.meaning.proofs.TableLaws.{be16-put, be16-small}
 use Rattle.meaning.proofs.PaLaws.{map-same, bytes-framed, taken}
+use Rattle.meaning.proofs.AfreshLaws.{afresh-length}
 use Rattle.meaning.proofs.Statements.{packet-shorter}
 
 -- ---- the head's length
@@ -104,28 +106,28 @@ cut-sized P s = whole-sized P (cut P s .packets) (cut-whole P s)
 
 -- ---- a packet that narrowing changes
 
-pub record Rewritten (o : Options) (p y : Bytes) : Type 0 where
+pub record Rewritten (M : Modes) (o : Options) (p y : Bytes) : Type 0 where
   pub read : Mmtp
   pub was : mmtpOf p ≡ some read
-  pub may : (isSignalling read && read .rewritable) ≡ true
+  pub may : (isSignalling read && mayRewrite M p read) ≡ true
   pub payload : Bytes
   pub narrowed : narrowPayload o (read .identifier) (read .payload) ≡ some payload
   pub is : packetBytes p read payload ≡ y
 
-pub rewritten : (o : Options) (p y : Bytes) → narrowPacket o p ≡ some y → Rewritten o p y
+pub rewritten : (M : Modes) (o : Options) (p y : Bytes) → narrowPacket M o p ≡ some y → Rewritten M o p y
 unfolding narrowPacket
-rewritten o p y e = found (mmtpOf p) refl e
+rewritten M o p y e = found (mmtpOf p) refl e
   where
-    mapped : (m : Mmtp) → mmtpOf p ≡ some m → (isSignalling m && m .rewritable) ≡ true → (x : Option Bytes) → narrowPayload o (m .identifier) (m .payload) ≡ x
-        → Option·map (packetBytes p m) x ≡ some y → Rewritten o p y
+    mapped : (m : Mmtp) → mmtpOf p ≡ some m → (isSignalling m && mayRewrite M p m) ≡ true → (x : Option Bytes) → narrowPayload o (m .identifier) (m .payload) ≡ x
+        → Option·map (packetBytes p m) x ≡ some y → Rewritten M o p y
     mapped m em g none ex q = absurd (Option·none-ne-some _ q)
     mapped m em g (some z) ex q = record { read = m; was = em; may = g; payload = z; narrowed = ex; is = Option·some-injective _ _ q }
 
-    found : (x : Option Mmtp) → mmtpOf p ≡ x → packetFor o p x ≡ some y → Rewritten o p y
+    found : (x : Option Mmtp) → mmtpOf p ≡ x → packetFor M o p x ≡ some y → Rewritten M o p y
     found none ex q = absurd (Option·none-ne-some _ q)
-    found (some m) ex q = go (isSignalling m && m .rewritable) refl q
+    found (some m) ex q = go (isSignalling m && mayRewrite M p m) refl q
       where
-        go : (b : Bool) → (isSignalling m && m .rewritable) ≡ b → cond b (Option·map (packetBytes p m) (narrowPayload o (m .identifier) (m .payload))) none ≡ some y → Rewritten o p y
+        go : (b : Bool) → (isSignalling m && mayRewrite M p m) ≡ b → cond b (Option·map (packetBytes p m) (narrowPayload o (m .identifier) (m .payload))) none ≡ some y → Rewritten M o p y
         go true eb r = mapped m ex eb (narrowPayload o (m .identifier) (m .payload)) refl r
         go false eb r = absurd (Option·none-ne-some _ r)
 
@@ -135,14 +137,14 @@ module _ (a t l k : ℕ) (s : Bytes) (m : Mmtp) (z : Bytes) where
   unfolding packetBytes sizeOf be16At put16
   put-size few =
       let rest : Bytes = take (length (a ∷ t ∷ l ∷ k ∷ s) - length (m .payload) - 4) s ++ z in
-      omega (arith, few, be16-put (length rest))
+      omega (arith, few, be16-put (length rest), afresh-length t rest)
 
   put-front : (getD (packetBytes (a ∷ t ∷ l ∷ k ∷ s) m z) 0 0 ≡ a) × (getD (packetBytes (a ∷ t ∷ l ∷ k ∷ s) m z) 1 0 ≡ t)
   unfolding packetBytes
   put-front = (refl, refl)
 
-module _ (P : ℕ) (o : Options) where
-  size-start : (p y : Bytes) → length p ≤ 65539 → length y ≤ length p → Rewritten o p y
+module _ (P : ℕ) (M : Modes) (o : Options) where
+  size-start : (p y : Bytes) → length p ≤ 65539 → length y ≤ length p → Rewritten M o p y
       → (sizeOf y ≡ length y) × (sizeOf p ≡ length p → candidate P p ≡ true → candidate P y ≡ true)
   unfolding mmtpOf candidate
   size-start [] y few less w = absurd (Option·none-ne-some _ (w .was))
@@ -164,58 +166,58 @@ module _ (P : ℕ) (o : Options) where
       )
 
 -- The TLV length follows: 01 bounds what is narrowed by 65,539 bytes.
-pub size-follows : (o : Options) (p y : Bytes) → length p ≤ 65539 → narrowPacket o p ≡ some y → sizeOf y ≡ length y
-size-follows o p y few e = size-start 0 o p y few (packet-shorter o p y e) (rewritten o p y e) .0
+pub size-follows : (M : Modes) (o : Options) (p y : Bytes) → length p ≤ 65539 → narrowPacket M o p ≡ some y → sizeOf y ≡ length y
+size-follows M o p y few e = size-start 0 M o p y few (packet-shorter M o p y e) (rewritten M o p y e) .0
 
 -- ---- all that is written
 
 -- what narrowing keeps holds of all that goes out, if it held of all that came in
-module _ (Q : Bytes → Type 0) (L : Limits) (o : Options) (keeps : (p y : Bytes) → Q p → narrowPacket o p ≡ some y → Q y) where
-  pass-each : (k : Known) (ps : List Bytes) → Each Q ps → Each Q (pass L o k ps .out)
+module _ (Q : Bytes → Type 0) (L : Limits) (M : Modes) (o : Options) (keeps : (p y : Bytes) → Q p → narrowPacket M o p ≡ some y → Q y) where
+  pass-each : (k : Known) (ps : List Bytes) → Each Q ps → Each Q (pass L M o k ps .out)
   unfolding pass
   pass-each k [] h = each-none Q
   pass-each k (p ∷ ps) h =
-      go (withheld o (learn L k p .known) (mmtpOf p)) (narrowPacket o p) refl (pass-each (learn L k p .known) ps (each-rest Q p ps h))
+      go (withheld o (learn L k p .known) (mmtpOf p)) (narrowPacket M o p) refl (pass-each (learn L k p .known) ps (each-rest Q p ps h))
     where
       r : Passed
-      r = pass L o (learn L k p .known) ps
+      r = pass L M o (learn L k p .known) ps
 
-      go : (a : Bool) (y : Option Bytes) → narrowPacket o p ≡ y → Each Q (r .out) → Each Q (passOne a y p (learn L k p .lost) r .out)
+      go : (a : Bool) (y : Option Bytes) → narrowPacket M o p ≡ y → Each Q (r .out) → Each Q (passOne a y p (learn L k p .lost) r .out)
       go true y e ih = ih
       go false none e ih = each-more Q p (r .out) (each-first Q p ps h) ih
       go false (some y) e ih = each-more Q y (r .out) (keeps p y (each-first Q p ps h) e) ih
 
-pub pass-sized : (L : Limits) (o : Options) (k : Known) (ps : List Bytes) → Sized ps → Sized (pass L o k ps .out)
-pass-sized L o = pass-each (λ p. sizeOf p ≡ length p) L o (λ p y h e. size-follows o p y (omega (arith, h, size-most p)) e)
+pub pass-sized : (L : Limits) (M : Modes) (o : Options) (k : Known) (ps : List Bytes) → Sized ps → Sized (pass L M o k ps .out)
+pass-sized L M o = pass-each (λ p. sizeOf p ≡ length p) L M o (λ p y h e. size-follows M o p y (omega (arith, h, size-most p)) e)
 
-narrowed-whole : (P : ℕ) (o : Options) (p y : Bytes) → Whole P p → narrowPacket o p ≡ some y → Whole P y
-narrowed-whole P o p y w e =
-    let n = size-start P o p y (omega (arith, w .size, size-most p)) (packet-shorter o p y e) (rewritten o p y e) in
+narrowed-whole : (P : ℕ) (M : Modes) (o : Options) (p y : Bytes) → Whole P p → narrowPacket M o p ≡ some y → Whole P y
+narrowed-whole P M o p y w e =
+    let n = size-start P M o p y (omega (arith, w .size, size-most p)) (packet-shorter M o p y e) (rewritten M o p y e) in
     record { size = n .0; start = n .1 (w .size) (w .start) }
 
-module _ (L : Limits) (o : Options) (some-off : copiesAll o ≡ false) where
+module _ (L : Limits) (M : Modes) (o : Options) (some-off : copiesAll o ≡ false) where
   abbrev P : ℕ
   P = packetLimit (L .work)
 
-  push-whole : (st : State) (chunk : Bytes) → Each (Whole P) (push L o st chunk .out)
+  push-whole : (st : State) (chunk : Bytes) → Each (Whole P) (push L M o st chunk .out)
   unfolding push filtered
-  push-whole st chunk = rw some-off (pass-each (Whole P) L o (narrowed-whole P o) (st .known) (cut P (st .held ++ chunk) .packets) (cut-whole P (st .held ++ chunk)))
+  push-whole st chunk = rw some-off (pass-each (Whole P) L M o (narrowed-whole P M o) (st .known) (cut P (st .held ++ chunk) .packets) (cut-whole P (st .held ++ chunk)))
 
-  series-whole : (st : State) (cs : List Lent) → Each (Whole P) (series L o st cs .out)
+  series-whole : (st : State) (cs : List Lent) → Each (Whole P) (series L M o st cs .out)
   unfolding series
   series-whole st [] = each-none (Whole P)
-  series-whole st (c ∷ cs) = go (eqb (callRefusal L st c) 0) (series-whole st cs) (series-whole (push L o st (c .0) .state) cs)
+  series-whole st (c ∷ cs) = go (eqb (callRefusal L st c) 0) (series-whole st cs) (series-whole (push L M o st (c .0) .state) cs)
     where
-      go : (a : Bool) → Each (Whole P) (series L o st cs .out) → Each (Whole P) (series L o (push L o st (c .0) .state) cs .out)
-          → Each (Whole P) (cond a (seriesOn (push L o st (c .0)) (series L o (push L o st (c .0) .state) cs)) (series L o st cs) .out)
-      go true skipped done = each-both (Whole P) (push L o st (c .0) .out) (series L o (push L o st (c .0) .state) cs .out) (push-whole st (c .0)) done
+      go : (a : Bool) → Each (Whole P) (series L M o st cs .out) → Each (Whole P) (series L M o (push L M o st (c .0) .state) cs .out)
+          → Each (Whole P) (cond a (seriesOn (push L M o st (c .0)) (series L M o (push L M o st (c .0) .state) cs)) (series L M o st cs) .out)
+      go true skipped done = each-both (Whole P) (push L M o st (c .0) .out) (series L M o (push L M o st (c .0) .state) cs .out) (push-whole st (c .0)) done
       go false skipped done = skipped
 
-  pub push-sized : (st : State) (chunk : Bytes) → Sized (push L o st chunk .out)
-  push-sized st chunk = whole-sized P (push L o st chunk .out) (push-whole st chunk)
+  pub push-sized : (st : State) (chunk : Bytes) → Sized (push L M o st chunk .out)
+  push-sized st chunk = whole-sized P (push L M o st chunk .out) (push-whole st chunk)
 
-  pub series-sized : (st : State) (cs : List Lent) → Sized (series L o st cs .out)
-  series-sized st cs = whole-sized P (series L o st cs .out) (series-whole st cs)
+  pub series-sized : (st : State) (cs : List Lent) → Sized (series L M o st cs .out)
+  series-sized st cs = whole-sized P (series L M o st cs .out) (series-whole st cs)
 
 -- ---- bytes split into packets in one way only
 
@@ -294,27 +296,27 @@ cut-again P (p ∷ ps) h =
 
 -- ---- a push, and a series of calls
 
-module _ (L : Limits) (o : Options) (some-off : copiesAll o ≡ false) where
-  pub push-splits : (st : State) (chunk : Bytes) → packetsOf (flatten (push L o st chunk .out)) ≡ push L o st chunk .out
-  push-splits st chunk = packets-again (push L o st chunk .out) (push-sized L o some-off st chunk)
+module _ (L : Limits) (M : Modes) (o : Options) (some-off : copiesAll o ≡ false) where
+  pub push-splits : (st : State) (chunk : Bytes) → packetsOf (flatten (push L M o st chunk .out)) ≡ push L M o st chunk .out
+  push-splits st chunk = packets-again (push L M o st chunk .out) (push-sized L M o some-off st chunk)
 
   told : (st : State) (chunk : Bytes)
-      → (push L o st chunk .counts .written ≡ length (push L o st chunk .out)) × (push L o st chunk .counts .bytes ≡ length (flatten (push L o st chunk .out)))
+      → (push L M o st chunk .counts .written ≡ length (push L M o st chunk .out)) × (push L M o st chunk .counts .bytes ≡ length (flatten (push L M o st chunk .out)))
   unfolding push filtered
   told st chunk = rw some-off (refl, refl)
 
   -- So the packets reported as written, and the bytes, are counted again from the output.
   pub push-counts : (st : State) (chunk : Bytes)
-      → (push L o st chunk .counts .written ≡ length (packetsOf (flatten (push L o st chunk .out)))) × (push L o st chunk .counts .bytes ≡ length (flatten (push L o st chunk .out)))
+      → (push L M o st chunk .counts .written ≡ length (packetsOf (flatten (push L M o st chunk .out)))) × (push L M o st chunk .counts .bytes ≡ length (flatten (push L M o st chunk .out)))
   push-counts st chunk = (told st chunk .0 ∙ ap length (sym (push-splits st chunk)), told st chunk .1)
 
   pub push-found : (st : State) (chunk : Bytes)
-      → cut (packetLimit (L .work)) (flatten (push L o st chunk .out)) ≡ record { packets = push L o st chunk .out; skipped = 0; held = [] }
-  push-found st chunk = cut-again (packetLimit (L .work)) (push L o st chunk .out) (push-whole L o some-off st chunk)
+      → cut (packetLimit (L .work)) (flatten (push L M o st chunk .out)) ≡ record { packets = push L M o st chunk .out; skipped = 0; held = [] }
+  push-found st chunk = cut-again (packetLimit (L .work)) (push L M o st chunk .out) (push-whole L M o some-off st chunk)
 
-  pub series-splits : (st : State) (cs : List Lent) → packetsOf (flatten (series L o st cs .out)) ≡ series L o st cs .out
-  series-splits st cs = packets-again (series L o st cs .out) (series-sized L o some-off st cs)
+  pub series-splits : (st : State) (cs : List Lent) → packetsOf (flatten (series L M o st cs .out)) ≡ series L M o st cs .out
+  series-splits st cs = packets-again (series L M o st cs .out) (series-sized L M o some-off st cs)
 
   pub series-found : (st : State) (cs : List Lent)
-      → cut (packetLimit (L .work)) (flatten (series L o st cs .out)) ≡ record { packets = series L o st cs .out; skipped = 0; held = [] }
-  series-found st cs = cut-again (packetLimit (L .work)) (series L o st cs .out) (series-whole L o some-off st cs)
+      → cut (packetLimit (L .work)) (flatten (series L M o st cs .out)) ≡ record { packets = series L M o st cs .out; skipped = 0; held = [] }
+  series-found st cs = cut-again (packetLimit (L .work)) (series L M o st cs .out) (series-whole L M o some-off st cs)

@@ -24,6 +24,7 @@ use Rattle.meaning.specs.Push.{withheld, passOne, pass, filtered, push, 
 use Rattle.meaning.specs.Series.{Lent, callRefusal, series, seriesOn}
 use Rattle.meaning.specs.declared.Limits.{Limits}
 use Rattle.meaning.specs.declared.Options.{Options}
+use Rattle.meaning.specs.declared.Modes.{Modes}
 use Rattle.meaning.proofs.ListLaws.{clash, and-both}
 use Rattle.meaning.proofs.CutLaws.{held-below}
 use Rattle.meaning.proofs.SoundnessKept.{held-next, learn-holds}
@@ -62,39 +63,39 @@ blank-unsound W T n = go (soundRooms (blank .limits) W T n)
 
 -- ---- a call, and a series of calls
 
-pass-holds : (L : Limits) (o : Options) (k : Known) (ps : List Bytes) → Holds (L .total) k → Holds (L .total) (pass L o k ps .known)
+pass-holds : (L : Limits) (M : Modes) (o : Options) (k : Known) (ps : List Bytes) → Holds (L .total) k → Holds (L .total) (pass L M o k ps .known)
 unfolding pass
-pass-holds L o k [] h = h
-pass-holds L o k (p ∷ ps) h =
-    go (withheld o (learn L k p .known) (mmtpOf p)) (pass-holds L o (learn L k p .known) ps (learn-holds L k p h))
+pass-holds L M o k [] h = h
+pass-holds L M o k (p ∷ ps) h =
+    go (withheld o (learn L k p .known) (mmtpOf p)) (pass-holds L M o (learn L k p .known) ps (learn-holds L k p h))
   where
-    go : (a : Bool) → Holds (L .total) (pass L o (learn L k p .known) ps .known)
-        → Holds (L .total) (passOne a (narrowPacket o p) p (learn L k p .lost) (pass L o (learn L k p .known) ps) .known)
+    go : (a : Bool) → Holds (L .total) (pass L M o (learn L k p .known) ps .known)
+        → Holds (L .total) (passOne a (narrowPacket M o p) p (learn L k p .lost) (pass L M o (learn L k p .known) ps) .known)
     go true r = r
     go false r = r
 
-pub push-holds : (L : Limits) (o : Options) (st : State) (chunk : Bytes) → 4 ≤ packetLimit (L .work) → HoldsState L o st → HoldsState L o (push L o st chunk .state)
+pub push-holds : (L : Limits) (M : Modes) (o : Options) (st : State) (chunk : Bytes) → 4 ≤ packetLimit (L .work) → HoldsState L o st → HoldsState L o (push L M o st chunk .state)
 unfolding push filtered
-push-holds L o st chunk four h = go (copiesAll o) refl
+push-holds L M o st chunk four h = go (copiesAll o) refl
   where
-    go : (a : Bool) → copiesAll o ≡ a → HoldsState L o (push L o st chunk .state)
+    go : (a : Bool) → copiesAll o ≡ a → HoldsState L o (push L M o st chunk .state)
     go true e = rw e h
     go false e = rw e
         (record {
           held-few = held-below (packetLimit (L .work)) four (st .held ++ chunk);
           held-none = λ c. clash (let z : false ≡ true = sym e ∙ c in cc);
           wants-assets = h .wants-assets;
-          known-holds = pass-holds L o (st .known) (cut (packetLimit (L .work)) (st .held ++ chunk) .packets) (h .known-holds);
+          known-holds = pass-holds L M o (st .known) (cut (packetLimit (L .work)) (st .held ++ chunk) .packets) (h .known-holds);
         })
 
-pub series-holds : (L : Limits) (o : Options) (st : State) (cs : List Lent) → 4 ≤ packetLimit (L .work) → HoldsState L o st → HoldsState L o (series L o st cs .state)
+pub series-holds : (L : Limits) (M : Modes) (o : Options) (st : State) (cs : List Lent) → 4 ≤ packetLimit (L .work) → HoldsState L o st → HoldsState L o (series L M o st cs .state)
 unfolding series
-series-holds L o st [] four h = h
-series-holds L o st (c ∷ cs) four h =
-    go (eqb (callRefusal L st c) 0) (series-holds L o (push L o st (c .0) .state) cs four (push-holds L o st (c .0) four h)) (series-holds L o st cs four h)
+series-holds L M o st [] four h = h
+series-holds L M o st (c ∷ cs) four h =
+    go (eqb (callRefusal L st c) 0) (series-holds L M o (push L M o st (c .0) .state) cs four (push-holds L M o st (c .0) four h)) (series-holds L M o st cs four h)
   where
-    go : (a : Bool) → HoldsState L o (series L o (push L o st (c .0) .state) cs .state) → HoldsState L o (series L o st cs .state)
-        → HoldsState L o (cond a (seriesOn (push L o st (c .0)) (series L o (push L o st (c .0) .state) cs)) (series L o st cs) .state)
+    go : (a : Bool) → HoldsState L o (series L M o (push L M o st (c .0) .state) cs .state) → HoldsState L o (series L M o st cs .state)
+        → HoldsState L o (cond a (seriesOn (push L M o st (c .0)) (series L M o (push L M o st (c .0) .state) cs)) (series L M o st cs) .state)
     go true x y = x
     go false x y = y
 
@@ -165,7 +166,7 @@ unfolding sum fragmentBytes
 lengths-of [] h = refl
 lengths-of (f ∷ fs) h = ap₂ (λ (a b : ℕ). a + b) (h .0 .length-is) (lengths-of fs (h .1))
 
-module _ (L : Limits) (o : Options) (st : State) (work-good : goodWorkRoom (L .work) ≡ true) (fragments-good : goodFragmentRoom (L .total) (L .most) ≡ true) (h : HoldsState L o st) where
+module _ (L : Limits) (M : Modes) (o : Options) (st : State) (work-good : goodWorkRoom (L .work) ≡ true) (fragments-good : goodFragmentRoom (L .total) (L .most) ≡ true) (h : HoldsState L o st) where
   rooms-sound : soundRooms L (L .work) (L .total) 32768 ≡ true
   unfolding soundRooms goodMapRoom
   rooms-sound = rw (eq-eqb (L .work) (L .work) refl, eq-eqb (L .total) (L .total) refl, work-good) fragments-good
@@ -207,7 +208,7 @@ module _ (L : Limits) (o : Options) (st : State) (work-good : goodWorkRoom (L .w
       let tell = heads-tell (L .total) fs s total-small in
       rw (le-leb (length fs) 256 (s .few), used 256 fragmentHead fs, identifiers-of fs tell, lengths-of fs tell, s .once, le-leb (fragmentBytes fs) (L .total) (s .within))
 
-  pub record-sound : sound (recordOf L o st) (L .work) (L .total) 32768 ≡ true
+  pub record-sound : sound (recordOf L M o st) (L .work) (L .total) 32768 ≡ true
   unfolding sound recordOf
   record-sound = rw (rooms-sound, h .wants-assets, held-sound, packages-sound, maps-sound) fragments-sound
 
@@ -360,8 +361,8 @@ fragments-back (f ∷ fs) spare h =
     (λ i. record { identifier = h .0 .identifier-is i; flags = h .0 .flags-are i; body = body i })
     (ap (fragmentsIn (map fragmentHead fs)) rest ∙ fragments-back fs spare (h .1))
 
-module _ (L : Limits) (o : Options) (st : State) (total-few : L .total ≤ 16777216) (h : HoldsState L o st) where
-  pub state-back : (work bodies : Bytes) → stateOf (recordOf L o st) (st .held ++ work) (bodiesOf (st .known .fragments) ++ bodies) (st .known .map-room) ≡ st
+module _ (L : Limits) (M : Modes) (o : Options) (st : State) (total-few : L .total ≤ 16777216) (h : HoldsState L o st) where
+  pub state-back : (work bodies : Bytes) → stateOf (recordOf L M o st) (st .held ++ work) (bodiesOf (st .known .fragments) ++ bodies) (st .known .map-room) ≡ st
   unfolding stateOf recordOf
   state-back work bodies =
       let k = st .known in
@@ -377,7 +378,7 @@ module _ (L : Limits) (o : Options) (st : State) (total-few : L .total ≤ 16777
       }
 
 -- A call on the record of a state is refused as a call on the state is.
-pub refusal-same : (L : Limits) (o : Options) (st : State) (c : Lent) → goodWorkRoom (L .work) ≡ true → goodFragmentRoom (L .total) (L .most) ≡ true → HoldsState L o st
-    → pushRefusal (recordOf L o st) (L .work) (L .total) 32768 (length (c .0)) (c .1) ≡ callRefusal L st c
+pub refusal-same : (L : Limits) (M : Modes) (o : Options) (st : State) (c : Lent) → goodWorkRoom (L .work) ≡ true → goodFragmentRoom (L .total) (L .most) ≡ true → HoldsState L o st
+    → pushRefusal (recordOf L M o st) (L .work) (L .total) 32768 (length (c .0)) (c .1) ≡ callRefusal L st c
 unfolding pushRefusal callRefusal recordOf
-refusal-same L o st c w f h = rw (record-sound L o st w f h)
+refusal-same L M o st c w f h = rw (record-sound L M o st w f h)

@@ -29,6 +29,7 @@ use Rattle.meaning.specs.declared.Limits.{Limits}
 use Rattle.meaning.specs.declared.Part.{Part}
 use Rattle.meaning.specs.declared.Part.the-variants.{Caption, Carousel, Other}
 use Rattle.meaning.specs.declared.Options.{Options}
+use Rattle.meaning.specs.declared.Modes.{Modes}
 use Rattle.meaning.proofs.TableLaws.{mpt-split}
 use Rattle.meaning.proofs.SetLaws.{many-same}
 use Rattle.meaning.proofs.SoundnessKept.{putHead, put-is, list-length, list-holds, packages-holds, with-fragments, without-holds, first-holds, middle-holds}
@@ -330,24 +331,24 @@ record AlikePass (T : ℕ) (one other : Passed) : Type 0 where
   spare : Spare T (one .known) map-room-after
   same : other ≡ record { out = one .out; rewritten = one .rewritten; lost = one .lost; known = withMapRoom (one .known) map-room-after }
 
-pass-alike : (L : Limits) (o : Options) (ps : List Bytes) (k : Known) (map-room : List ℕ) → Spare (L .total) k map-room → AlikePass (L .total) (pass L o k ps) (pass L o (withMapRoom k map-room) ps)
+pass-alike : (L : Limits) (M : Modes) (o : Options) (ps : List Bytes) (k : Known) (map-room : List ℕ) → Spare (L .total) k map-room → AlikePass (L .total) (pass L M o k ps) (pass L M o (withMapRoom k map-room) ps)
 unfolding pass
-pass-alike L o [] k map-room s = record { map-room-after = map-room; spare = s; same = refl }
-pass-alike L o (p ∷ ps) k map-room s =
+pass-alike L M o [] k map-room s = record { map-room-after = map-room; spare = s; same = refl }
+pass-alike L M o (p ∷ ps) k map-room s =
     let a = learn-alike L k map-room p s in
-    let r = pass-alike L o ps (learn L k p .known) (a .map-room-after) (a .spare) in
+    let r = pass-alike L M o ps (learn L k p .known) (a .map-room-after) (a .spare) in
     let one : Learnt = learn L k p in
-    let step : Learnt → Passed = λ l. passOne (withheld o (l .known) (mmtpOf p)) (narrowPacket o p) p (l .lost) (pass L o (l .known) ps) in
-    let moved : step (learn L (withMapRoom k map-room) p) ≡ passOne (withheld o (one .known) (mmtpOf p)) (narrowPacket o p) p (one .lost) (pass L o (withMapRoom (one .known) (a .map-room-after)) ps) =
+    let step : Learnt → Passed = λ l. passOne (withheld o (l .known) (mmtpOf p)) (narrowPacket M o p) p (l .lost) (pass L M o (l .known) ps) in
+    let moved : step (learn L (withMapRoom k map-room) p) ≡ passOne (withheld o (one .known) (mmtpOf p)) (narrowPacket M o p) p (one .lost) (pass L M o (withMapRoom (one .known) (a .map-room-after)) ps) =
     ap step (a .same)
-    ∙ ap (λ (b : Bool). passOne b (narrowPacket o p) p (one .lost) (pass L o (withMapRoom (one .known) (a .map-room-after)) ps))
+    ∙ ap (λ (b : Bool). passOne b (narrowPacket M o p) p (one .lost) (pass L M o (withMapRoom (one .known) (a .map-room-after)) ps))
     (sym (withheld-alike (L .total) o (one .known) (a .map-room-after) (mmtpOf p) (a .spare))) in
-    go (withheld o (one .known) (mmtpOf p)) (one .lost) (pass L o (one .known) ps) (pass L o (withMapRoom (one .known) (a .map-room-after)) ps) r _ moved
+    go (withheld o (one .known) (mmtpOf p)) (one .lost) (pass L M o (one .known) ps) (pass L M o (withMapRoom (one .known) (a .map-room-after)) ps) r _ moved
   where
-    go : (b : Bool) (lost : ℕ) (r r′ : Passed) → AlikePass (L .total) r r′ → (other : Passed) → other ≡ passOne b (narrowPacket o p) p lost r′
-        → AlikePass (L .total) (passOne b (narrowPacket o p) p lost r) other
-    go true lost r r′ a other e = record { map-room-after = a .map-room-after; spare = a .spare; same = e ∙ ap (passOne true (narrowPacket o p) p lost) (a .same) }
-    go false lost r r′ a other e = record { map-room-after = a .map-room-after; spare = a .spare; same = e ∙ ap (passOne false (narrowPacket o p) p lost) (a .same) }
+    go : (b : Bool) (lost : ℕ) (r r′ : Passed) → AlikePass (L .total) r r′ → (other : Passed) → other ≡ passOne b (narrowPacket M o p) p lost r′
+        → AlikePass (L .total) (passOne b (narrowPacket M o p) p lost r) other
+    go true lost r r′ a other e = record { map-room-after = a .map-room-after; spare = a .spare; same = e ∙ ap (passOne true (narrowPacket M o p) p lost) (a .same) }
+    go false lost r r′ a other e = record { map-room-after = a .map-room-after; spare = a .spare; same = e ∙ ap (passOne false (narrowPacket M o p) p lost) (a .same) }
 
 -- The same bytes and counts from both rooms, and the two states differ in spare numbers again.
 pub record AlikePush (T : ℕ) (one other : Outcome) : Type 0 where
@@ -357,19 +358,19 @@ pub record AlikePush (T : ℕ) (one other : Outcome) : Type 0 where
   pub counts-same : one .counts ≡ other .counts
   pub state-same : other .state ≡ record { held = one .state .held; known = withMapRoom (one .state .known) map-room-after }
 
-pub push-alike : (L : Limits) (o : Options) (held chunk : Bytes) (k : Known) (map-room : List ℕ) → Spare (L .total) k map-room
-    → AlikePush (L .total) (push L o (record { held = held; known = k }) chunk) (push L o (record { held = held; known = withMapRoom k map-room }) chunk)
+pub push-alike : (L : Limits) (M : Modes) (o : Options) (held chunk : Bytes) (k : Known) (map-room : List ℕ) → Spare (L .total) k map-room
+    → AlikePush (L .total) (push L M o (record { held = held; known = k }) chunk) (push L M o (record { held = held; known = withMapRoom k map-room }) chunk)
 unfolding push filtered
-push-alike L o held chunk k map-room s = go (copiesAll o)
+push-alike L M o held chunk k map-room s = go (copiesAll o)
   where
     c : Cut
     c = cut (packetLimit (L .work)) (held ++ chunk)
 
-    go : (a : Bool) → AlikePush (L .total) (cond a (copied (record { held = held; known = k }) chunk) (outcome c (pass L o k (c .packets))))
-        (cond a (copied (record { held = held; known = withMapRoom k map-room }) chunk) (outcome c (pass L o (withMapRoom k map-room) (c .packets))))
+    go : (a : Bool) → AlikePush (L .total) (cond a (copied (record { held = held; known = k }) chunk) (outcome c (pass L M o k (c .packets))))
+        (cond a (copied (record { held = held; known = withMapRoom k map-room }) chunk) (outcome c (pass L M o (withMapRoom k map-room) (c .packets))))
     go true = record { map-room-after = map-room; spare = s; out-same = refl; counts-same = refl; state-same = refl }
     go false =
-        let a = pass-alike L o (c .packets) k map-room s in
+        let a = pass-alike L M o (c .packets) k map-room s in
         record {
           map-room-after = a .map-room-after;
           spare = a .spare;

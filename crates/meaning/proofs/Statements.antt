@@ -19,6 +19,7 @@ use Rattle.meaning.specs.Less.{Fewer}
 use Rattle.meaning.specs.declared.Limits.{Limits}
 use Rattle.meaning.specs.declared.Part.{Part}
 use Rattle.meaning.specs.declared.Options.{Options}
+use Rattle.meaning.specs.declared.Modes.{Modes}
 use Rattle.meaning.proofs.ListLaws.{keep-sublist, stay-go}
 use Rattle.meaning.proofs.CutLaws.{lengths, byte-equation}
 use Rattle.meaning.proofs.TableLaws.{mpt-reads, table-again, table-split, body-narrows, withBody}
@@ -26,11 +27,11 @@ use Rattle.meaning.proofs.NarrowLaws.{alone-narrows, payload-narrows, p
 
 -- ---- no byte is lost: held before + chunk = accepted packets' bytes + skipped + held after
 
-pub bytes-add-up : (L : Limits) (o : Options) (st : State) (chunk : Bytes) → copiesAll o ≡ false
+pub bytes-add-up : (L : Limits) (M : Modes) (o : Options) (st : State) (chunk : Bytes) → copiesAll o ≡ false
     → length (st .held) + length chunk
-    ≡ lengths (cut (packetLimit (L .work)) (st .held ++ chunk) .packets) + push L o st chunk .counts .skipped + length (push L o st chunk .state .held)
+    ≡ lengths (cut (packetLimit (L .work)) (st .held ++ chunk) .packets) + push L M o st chunk .counts .skipped + length (push L M o st chunk .state .held)
 unfolding push filtered
-bytes-add-up L o st chunk e = rw e (byte-equation (packetLimit (L .work)) (st .held) chunk)
+bytes-add-up L M o st chunk e = rw e (byte-equation (packetLimit (L .work)) (st .held) chunk)
 
 -- ---- a narrowed table
 
@@ -64,16 +65,16 @@ table-shorter o = alone-narrows (same-wishes o) .shorter
 pub payload-shorter : (o : Options) (p : ℕ) (s y : Bytes) → narrowPayload o p s ≡ some y → length y ≤ length s
 payload-shorter o p = payload-narrows (same-wishes o) p .shorter
 
-pub packet-shorter : (o : Options) (p y : Bytes) → narrowPacket o p ≡ some y → length y ≤ length p
-packet-shorter o = packet-narrows (same-wishes o) .shorter
+pub packet-shorter : (M : Modes) (o : Options) (p y : Bytes) → narrowPacket M o p ≡ some y → length y ≤ length p
+packet-shorter M o = packet-narrows M (same-wishes o) .shorter
 
 -- Changed or not, a narrowed packet stays as it is under the same wishes.
-pub narrowed-stays : (o : Options) (p : Bytes) → narrowedPacket o (narrowedPacket o p) ≡ narrowedPacket o p
+pub narrowed-stays : (M : Modes) (o : Options) (p : Bytes) → narrowedPacket M o (narrowedPacket M o p) ≡ narrowedPacket M o p
 unfolding narrowedPacket
-narrowed-stays o p = packet-narrows (same-wishes o) .twice p
+narrowed-stays M o p = packet-narrows M (same-wishes o) .twice p
 
 -- ---- by more wishes and then by fewer is by the fewer
 
-pub narrowed-by-fewer : (o₁ o₂ : Options) → Fewer o₁ o₂ → (p : Bytes) → narrowedPacket o₁ (narrowedPacket o₂ p) ≡ narrowedPacket o₁ p
+pub narrowed-by-fewer : (M : Modes) (o₁ o₂ : Options) → Fewer o₁ o₂ → (p : Bytes) → narrowedPacket M o₁ (narrowedPacket M o₂ p) ≡ narrowedPacket M o₁ p
 unfolding narrowedPacket
-narrowed-by-fewer o₁ o₂ f p = packet-narrows f .twice p
+narrowed-by-fewer M o₁ o₂ f p = packet-narrows M f .twice p

@@ -1,7 +1,7 @@
 -- Bytes, and the numbers that several of them make: big-endian, the upper byte first.
 use Prim.Native.Nat.{ℕ, _+_, _*_, _/_, _%_}
 use mathlib.Core.List.{List, [], _∷_, _++_}
-use lib.ListN.{getD}
+use lib.ListN.{getD, set}
 
 abbrev pub Bytes : Type 0
 Bytes = List ℕ
@@ -26,3 +26,7 @@ put16 n = n / 256 % 256 ∷ n % 256 ∷ []
 unfoldable pub put32 : ℕ → Bytes
 unfolding put16
 put32 n = put16 (n / 65536) ++ put16 (n % 65536)
+
+-- Bytes with the number n of sixteen bits at an offset.
+unfoldable pub with16 : ℕ → ℕ → Bytes → Bytes
+with16 at n s = set (set s at (n / 256 % 256)) (at + 1) (n % 256)

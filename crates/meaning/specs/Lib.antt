@@ -1,5 +1,6 @@
 -- Every definition that a reader must believe, one file a subject, in the order in which to read them.
 pub mod Bytes
+pub mod Checksums
 pub mod Writing
 pub mod Sets
 pub mod Lists
@@ -8,6 +9,7 @@ pub mod Packets
 pub mod Mmtp
 pub mod Messages
 pub mod Tables
+pub mod Ip
 pub mod Wishes
 pub mod Narrow
 pub mod Rooms

@@ -1,14 +1,15 @@
 -- Narrowing: tables, payloads and packets with what is not wanted left out. 01, "Narrowing".
 use Prim.Native.Nat.{ℕ, _-_}
-use mathlib.Core.Bool.{Bool, cond, true, false, _&&_, not}
+use mathlib.Core.Bool.{Bool, cond, true, false, _&&_, _||_, not}
 use mathlib.Core.List.{List, [], _∷_, _++_, map, flatten}
 use mathlib.Core.Option.{Option, none, some, Option·map, Option·getD}
-use lib.ListN.{length, take, drop}
+use lib.ListN.{length, take, drop, getD}
 use lib.Dec.{eqb, leb, ltb}
 use Rattle.meaning.specs.Bytes.{Bytes, put16, put32}
 use Rattle.meaning.specs.Lists.{keep, all, any, count, isSome}
 use Rattle.meaning.specs.Readers.{Out, Walk}
 use Rattle.meaning.specs.Mmtp.{Mmtp, mmtpOf, isSignalling}
+use Rattle.meaning.specs.Ip.{plainIp, afresh}
 use Rattle.meaning.specs.Messages.{indicator, aggregated, Message, message}
 use Rattle.meaning.specs.Tables.{Entry, Mpt, mpt, Package, plt, serviceOf, Table, table, isMpt, isPlt, PaHead, pa}
 use Rattle.meaning.specs.Wishes.{wanted, wantedEntry}
@@ -17,6 +18,7 @@ use Rattle.meaning.specs.declared.Part.the-variants.{Caption, Carousel, 
 use Rattle.meaning.specs.declared.Service.{Service}
 use Rattle.meaning.specs.declared.Service.the-variants.{Every, Only}
 use Rattle.meaning.specs.declared.Options.{Options}
+use Rattle.meaning.specs.declared.Modes.{Modes}
 
 -- ---- an MPT without what is not wanted: the rest stays in order, the count follows
 
@@ -145,28 +147,33 @@ narrowPayload o p s = payloadFor o p s (paMessage s)
 
 -- ---- a packet: of its first four bytes only the type is read, and the length follows
 
--- The packet with another payload.
+-- Whether it may be rewritten: compressed IP by the type of its header, and in that mode plain IP. 02 [2].
+unfoldable pub mayRewrite : Modes → Bytes → Mmtp → Bool
+unfolding plainIp
+mayRewrite M p m = m .rewritable || (M .«plain_ip» && plainIp (getD p 1 0) (drop 4 p))
+
+-- The packet with another payload: the lengths follow, and in plain IP the checksums.
 unfoldable pub packetBytes : Bytes → Mmtp → Bytes → Bytes
-unfolding put16
+unfolding put16 afresh
 packetBytes p m y =
     let rest = take (length p - length (m .payload) - 4) (drop 4 p) ++ y in
-    take 2 p ++ (put16 (length rest) ++ rest)
+    take 2 p ++ (put16 (length rest) ++ afresh (getD p 1 0) rest)
 
-abbrev pub packetFor : Options → Bytes → Option Mmtp → Option Bytes
-packetFor o p none = none
-packetFor o p (some m) =
-    cond (isSignalling m && m .rewritable)
+abbrev pub packetFor : Modes → Options → Bytes → Option Mmtp → Option Bytes
+packetFor M o p none = none
+packetFor M o p (some m) =
+    cond (isSignalling m && mayRewrite M p m)
     (Option·map (packetBytes p m) (narrowPayload o (m .identifier) (m .payload)))
     none
 
-unfoldable pub narrowPacket : Options → Bytes → Option Bytes
-unfolding mmtpOf narrowPayload packetBytes
-narrowPacket o p = packetFor o p (mmtpOf p)
+unfoldable pub narrowPacket : Modes → Options → Bytes → Option Bytes
+unfolding mmtpOf mayRewrite narrowPayload packetBytes
+narrowPacket M o p = packetFor M o p (mmtpOf p)
 
 -- Unchanged, the narrowed packet is the packet itself.
-unfoldable pub narrowedPacket : Options → Bytes → Bytes
+unfoldable pub narrowedPacket : Modes → Options → Bytes → Bytes
 unfolding narrowPacket
-narrowedPacket o p = Option·getD (narrowPacket o p) p
+narrowedPacket M o p = Option·getD (narrowPacket M o p) p
 
 -- ---- how many entries stayed and how many went: captions, carousels, others, over the readable MPTs
 
@@ -239,9 +246,9 @@ unfoldable pub changePayload : Options → ℕ → Bytes → Option Change
 unfolding narrowPayload paMessage pa tablesParts stayed went
 changePayload o p s = Option·map (changeOf o (partsOfMessage (paMessage s))) (narrowPayload o p s)
 
-unfoldable pub changePacket : Options → Bytes → Option Change
+unfoldable pub changePacket : Modes → Options → Bytes → Option Change
 unfolding narrowPacket mmtpOf paMessage pa tablesParts stayed went
-changePacket o p = Option·map (changeOf o (partsOfPacket (mmtpOf p))) (narrowPacket o p)
+changePacket M o p = Option·map (changeOf o (partsOfPacket (mmtpOf p))) (narrowPacket M o p)
 
 -- ---- refused by the lengths of the input and of the output
 

@@ -7,12 +7,13 @@ use lib.ListN.{length, take, drop, getD, replicate}
 use lib.Dec.{eqb, ltb}
 use Rattle.meaning.specs.Bytes.{Bytes, be16At}
 use Rattle.meaning.specs.Readers.{Reader, walk}
-use Rattle.meaning.specs.Wishes.{wantsAssets}
+use Rattle.meaning.specs.Wishes.{wantsAssets, allOff}
 use Rattle.meaning.specs.Start.{fresh}
 use Rattle.meaning.specs.Series.{Lent, Series, series}
 use Rattle.meaning.specs.declared.Service.{Service}
 use Rattle.meaning.specs.declared.Service.the-variants.{Every, Only}
 use Rattle.meaning.specs.declared.Options.{Options}
+use Rattle.meaning.specs.declared.Modes.{Modes}
 use Rattle.meaning.specs.declared.Limits.{Limits}
 use Rattle.meaning.specs.declared.Counts.{Counts}
 
@@ -63,19 +64,19 @@ abbrev pub programLent : Bytes → Lent
 programLent c = (c, 65536)
 
 -- The calls of a program: a start with a map room of zeros, then chunk after chunk.
-unfoldable pub programCalls : Options → List Bytes → Series
+unfoldable pub programCalls : Modes → Options → List Bytes → Series
 unfolding series programLimits fresh
-programCalls o cs = series programLimits o (fresh (replicate 32768 0)) (map programLent cs)
+programCalls M o cs = series programLimits M o (fresh (replicate 32768 0)) (map programLent cs)
 
 -- What a program can read: each chunk has 1 to 32,768 bytes.
 abbrev pub Chunks : List Bytes → Type 0
 Chunks [] = Unit {0}
 Chunks (c ∷ cs) = (1 ≤ length c) × (length c ≤ 32768) × Chunks cs
 
--- The stream begins behind the service. What this says of an input that is refused is never written.
+-- The stream begins behind the service; no flag turns a mode on. What this says of an input that is refused is never written.
 unfoldable pub sumsOf : Bytes → Series
 unfolding programCalls inputOptions walk chunk
-sumsOf s = programCalls (inputOptions s) (walk chunk (drop 3 s) .found)
+sumsOf s = programCalls allOff (inputOptions s) (walk chunk (drop 3 s) .found)
 
 -- ---- text
 

@@ -18,6 +18,7 @@ use Rattle.meaning.specs.Record.{State, Record, recordOf, stateOf}
 use Rattle.meaning.specs.Soundness.{sound}
 use Rattle.meaning.specs.Calls.{countsOf, Called}
 use Rattle.meaning.specs.declared.Options.{Options}
+use Rattle.meaning.specs.declared.Modes.{Modes}
 use Rattle.meaning.specs.declared.Limits.{Limits}
 use Rattle.meaning.specs.declared.Counts.{Counts}
 
@@ -49,12 +50,12 @@ passOne false y p lost r = record {
   known = r .known;
 }
 
-unfoldable pub pass : Limits → Options → Known → List Bytes → Passed
+unfoldable pub pass : Limits → Modes → Options → Known → List Bytes → Passed
 unfolding learn drops ready mmtpOf narrowPacket
-pass L o k [] = none-passed k
-pass L o k (p ∷ ps) =
+pass L M o k [] = none-passed k
+pass L M o k (p ∷ ps) =
     let l = learn L k p in
-    passOne (withheld o (l .known) (mmtpOf p)) (narrowPacket o p) p (l .lost) (pass L o (l .known) ps)
+    passOne (withheld o (l .known) (mmtpOf p)) (narrowPacket M o p) p (l .lost) (pass L M o (l .known) ps)
 
 -- ---- a push
 
@@ -82,15 +83,15 @@ outcome c r = record {
 }
 
 -- Held bytes and chunk are read as one run.
-unfoldable pub filtered : Limits → Options → State → Bytes → Outcome
+unfoldable pub filtered : Limits → Modes → Options → State → Bytes → Outcome
 unfolding cut packetLimit pass flatten
-filtered L o st chunk =
+filtered L M o st chunk =
     let c = cut (packetLimit (L .work)) (st .held ++ chunk) in
-    outcome c (pass L o (st .known) (c .packets))
+    outcome c (pass L M o (st .known) (c .packets))
 
-unfoldable pub push : Limits → Options → State → Bytes → Outcome
+unfoldable pub push : Limits → Modes → Options → State → Bytes → Outcome
 unfolding copiesAll filtered
-push L o st chunk = cond (copiesAll o) (copied st chunk) (filtered L o st chunk)
+push L M o st chunk = cond (copiesAll o) (copied st chunk) (filtered L M o st chunk)
 
 -- ---- refusals of a push: the record with the lengths of the rooms, the chunk's length and the output's
 
@@ -109,7 +110,7 @@ unfoldable pub called : Record → Bytes → Bytes → List ℕ → Bytes → �
 unfolding pushRefusal stateOf recordOf push
 called r work bodies map-room chunk out-length =
     let x = pushRefusal r (length work) (length bodies) (length map-room) (length chunk) out-length in
-    let p = push (r .limits) (r .options) (stateOf r work bodies map-room) chunk in
+    let p = push (r .limits) (r .modes) (r .options) (stateOf r work bodies map-room) chunk in
     cond (eqb x 0)
-    (record { number = 0; out = p .out; counts = p .counts; handed = recordOf (r .limits) (r .options) (p .state) })
+    (record { number = 0; out = p .out; counts = p .counts; handed = recordOf (r .limits) (r .modes) (r .options) (p .state) })
     (record { number = x; out = []; counts = countsOf 0; handed = r })

@@ -7,6 +7,7 @@ use Rattle.meaning.specs.Bytes.{Bytes}
 use Rattle.meaning.specs.Sets.{Words}
 use Rattle.meaning.specs.Learn.{Fragment, Known}
 use Rattle.meaning.specs.declared.Options.{Options}
+use Rattle.meaning.specs.declared.Modes.{Modes}
 use Rattle.meaning.specs.declared.Limits.{Limits}
 
 -- What a recorder has between two calls: the bytes held, and what is known.
@@ -22,6 +23,7 @@ slots n xs = xs ++ replicate (n - length xs) 0
 
 pub record Record : Type 0 where
   pub limits : Limits
+  pub modes : Modes
   pub options : Options
   pub held-count : ℕ
   pub plt-seen : Bool
@@ -56,10 +58,11 @@ unfoldable pub fragmentLength : ℕ → ℕ
 fragmentLength h = h % 1099511627776
 
 -- The record that holds a state.
-unfoldable pub recordOf : Limits → Options → State → Record
+unfoldable pub recordOf : Limits → Modes → Options → State → Record
 unfolding slots packPair fragmentHead
-recordOf L o st = record {
+recordOf L M o st = record {
   limits = L;
+  modes = M;
   options = o;
   held-count = length (st .held);
   plt-seen = st .known .plt-seen;

@@ -3,7 +3,7 @@
 -- RecountLaws, LostLaws).
 use Prim.Native.Nat.{ℕ, zero, suc, _+_, _-_, _%_, _<_}
 use mathlib.Core.Path.{_≡_}
-use mathlib.Core.Bool.{cond, false, _&&_}
+use mathlib.Core.Bool.{cond, true, false, _&&_}
 use mathlib.Core.List.{List, [], _∷_, _++_, map, flatten, flatMap, filterMap, zipWith, List·Memᴰ, Sublistᴰ, Forall₂}
 use mathlib.Core.Option.{Option, none, some, Option·map}
 use lib.ListN.{getD, length, take, drop}
@@ -14,6 +14,8 @@ use Rattle.meaning.specs.Lists.{keep, any, count, isSome}
 use Rattle.meaning.specs.Readers.{Out, Reader, bytes, Walk, walk}
 use Rattle.meaning.specs.Packets.{sizeOf}
 use Rattle.meaning.specs.Mmtp.{Mmtp, mmtpOf, isSignalling}
+use Rattle.meaning.specs.Checksums.{onesSum, allOnes}
+use Rattle.meaning.specs.Ip.{headerLength, udpChecksum, plainIp, pseudo4, pseudo6, afresh}
 use Rattle.meaning.specs.Messages.{indicator, Message, messages}
 use Rattle.meaning.specs.Tables.{Mpt, mpt, Package, plt, serviceOf, Table, table, isMpt, isPlt, PaHead, pa}
 use Rattle.meaning.specs.Wishes.{wantedEntry}
@@ -25,6 +27,7 @@ use Rattle.meaning.specs.declared.Part.{Part}
 use Rattle.meaning.specs.declared.Service.{Service}
 use Rattle.meaning.specs.declared.Service.the-variants.{Every, Only}
 use Rattle.meaning.specs.declared.Options.{Options}
+use Rattle.meaning.specs.declared.Modes.{Modes}
 
 -- ---- packets one after the other
 
@@ -164,25 +167,38 @@ pub record PayloadRecounted (o : Options) (p : ℕ) (s y : Bytes) (stays goes : 
   pub heads-past : drop (length (after .found)) (head-after .entries) ≡ drop (length (after .found)) (head-before .entries)
   pub recounted : Recounted o p (before .found) (after .found) stays goes
 
+-- A TLV payload of plain IP, as it was and as it became: what a receiver tests.
+pub record PlainRecounted (type : ℕ) (s t : Bytes) : Type 0 where
+  -- the lengths of IP and UDP are those of the payload and of what follows the IP header
+  pub lengths-agree : plainIp type t ≡ true
+  pub header-right : eqb type 0x01 ≡ true → onesSum (take (headerLength t) t) ≡ allOnes
+  -- in IPv4 there is a UDP checksum exactly if there was one
+  pub none-stays : eqb type 0x01 ≡ true → eqb (udpChecksum (headerLength t) t) 0 ≡ eqb (udpChecksum (headerLength s) s) 0
+  pub udp-right-4 : eqb type 0x01 ≡ true → eqb (udpChecksum (headerLength t) t) 0 ≡ false
+      → onesSum (pseudo4 (headerLength t) t ++ drop (headerLength t) t) ≡ allOnes
+  pub udp-right-6 : eqb type 0x02 ≡ true → onesSum (pseudo6 t ++ drop 40 t) ≡ allOnes
+
 pub record PacketRecounted (o : Options) (p : Bytes) (c : Change) : Type 0 where
   pub before : Mmtp
   pub reads-before : mmtpOf p ≡ some before
   pub after : Mmtp
   pub reads-after : mmtpOf (c .out) ≡ some after
   pub identifier-stays : after .identifier ≡ before .identifier
-  -- the first byte and the type stay; then a length of two bytes, and as many bytes as that says: those before the payload, which stay, and the payload
+  -- the first byte and the type stay; then a length of two bytes, and as many bytes as that says: those before the payload, and the payload
   pub front-stays : take 2 (c .out) ≡ take 2 p
   pub length-fits : be16At (c .out) 2 ≡ length (drop 4 (c .out))
-  pub laid-out : drop 4 (c .out) ≡ take (length p - length (before .payload) - 4) (drop 4 p) ++ after .payload
+  -- those before stay, but for the lengths and checksums of plain IP, which are right
+  pub laid-out : drop 4 (c .out) ≡ afresh (getD p 1 0) (take (length p - length (before .payload) - 4) (drop 4 p) ++ after .payload)
+  pub plain-right : before .rewritable ≡ false → PlainRecounted (getD p 1 0) (drop 4 p) (drop 4 (c .out))
   pub recounted : PayloadRecounted o (before .identifier) (before .payload) (after .payload) (c .stays) (c .goes)
 
 -- ---- the packets of a run, those written of them, and how many of these were rewritten
 
-pub record Written (o : Options) (packets out : List Bytes) (rewritten : ℕ) : Type 0 where
+pub record Written (M : Modes) (o : Options) (packets out : List Bytes) (rewritten : ℕ) : Type 0 where
   pub from : List Bytes
   pub some-of : Sublistᴰ from packets
-  pub narrowed : out ≡ map (narrowedPacket o) from
-  pub rewritten-are : rewritten ≡ count (λ p. isSome (narrowPacket o p)) from
+  pub narrowed : out ≡ map (narrowedPacket M o) from
+  pub rewritten-are : rewritten ≡ count (λ p. isSome (narrowPacket M o p)) from
 
 -- ---- MPTs that are learned from: each is kept, or counted as lost
 

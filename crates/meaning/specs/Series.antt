@@ -11,6 +11,7 @@ use Rattle.meaning.specs.Calls.{countsOf}
 use Rattle.meaning.specs.Push.{Outcome, push, lengthRefusal}
 use Rattle.meaning.specs.Tally.{addCounts}
 use Rattle.meaning.specs.declared.Options.{Options}
+use Rattle.meaning.specs.declared.Modes.{Modes}
 use Rattle.meaning.specs.declared.Limits.{Limits}
 use Rattle.meaning.specs.declared.Counts.{Counts}
 
@@ -31,9 +32,9 @@ pub record Series : Type 0 where
 abbrev pub seriesOn : Outcome → Series → Series
 seriesOn p r = record { out = p .out ++ r .out; counts = addCounts (p .counts) (r .counts); state = r .state }
 
-unfoldable pub series : Limits → Options → State → List Lent → Series
+unfoldable pub series : Limits → Modes → Options → State → List Lent → Series
 unfolding callRefusal push
-series L o st [] = record { out = []; counts = countsOf 0; state = st }
-series L o st (c ∷ cs) =
-    let p = push L o st (c .0) in
-    cond (eqb (callRefusal L st c) 0) (seriesOn p (series L o (p .state) cs)) (series L o st cs)
+series L M o st [] = record { out = []; counts = countsOf 0; state = st }
+series L M o st (c ∷ cs) =
+    let p = push L M o st (c .0) in
+    cond (eqb (callRefusal L st c) 0) (seriesOn p (series L M o (p .state) cs)) (series L M o st cs)

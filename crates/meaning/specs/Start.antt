@@ -5,12 +5,13 @@ use mathlib.Core.List.{List, []}
 use lib.ListN.{length, replicate}
 use lib.Dec.{eqb}
 use Rattle.meaning.specs.Sets.{Words}
-use Rattle.meaning.specs.Wishes.{wantsAssets}
+use Rattle.meaning.specs.Wishes.{wantsAssets, allOff}
 use Rattle.meaning.specs.Rooms.{goodWorkRoom, goodFragmentRoom, goodMapRoom}
 use Rattle.meaning.specs.Record.{State, Record, recordOf}
 use Rattle.meaning.specs.Calls.{countsOf, Called}
 use Rattle.meaning.specs.declared.Service.the-variants.{Every}
 use Rattle.meaning.specs.declared.Options.{Options}
+use Rattle.meaning.specs.declared.Modes.{Modes}
 use Rattle.meaning.specs.declared.Limits.{Limits}
 
 unfoldable pub noWords : Words
@@ -33,6 +34,7 @@ unfoldable pub blank : Record
 unfolding noWords
 blank = record {
   limits = record { work = 0; total = 0; most = 0 };
+  modes = allOff;
   options = record { service = Every; caption = false; carousel = false; eit = false; other = false };
   held-count = 0;
   plt-seen = false;
@@ -46,8 +48,8 @@ blank = record {
 }
 
 -- A start reads the lengths of the rooms.
-unfoldable pub started : Limits → Options → List ℕ → Called
+unfoldable pub started : Limits → Modes → Options → List ℕ → Called
 unfolding startRefusal recordOf fresh blank
-started L o map-room =
+started L M o map-room =
     let x = startRefusal (L .work) (L .total) (L .most) (length map-room) o in
-    record { number = x; out = []; counts = countsOf 0; handed = cond (eqb x 0) (recordOf L o (fresh map-room)) blank }
+    record { number = x; out = []; counts = countsOf 0; handed = cond (eqb x 0) (recordOf L M o (fresh map-room)) blank }

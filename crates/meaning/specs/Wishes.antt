@@ -1,4 +1,4 @@
--- What a recording wants: a service or each, and four wishes. 01, "Keep, drop, ready"; for copy-all "Finding packets".
+-- What a recording wants: a service or each, and four wishes; and the modes, all off. 01, "Keep, drop, ready"; for copy-all "Finding packets".
 use Prim.Native.Nat.{ℕ}
 use mathlib.Core.Bool.{Bool, true, false, _&&_, _||_}
 use lib.Dec.{eqb}
@@ -8,6 +8,7 @@ use Rattle.meaning.specs.declared.Part.the-variants.{Caption, Carousel, 
 use Rattle.meaning.specs.declared.Service.{Service}
 use Rattle.meaning.specs.declared.Service.the-variants.{Every, Only}
 use Rattle.meaning.specs.declared.Options.{Options}
+use Rattle.meaning.specs.declared.Modes.{Modes}
 
 abbrev pub wanted : Options → Part → Bool
 wanted o Caption = o .caption
@@ -37,3 +38,7 @@ captionsOnly s = record { service = s; caption = true; carousel = false; eit = f
 -- Copy-all: no service, all four wishes on.
 unfoldable pub copiesAll : Options → Bool
 copiesAll o = everyService (o .service) && o .caption && o .carousel && o .eit && o .other
+
+-- The filter of 01. 02 [2].
+abbrev pub allOff : Modes
+allOff = record { «plain_ip» = false }

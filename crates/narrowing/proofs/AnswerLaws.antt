@@ -19,6 +19,7 @@ use Rattle.meaning.specs.Refusals.{narrowingNumber, narrowingChanged, narrowing
 use Rattle.meaning.specs.declared.Narrowing.{Narrowing}
 use Rattle.meaning.specs.declared.Part.{Part}
 use Rattle.meaning.specs.declared.Options.{Options}
+use Rattle.meaning.specs.declared.Modes.{Modes}
 use Rattle.meaning.proofs.ListLaws.{clash}
 use Rattle.meaning.proofs.Writes.{wrote-none, wrote-one}
 use Rattle.meaning.proofs.AnswerLaws.{narrowing-told, none-made, all-made}
@@ -170,32 +171,22 @@ module _ (o : Options) (p : ℕ) (s : Bytes) where
 
 -- ---- a packet
 
-and-off : (a b : Bool) → b ≡ false → (a && b) ≡ false
-and-off true b e = e
-and-off false b e = refl
-
-pub unread-stays : (o : Options) (p : Bytes) → mmtpOf p ≡ none → changePacket o p ≡ none
+pub unread-stays : (M : Modes) (o : Options) (p : Bytes) → mmtpOf p ≡ none → changePacket M o p ≡ none
 unfolding changePacket narrowPacket
-unread-stays o p e = rw e
+unread-stays M o p e = rw e
 
-module _ (o : Options) (p : Bytes) (q k : ℕ) (w : Bool) (h : MmtpIs (mmtpOf p) p (read.Mmtp.Read q k w)) where
-  -- by its payload type and whether it is rewritable
-  abbrev changeBy : ℕ → Bool → Option meant.Change
-  changeBy j v =
-      Option·map (changeOf o (partsOfMessage (paMessage (h .0)))) (packetFor o p (some (record { identifier = q; payload-type = j; rewritable = v; payload = h .0 })))
+module _ (M : Modes) (o : Options) (p : Bytes) (q k : ℕ) (w : Bool) (h : MmtpIs (mmtpOf p) p (read.Mmtp.Read q k w)) where
+  -- by its payload type
+  abbrev changeBy : ℕ → Option meant.Change
+  changeBy j =
+      Option·map (changeOf o (partsOfMessage (paMessage (h .0)))) (packetFor M o p (some (record { identifier = q; payload-type = j; rewritable = w; payload = h .0 })))
 
-  packet-is : changePacket o p ≡ changeBy k w
+  packet-is : changePacket M o p ≡ changeBy k
   unfolding changePacket narrowPacket
-  packet-is = ap (λ (m : Option Mmtp). Option·map (changeOf o (partsOfPacket m)) (packetFor o p m)) (h .2)
+  packet-is = ap (λ (m : Option Mmtp). Option·map (changeOf o (partsOfPacket m)) (packetFor M o p m)) (h .2)
 
-  packet-off : (eqb k 2 && w) ≡ false → changePacket o p ≡ none
-  packet-off e = packet-is ∙ rw e
-
-  pub other-payload-type : (k ≡ 2 → ⊥) → changePacket o p ≡ none
-  other-payload-type n = packet-off (ap (λ (a : Bool). a && w) (ne-eqb k 2 n))
-
-  pub not-rewritable : w ≡ false → changePacket o p ≡ none
-  not-rewritable e = packet-off (and-off (eqb k 2) w e)
+  pub other-payload-type : (k ≡ 2 → ⊥) → changePacket M o p ≡ none
+  other-payload-type n = packet-is ∙ rw (ne-eqb k 2 n)
 
   -- the part that the reader hands back
   module _ (s : Bytes) (g : PartIs (Option·map (λ m. m .payload) (mmtpOf p)) 16 p s) where
@@ -205,12 +196,15 @@ module _ (o : Options) (p : Bytes) (q k : ℕ) (w : Bool) (h : MmtpIs (mmtpOf p)
     pub payload-short : 16 + length s ≤ length p
     payload-short = behind-short (part-is .1)
 
-    module _ (two : k ≡ 2) (on : w ≡ true) where
-      packet-on : changePacket o p ≡ Option·map (changeOf o (partsOfMessage (paMessage s))) (packetFor o p (some (signalOf q s)))
-      packet-on = packet-is ∙ ap₂ changeBy two on ∙ rw (part-is .0)
+    module _ (two : k ≡ 2) where
+      pub read-so : mmtpOf p ≡ some (signalOf q w s)
+      read-so = h .2 ∙ ap₂ (λ (j : ℕ) (y : Bytes). some (record { identifier = q; payload-type = j; rewritable = w; payload = y })) two (sym (part-is .0))
 
-      pub packet-stays : packetFor o p (some (signalOf q s)) ≡ none → changePacket o p ≡ none
+      packet-on : changePacket M o p ≡ Option·map (changeOf o (partsOfMessage (paMessage s))) (packetFor M o p (some (signalOf q w s)))
+      packet-on = packet-is ∙ ap changeBy two ∙ rw (part-is .0)
+
+      pub packet-stays : packetFor M o p (some (signalOf q w s)) ≡ none → changePacket M o p ≡ none
       packet-stays e = packet-on ∙ ap (Option·map (changeOf o (partsOfMessage (paMessage s)))) e
 
-      pub packet-changes : (y : Bytes) → packetFor o p (some (signalOf q s)) ≡ some y → changePacket o p ≡ some (changeOf o (partsOfMessage (paMessage s)) y)
+      pub packet-changes : (y : Bytes) → packetFor M o p (some (signalOf q w s)) ≡ some y → changePacket M o p ≡ some (changeOf o (partsOfMessage (paMessage s)) y)
       packet-changes y e = packet-on ∙ ap (Option·map (changeOf o (partsOfMessage (paMessage s)))) e

@@ -6,5 +6,6 @@ pub mod TableLaws
 pub mod CountLaws
 pub mod WalkLaws
 pub mod PayloadLaws
+pub mod FrameLaws
 pub mod FoundLaws
 pub mod AnswerLaws

@@ -12,6 +12,7 @@ use Rattle.meaning.specs.Writing.{Wrote}
 use Rattle.meaning.specs.Lists.{isSome}
 use Rattle.meaning.specs.Readers.{Out}
 use Rattle.meaning.specs.Mmtp.{Mmtp}
+use Rattle.meaning.specs.Ip.{headerLength}
 use Rattle.meaning.specs.Messages.{indicator, aggregated}
 use Rattle.meaning.specs.Tables.{Entry, paHead, kindNumber}
 use Rattle.meaning.specs.Wishes.{wanted}
@@ -60,9 +61,15 @@ startsPa s = leb 4 (length s) && (eqb (indicator (getD s 0 0)) 0 && (eqb (aggreg
 abbrev pub bodyAfter : Options → ℕ → Bytes → ℕ → List Bytes → Bytes
 bodyAfter o p b tables es = paBytes (record { count = getD b 0 0; entries = es }) (tablesAfter o p (drop tables b)) (tablesIn (drop tables b) .left)
 
--- What is read of a rewritable signalling packet with this identifier and this payload.
-abbrev pub signalOf : ℕ → Bytes → Mmtp
-signalOf pid payload = record { identifier = pid; payload-type = 2; rewritable = true; payload = payload }
+-- What is read of a signalling packet with this identifier, rewritable by its header or not, and this payload.
+abbrev pub signalOf : ℕ → Bool → Bytes → Mmtp
+signalOf pid w payload = record { identifier = pid; payload-type = 2; rewritable = w; payload = payload }
+
+-- What stands before the payload of a packet that may be rewritten: its head of four bytes, and in plain IP the headers, whose lengths fit.
+pub record Framed (p payload : Bytes) : Type 0 where
+  pub short : 4 + length payload ≤ length p
+  pub four : getD p 1 0 ≡ 0x01 → (20 ≤ headerLength (drop 4 p)) × (headerLength (drop 4 p) + 12 + length payload ≤ length p) × (length p ≤ 65539)
+  pub six : getD p 1 0 ≡ 0x02 → (52 + length payload ≤ length p) × (length p ≤ 65579)
 
 -- There is none where there is no such message, or its head does not read.
 abbrev pub NoPa : Bytes → Type 0

@@ -4,11 +4,14 @@ ghost use Prim.Native.Nat.{ℕ, _+_, _-_, _*_, _≤_, _<_};
 ghost use lib.ListN.{length, take, drop, getD};
 ghost use Rattle.meaning.specs.Bytes.{Bytes};
 ghost use Rattle.meaning.specs.Writing.{Wrote};
-ghost use Rattle.meaning.specs.Narrow.{payloadBytes, packetFor, paMessage, partsOfMessage, changeTable, changePayload, changePacket, narrowRefusal, noneOfEach};
+ghost use Rattle.meaning.specs.Mmtp.{mmtpOf};
+ghost use Rattle.meaning.specs.Ip.{plainIp};
+ghost use Rattle.meaning.specs.Narrow.{payloadBytes, narrowPayload, packetBytes, packetFor, paMessage, partsOfMessage, changeTable, changePayload, changePacket, narrowRefusal, noneOfEach};
 ghost use mathlib.Core.List.{List, [], _∷_};
-ghost use mathlib.Core.Option.{some};
+ghost use mathlib.Core.Bool.{Bool, _&&_, _||_};
+ghost use mathlib.Core.Option.{some, Option·map};
 ghost use Rattle.narrowing.specs.Tables.{KnownIs};
-ghost use Rattle.narrowing.specs.Answers.{startsPa, NarrowedAs, RefusedAs, isRefused, PaFound, PaIs, ChangedPaIs, RewroteAs, bodyAfter, signalOf, noRows, countedIn};
+ghost use Rattle.narrowing.specs.Answers.{startsPa, NarrowedAs, RefusedAs, isRefused, PaFound, PaIs, ChangedPaIs, RewroteAs, bodyAfter, signalOf, Framed, noRows, countedIn};
 use crate::counting::count_table;
 use crate::counting::count_tables;
 use crate::pa::TableChange;
@@ -17,6 +20,9 @@ use crate::pa::pa_to;
 use crate::table::change_of;
 use crate::table::changes;
 use crate::table::table_to;
+use ip::afresh;
+use ip::plain_ip;
+use meaning::Modes;
 use meaning::Narrowing;
 use meaning::Options;
 use meaning::Refusal;
@@ -194,8 +200,14 @@ fn payload_to(
     last
 }
 
-// A payload alone counts as a rewritable one of payload type 2.
-pub fn narrow_payload(payload: &[u8], pid: u16, o: Options, out: &mut [u8]) -> Narrowed
+// A payload alone counts as a rewritable one of payload type 2. No mode so far says anything of a payload.
+pub fn narrow_payload(
+    payload: &[u8],
+    pid: u16,
+    o: Options,
+    _modes: Modes,
+    out: &mut [u8],
+) -> Narrowed
     ensures { λ r. ⌜ NarrowedAs (narrowRefusal (length (now (payload .entry))) (length (now (out .entry)))) (changePayload o pid (now (payload .entry))) (now (out .entry)) (now (out .exit)) (r .narrowing) (r .stayed) (r .went) ⌝ }
 {
     let refused = refusal(payload.len(), out.len());
@@ -214,8 +226,8 @@ pub fn narrow_payload(payload: &[u8], pid: u16, o: Options, out: &mut [u8]) -> N
 
 // The packet `p`, whose payload is `payload`, narrowed, at `to` of the output.
 fn narrowed_to(p: &[u8], payload: &[u8], pid: u16, o: Options, out: &mut [u8], to: usize) -> End
-    requires { ⌜ (4 + length (now payload) ≤ length (now p)) × (to + length (now p) ≤ length (now out)) ⌝ }
-    ensures { λ r. ⌜ RewroteAs (packetFor o (now (p .entry)) (some (signalOf pid (now (payload .entry))))) (now (out .entry)) to (now (out .exit)) r ⌝ }
+    requires { ⌜ Framed (now p) (now payload) × (to + length (now p) ≤ length (now out)) ⌝ }
+    ensures { λ r. ⌜ ((w : Bool) → RewroteAs (Option·map (packetBytes (now (p .entry)) (signalOf pid w (now (payload .entry)))) (narrowPayload o pid (now (payload .entry)))) (now (out .entry)) to (now (out .exit)) r) ⌝ }
 {
     let ChangedPa::Found { end, tables, known } = changed_pa(payload, pid, o) else {
         return End::Nothing;
@@ -224,15 +236,42 @@ fn narrowed_to(p: &[u8], payload: &[u8], pid: u16, o: Options, out: &mut [u8], t
     let c = copy(&p[0..front], out, to);
     let last = payload_to(payload, end, tables, pid, o, known, out, c);
     put16(out, to + 2, last - to - 4);
+    afresh(p[1], out, to + 4, last);
     End::At(last)
 }
 
-// The same. A packet with no PA message costs no more than the test.
-pub fn rewrite(p: &[u8], payload: &[u8], pid: u16, o: Options, out: &mut [u8], to: usize) -> End
-    requires { ⌜ (4 + length (now payload) ≤ length (now p)) × (to + length (now p) ≤ length (now out)) ⌝ }
-    ensures { λ r. ⌜ RewroteAs (packetFor o (now (p .entry)) (some (signalOf pid (now (payload .entry))))) (now (out .entry)) to (now (out .exit)) r ⌝ }
+// Whether a packet may be rewritten: by its header, or in that mode as plain IP.
+fn may_rewrite(p: &[u8], rewritable: bool, modes: Modes) -> bool
+    requires { ⌜ 4 ≤ length (now p) ⌝ }
+    ensures { λ r. ⌜ r ≡ (rewritable || (modes .«plain_ip» && plainIp (getD (now (p .entry)) 1 0) (drop 4 (now (p .entry))))) ⌝ }
+{
+    if rewritable {
+        return true;
+    }
+    if !modes.plain_ip {
+        return false;
+    }
+    plain_ip(p[1], &p[4..])
+}
+
+// A signalling packet that was read so, narrowed, at `to` of the output. One with no PA message costs no more than the first test.
+pub fn rewrite(
+    p: &[u8],
+    payload: &[u8],
+    pid: u16,
+    rewritable: bool,
+    o: Options,
+    modes: Modes,
+    out: &mut [u8],
+    to: usize,
+) -> End
+    requires { ⌜ (mmtpOf (now p) ≡ some (signalOf pid rewritable (now payload))) × (to + length (now p) ≤ length (now out)) ⌝ }
+    ensures { λ r. ⌜ RewroteAs (packetFor modes o (now (p .entry)) (some (signalOf pid rewritable (now (payload .entry))))) (now (out .entry)) to (now (out .exit)) r ⌝ }
 {
     if !starts_pa(payload) {
+        return End::Nothing;
+    }
+    if !may_rewrite(p, rewritable, modes) {
         return End::Nothing;
     }
     narrowed_to(p, payload, pid, o, out, to)
@@ -250,8 +289,8 @@ fn count_payload(payload: &[u8], o: Options) -> [[u64; 3]; 2]
 }
 
 // Of a packet's first four bytes only the type is read.
-pub fn narrow_packet(p: &[u8], o: Options, out: &mut [u8]) -> Narrowed
-    ensures { λ r. ⌜ NarrowedAs (narrowRefusal (length (now (p .entry))) (length (now (out .entry)))) (changePacket o (now (p .entry))) (now (out .entry)) (now (out .exit)) (r .narrowing) (r .stayed) (r .went) ⌝ }
+pub fn narrow_packet(p: &[u8], o: Options, modes: Modes, out: &mut [u8]) -> Narrowed
+    ensures { λ r. ⌜ NarrowedAs (narrowRefusal (length (now (p .entry))) (length (now (out .entry)))) (changePacket modes o (now (p .entry))) (now (out .entry)) (now (out .exit)) (r .narrowing) (r .stayed) (r .went) ⌝ }
 {
     let refused = refusal(p.len(), out.len());
     if is_refused(refused) {
@@ -268,11 +307,8 @@ pub fn narrow_packet(p: &[u8], o: Options, out: &mut [u8]) -> Narrowed
     if payload_type != 2 {
         return without_counts(Narrowing::Unchanged);
     }
-    if !rewritable {
-        return without_counts(Narrowing::Unchanged);
-    }
     let payload = packet_payload(p);
-    let End::At(n) = narrowed_to(p, payload, identifier, o, out, 0) else {
+    let End::At(n) = rewrite(p, payload, identifier, rewritable, o, modes, out, 0) else {
         return without_counts(Narrowing::Unchanged);
     };
     answer_of(Narrowing::Changed(n), count_payload(payload, o))

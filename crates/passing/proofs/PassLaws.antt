@@ -17,6 +17,7 @@ use Rattle.meaning.specs.Rules.{drops, ready}
 use Rattle.meaning.specs.Push.{Passed, passOne, pass, withheld}
 use Rattle.meaning.specs.declared.Limits.{Limits}
 use Rattle.meaning.specs.declared.Options.{Options}
+use Rattle.meaning.specs.declared.Modes.{Modes}
 use Rattle.meaning.specs.declared.Counts.{Counts}
 use Rattle.meaning.proofs.Writes.{wrote-then}
 use Rattle.observing.specs.Observed.{Holding}
@@ -46,19 +47,19 @@ one-chained false y p n a b =
     let l : n + (a .lost + b .lost) ≡ n + a .lost + b .lost = omega arith in
     λ i. record { out = x .out ++ b .out; rewritten = r i; lost = l i; known = b .known }
 
-module _ (L : Limits) (o : Options) where
-  pub pass-append : (k : Known) (ps qs : List Bytes) → pass L o k (ps ++ qs) ≡ chained (pass L o k ps) (pass L o (pass L o k ps .known) qs)
+module _ (L : Limits) (M : Modes) (o : Options) where
+  pub pass-append : (k : Known) (ps qs : List Bytes) → pass L M o k (ps ++ qs) ≡ chained (pass L M o k ps) (pass L M o (pass L M o k ps .known) qs)
   unfolding pass
-  pass-append k [] qs = chained-none k (pass L o k qs)
+  pass-append k [] qs = chained-none k (pass L M o k qs)
   pass-append k (p ∷ ps) qs =
       let l = learn L k p in
       let w = withheld o (l .known) (mmtpOf p) in
-      let rest = pass L o (l .known) ps in
-      ap (passOne w (narrowPacket o p) p (l .lost)) (pass-append (l .known) ps qs)
-      ∙ one-chained w (narrowPacket o p) p (l .lost) rest (pass L o (rest .known) qs)
-      ∙ ap (λ (x : Known). chained (passOne w (narrowPacket o p) p (l .lost) rest) (pass L o x qs)) (same w rest)
+      let rest = pass L M o (l .known) ps in
+      ap (passOne w (narrowPacket M o p) p (l .lost)) (pass-append (l .known) ps qs)
+      ∙ one-chained w (narrowPacket M o p) p (l .lost) rest (pass L M o (rest .known) qs)
+      ∙ ap (λ (x : Known). chained (passOne w (narrowPacket M o p) p (l .lost) rest) (pass L M o x qs)) (same w rest)
     where
-      same : (w : Bool) (x : Passed) → x .known ≡ passOne w (narrowPacket o p) p (learn L k p .lost) x .known
+      same : (w : Bool) (x : Passed) → x .known ≡ passOne w (narrowPacket M o p) p (learn L k p .lost) x .known
       same true x = refl
       same false x = refl
 
@@ -80,25 +81,25 @@ countsAfter c bytes x accepted skipped = record {
   lost = c .lost;
 }
 
-module _ (L : Limits) (o : Options) (k : Known) (d : Bytes) (ps qs : List Bytes) (n m : ℕ) (s r : Progress) where
+module _ (L : Limits) (M : Modes) (o : Options) (k : Known) (d : Bytes) (ps qs : List Bytes) (n m : ℕ) (s r : Progress) where
   abbrev before : Passed
-  before = pass L o k ps
+  before = pass L M o k ps
 
   abbrev next : Passed
-  next = pass L o (before .known) qs
+  next = pass L M o (before .known) qs
 
   pub further : (data-set packages map-heads map-room fragment-heads : List ℕ) (bodies : Bytes) (set : Words) (out : Bytes)
       (data-set′ packages′ map-heads′ map-room′ fragment-heads′ : List ℕ) (bodies′ : Bytes) (set′ : Words) (out′ : Bytes)
-      → Sofar L o k d ps n s data-set packages map-heads map-room fragment-heads bodies set out
+      → Sofar L M o k d ps n s data-set packages map-heads map-room fragment-heads bodies set out
       → Holding (L .total) (next .known) (r .extent) data-set′ packages′ map-heads′ map-room′ fragment-heads′ bodies′
       → SetIs (drops o (next .known)) set′
       → r .ready ≡ ready (o .service) (next .known)
       → r .extent .lost ≡ s .extent .lost + next .lost
       → r .counts ≡ countsAfter (s .counts) (r .counts .bytes) next (length qs) m
       → Wrote (flatten (next .out)) out (s .counts .bytes) out′ (r .counts .bytes)
-      → Sofar L o k d (ps ++ qs) (n + m) r data-set′ packages′ map-heads′ map-room′ fragment-heads′ bodies′ set′ out′
+      → Sofar L M o k d (ps ++ qs) (n + m) r data-set′ packages′ map-heads′ map-room′ fragment-heads′ bodies′ set′ out′
   further data-set packages map-heads map-room fragment-heads bodies set out data-set′ packages′ map-heads′ map-room′ fragment-heads′ bodies′ set′ out′ f h t y l c w =
-      let e : pass L o k (ps ++ qs) ≡ chained before next = pass-append L o k ps qs in
+      let e : pass L M o k (ps ++ qs) ≡ chained before next = pass-append L M o k ps qs in
       let old = f .counts-are in
       let b : r .counts .bytes ≡ length (flatten (before .out ++ next .out)) =
       w .end ∙ ap (λ (z : Counts). z .bytes + length (flatten (next .out))) old

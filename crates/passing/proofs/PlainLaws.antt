@@ -17,6 +17,7 @@ use Rattle.meaning.specs.Rules.{drops, ready}
 use Rattle.meaning.specs.Push.{passOne, pass, withheld}
 use Rattle.meaning.specs.declared.Limits.{Limits}
 use Rattle.meaning.specs.declared.Options.{Options}
+use Rattle.meaning.specs.declared.Modes.{Modes}
 use Rattle.meaning.proofs.TableLaws.{u16-below}
 use Rattle.meaning.proofs.Framed.{before}
 use Rattle.rules.specs.Changes.{SetIs}
@@ -83,26 +84,26 @@ learn-nothing : (L : Limits) (k : Known) (x : Option Mmtp) → signals x ≡ fal
 learn-nothing L k none e = refl
 learn-nothing L k (some m) e = rw e
 
-narrow-nothing : (o : Options) (p : Bytes) (x : Option Mmtp) → signals x ≡ false → packetFor o p x ≡ none
-narrow-nothing o p none e = refl
-narrow-nothing o p (some m) e = rw e
+narrow-nothing : (M : Modes) (o : Options) (p : Bytes) (x : Option Mmtp) → signals x ≡ false → packetFor M o p x ≡ none
+narrow-nothing M o p none e = refl
+narrow-nothing M o p (some m) e = rw e
 
-module _ (L : Limits) (o : Options) (k : Known) (p : Bytes) (ws : Words) (is : Bool) (t : SetIs (drops o k) ws) (y : is ≡ ready (o .service) k) where
-  one-plain : (stop : Bool) (ps : List Bytes) → Plain p ws is stop → pass L o k (p ∷ ps) ≡ passOne stop none p 0 (pass L o k ps)
+module _ (L : Limits) (M : Modes) (o : Options) (k : Known) (p : Bytes) (ws : Words) (is : Bool) (t : SetIs (drops o k) ws) (y : is ≡ ready (o .service) k) where
+  one-plain : (stop : Bool) (ps : List Bytes) → Plain p ws is stop → pass L M o k (p ∷ ps) ≡ passOne stop none p 0 (pass L M o k ps)
   unfolding pass learn narrowPacket
   one-plain stop ps h =
       let l : learn L k p ≡ learnt k = learn-nothing L k (mmtpOf p) (h .other) in
-      rw (l, plain-withheld o k p ws is t y h, narrow-nothing o p (mmtpOf p) (h .other))
+      rw (l, plain-withheld o k p ws is t y h, narrow-nothing M o p (mmtpOf p) (h .other))
 
   -- withheld
-  pub pass-withheld : Plain p ws is true → pass L o k (p ∷ []) ≡ record { out = []; rewritten = 0; lost = 0; known = k }
+  pub pass-withheld : Plain p ws is true → pass L M o k (p ∷ []) ≡ record { out = []; rewritten = 0; lost = 0; known = k }
   unfolding pass
   pass-withheld h = one-plain true [] h
 
 -- all that pass go out as they are
-pub pass-row : (L : Limits) (o : Options) (k : Known) (ws : Words) (is : Bool) → SetIs (drops o k) ws → is ≡ ready (o .service) k → (ps : List Bytes) → AllPass ws is ps
-    → pass L o k ps ≡ record { out = ps; rewritten = 0; lost = 0; known = k }
+pub pass-row : (L : Limits) (M : Modes) (o : Options) (k : Known) (ws : Words) (is : Bool) → SetIs (drops o k) ws → is ≡ ready (o .service) k → (ps : List Bytes) → AllPass ws is ps
+    → pass L M o k ps ≡ record { out = ps; rewritten = 0; lost = 0; known = k }
 unfolding pass
-pass-row L o k ws is t y [] h = refl
-pass-row L o k ws is t y (p ∷ ps) h =
-    one-plain L o k p ws is t y false ps (h .0) ∙ ap (passOne false none p 0) (pass-row L o k ws is t y ps (h .1))
+pass-row L M o k ws is t y [] h = refl
+pass-row L M o k ws is t y (p ∷ ps) h =
+    one-plain L M o k p ws is t y false ps (h .0) ∙ ap (passOne false none p 0) (pass-row L M o k ws is t y ps (h .1))

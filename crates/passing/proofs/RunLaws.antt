@@ -12,6 +12,7 @@ use Rattle.meaning.specs.Packets.{stepOf, Cut, cut, hold}
 use Rattle.meaning.specs.Learn.{Known}
 use Rattle.meaning.specs.declared.Limits.{Limits}
 use Rattle.meaning.specs.declared.Options.{Options}
+use Rattle.meaning.specs.declared.Modes.{Modes}
 use Rattle.meaning.specs.declared.Step.the-variants.{Keep}
 use Rattle.meaning.proofs.CutLaws.{cut-keep}
 use Rattle.passing.specs.declared.Terms.{Terms}
@@ -32,8 +33,8 @@ pub record Machine : Type 0 where
   pub set : Words
   pub out : Bytes
 
-abbrev pub Stands : Limits → Options → Known → Bytes → List Bytes → ℕ → Machine → Type 0
-Stands L o k d ps n x = Sofar L o k d ps n (x .progress) (x .data-set) (x .packages) (x .map-heads) (x .map-room) (x .fragment-heads) (x .bodies) (x .set) (x .out)
+abbrev pub Stands : Limits → Modes → Options → Known → Bytes → List Bytes → ℕ → Machine → Type 0
+Stands L M o k d ps n x = Sofar L M o k d ps n (x .progress) (x .data-set) (x .packages) (x .map-heads) (x .map-room) (x .fragment-heads) (x .bodies) (x .set) (x .out)
 
 abbrev pub StandsSome : Terms → Machine → Type 0
 StandsSome t x = SofarSome t (x .progress) (x .data-set) (x .packages) (x .map-heads) (x .map-room) (x .fragment-heads) (x .bodies) (x .set) (x .out)
@@ -53,13 +54,13 @@ module _ (t : Terms) (x y z : Machine) (ps qs : List Bytes) (n m : ℕ) where
   pub moves-then : Moves ps n t x y → Moves qs m t y z → Moves (ps ++ qs) (n + m) t x z
   moves-then u v L k d rs i e f =
       let a : i + n + m ≡ i + (n + m) = omega arith in
-      subst (λ (l : List Bytes). Stands L (t .options) k d l (i + (n + m)) z) (append-assoc rs ps qs)
-      (subst (λ (j : ℕ). Stands L (t .options) k d ((rs ++ ps) ++ qs) j z) a (v L k d (rs ++ ps) (i + n) e (u L k d rs i e f)))
+      subst (λ (l : List Bytes). Stands L (t .modes) (t .options) k d l (i + (n + m)) z) (append-assoc rs ps qs)
+      (subst (λ (j : ℕ). Stands L (t .modes) (t .options) k d ((rs ++ ps) ++ qs) j z) a (v L k d (rs ++ ps) (i + n) e (u L k d rs i e f)))
 
 pub moves-none : (t : Terms) (x : Machine) → Moves [] 0 t x x
 moves-none t x L k d ps n e s =
     let z : n ≡ n + 0 = omega arith in
-    subst (λ (l : List Bytes). Stands L (t .options) k d l (n + 0) x) (sym (append-nil ps)) (subst (λ (m : ℕ). Stands L (t .options) k d ps m x) z s)
+    subst (λ (l : List Bytes). Stands L (t .modes) (t .options) k d l (n + 0) x) (sym (append-nil ps)) (subst (λ (m : ℕ). Stands L (t .modes) (t .options) k d ps m x) z s)
 
 -- Lent slices keep their length.
 pub record SameRooms (x y : Machine) : Type 0 where
@@ -143,8 +144,8 @@ module _ (run : Bytes) (t : Terms) (x : Machine) where
       let p : g .packets ≡ cut (t .limit) run .packets = sym (append-nil (g .packets)) ∙ sym (ap (λ (z : Cut). z .packets) c) in
       let s : g .skipped ≡ cut (t .limit) run .skipped = (let w : g .skipped ≡ g .skipped + 0 = omega arith in w) ∙ sym (ap (λ (z : Cut). z .skipped) c) in (
         λ L k d ps n q u.
-            subst (λ (l : List Bytes). Stands L (t .options) k d (ps ++ l) (n + cut (t .limit) run .skipped) y) p
-            (subst (λ (i : ℕ). Stands L (t .options) k d (ps ++ g .packets) (n + i) y) s (g .moved L k d ps n q u)),
+            subst (λ (l : List Bytes). Stands L (t .modes) (t .options) k d (ps ++ l) (n + cut (t .limit) run .skipped) y) p
+            (subst (λ (i : ℕ). Stands L (t .modes) (t .options) k d (ps ++ g .packets) (n + i) y) s (g .moved L k d ps n q u)),
         sym (ap (λ (z : Cut). z .held) c),
         g .inside,
         g .fits-more,

@@ -18,6 +18,7 @@ use Rattle.meaning.specs.Rules.{drops, ready}
 use Rattle.meaning.specs.Push.{Passed, none-passed, passOne, pass, withheld}
 use Rattle.meaning.specs.declared.Limits.{Limits}
 use Rattle.meaning.specs.declared.Options.{Options}
+use Rattle.meaning.specs.declared.Modes.{Modes}
 use Rattle.meaning.specs.declared.Counts.{Counts}
 use Rattle.meaning.proofs.Writes.{wrote-none}
 use Rattle.meaning.proofs.Statements.{packet-shorter}
@@ -58,17 +59,10 @@ module _ (y : Option Bytes) (p : Bytes) (c : Counts) (d d′ : Bytes) (r : Count
 
 -- ---- narrowing a packet of signalling
 
-module _ (o : Options) {p payload : Bytes} {id : ℕ} {w : Bool} (h : Signals p payload id w) where
-  -- by whether it is rewritable
-  narrows-as : (v : Bool) → w ≡ v → narrowPacket o p ≡ packetFor o p (some (record { identifier = id; payload-type = 2; rewritable = v; payload = payload }))
-  unfolding narrowPacket
-  narrows-as v e = ap (packetFor o p) (h .read) ∙ ap (λ (b : Bool). packetFor o p (some (record { identifier = id; payload-type = 2; rewritable = b; payload = payload }))) e
-
-  pub narrows-on : w ≡ true → narrowPacket o p ≡ packetFor o p (some (signalOf id payload))
-  narrows-on e = narrows-as true e
-
-  pub narrows-off : w ≡ false → narrowPacket o p ≡ none
-  narrows-off e = narrows-as false e
+pub narrows-as : (M : Modes) (o : Options) {p payload : Bytes} {id : ℕ} {w : Bool} → Signals p payload id w
+    → narrowPacket M o p ≡ packetFor M o p (some (signalOf id w payload))
+unfolding narrowPacket
+narrows-as M o {p} h = ap (packetFor M o p) (h .read)
 
 -- ---- what is known after it
 
@@ -96,7 +90,7 @@ pub refreshed-anew : (b : Bool) (o : Options) (e : Extent) (was : Bool) (data-se
     → Refreshed b o e was data-set packages map-heads map-room set r set′
 refreshed-anew b o e was data-set packages map-heads map-room set r set′ q h = rw q h
 
-module _ (L : Limits) (o : Options) (id : ℕ) (s : Bytes) (k : Known) where
+module _ (L : Limits) (M : Modes) (o : Options) (id : ℕ) (s : Bytes) (k : Known) where
   abbrev after : Known
   after = observe L id s k .known
 
@@ -113,12 +107,12 @@ module _ (L : Limits) (o : Options) (id : ℕ) (s : Bytes) (k : Known) where
 
 -- ---- what passes
 
-module _ (L : Limits) (o : Options) (k : Known) {p payload : Bytes} {id : ℕ} {w : Bool} (h : Signals p payload id w) where
+module _ (L : Limits) (M : Modes) (o : Options) (k : Known) {p payload : Bytes} {id : ℕ} {w : Bool} (h : Signals p payload id w) where
   abbrev told : Learnt
   told = observe L id payload k
 
   abbrev passedOne : Passed
-  passedOne = passOne (drops o (told .known) id) (narrowPacket o p) p (told .lost) (none-passed (told .known))
+  passedOne = passOne (drops o (told .known) id) (narrowPacket M o p) p (told .lost) (none-passed (told .known))
 
   learns-as : learn L k p ≡ told
   unfolding learn
@@ -127,11 +121,11 @@ module _ (L : Limits) (o : Options) (k : Known) {p payload : Bytes} {id : ℕ} {
   withheld-as : (j : Known) → withheld o j (mmtpOf p) ≡ drops o j id
   withheld-as j = ap (withheld o j) (h .read) ∙ sym (or-false (drops o j id))
 
-  passes-as : pass L o k (p ∷ []) ≡ passedOne
+  passes-as : pass L M o k (p ∷ []) ≡ passedOne
   unfolding pass
   passes-as =
-      ap (λ (l : Learnt). passOne (withheld o (l .known) (mmtpOf p)) (narrowPacket o p) p (l .lost) (none-passed (l .known))) learns-as
-      ∙ ap (λ (b : Bool). passOne b (narrowPacket o p) p (told .lost) (none-passed (told .known))) (withheld-as (told .known))
+      ap (λ (l : Learnt). passOne (withheld o (l .known) (mmtpOf p)) (narrowPacket M o p) p (l .lost) (none-passed (l .known))) learns-as
+      ∙ ap (λ (b : Bool). passOne b (narrowPacket M o p) p (told .lost) (none-passed (told .known))) (withheld-as (told .known))
 
 -- what was emitted is what passes
 module _ (y : Option Bytes) (p : Bytes) (lost : ℕ) (k : Known) (c : Counts) (d : Bytes) (r : Counts) (d′ : Bytes) where
@@ -161,10 +155,10 @@ lost-after : (b : Bool) (y : Option Bytes) (p : Bytes) (lost : ℕ) (k : Known) 
 lost-after true y p lost k = omega arith
 lost-after false y p lost k = omega arith
 
-module _ (L : Limits) (o : Options) (k : Known) (d : Bytes) (ps : List Bytes) (n : ℕ) (s r : Progress)
+module _ (L : Limits) (M : Modes) (o : Options) (k : Known) (d : Bytes) (ps : List Bytes) (n : ℕ) (s r : Progress)
     {p payload : Bytes} {id : ℕ} {w : Bool} (h : Signals p payload id w) where
   abbrev here : Known
-  here = pass L o k ps .known
+  here = pass L M o k ps .known
 
   abbrev step : Learnt
   step = observe L id payload here
@@ -172,20 +166,20 @@ module _ (L : Limits) (o : Options) (k : Known) (d : Bytes) (ps : List Bytes) (n
   -- A run has come one packet further.
   pub signalled : {data-set packages map-heads map-room fragment-heads : List ℕ} {bodies : Bytes} {set : Words} {out : Bytes}
       {data-set′ packages′ map-heads′ map-room′ fragment-heads′ : List ℕ} {bodies′ : Bytes} {set′ : Words} {out′ : Bytes}
-      → Sofar L o k d ps n s data-set packages map-heads map-room fragment-heads bodies set out
+      → Sofar L M o k d ps n s data-set packages map-heads map-room fragment-heads bodies set out
       → Observed (L .total) step (news L id payload here) (noChange (s .extent)) (r .extent) data-set′ packages′ map-heads′ map-room′ fragment-heads′ bodies′
       → Refreshed (r .extent .changed) o (r .extent) (s .ready) data-set′ packages′ map-heads′ map-room′ set (r .ready) set′
-      → Emitted (inSet set′ id) (narrowPacket o p) p (s .counts) out (r .counts) out′
-      → Sofar L o k d (ps ++ p ∷ []) (n + 0) r data-set′ packages′ map-heads′ map-room′ fragment-heads′ bodies′ set′ out′
+      → Emitted (inSet set′ id) (narrowPacket M o p) p (s .counts) out (r .counts) out′
+      → Sofar L M o k d (ps ++ p ∷ []) (n + 0) r data-set′ packages′ map-heads′ map-room′ fragment-heads′ bodies′ set′ out′
   signalled {data-set} {packages} {map-heads} {map-room} {fragment-heads} {bodies} {set} {out} {data-set′} {packages′} {map-heads′} {map-room′} {fragment-heads′} {bodies′} {set′} {out′} f seen fresh sent =
-      let g = refreshed-is L o id payload here (r .extent .changed) (seen .changed-is) fresh (seen .holding .tables-kept) (f .set-is) (f .ready-is) in
+      let g = refreshed-is L M o id payload here (r .extent .changed) (seen .changed-is) fresh (seen .holding .tables-kept) (f .set-is) (f .ready-is) in
       let b : inSet set′ id ≡ drops o (step .known) id = g .0 .member id (h .identifier-fits) in
       let x = rw b at sent in
-      let y = narrowPacket o p in
-      let passes = passes-as L o here h in
-      let knows : pass L o here (p ∷ []) .known ≡ step .known = ap (λ (z : Passed). z .known) passes ∙ known-after (drops o (step .known) id) y p (step .lost) (step .known) in
-      let loses : pass L o here (p ∷ []) .lost ≡ step .lost = ap (λ (z : Passed). z .lost) passes ∙ lost-after (drops o (step .known) id) y p (step .lost) (step .known) in
-      further L o k d ps (p ∷ []) n 0 s r data-set packages map-heads map-room fragment-heads bodies set out data-set′ packages′ map-heads′ map-room′ fragment-heads′ bodies′ set′ out′ f
+      let y = narrowPacket M o p in
+      let passes = passes-as L M o here h in
+      let knows : pass L M o here (p ∷ []) .known ≡ step .known = ap (λ (z : Passed). z .known) passes ∙ known-after (drops o (step .known) id) y p (step .lost) (step .known) in
+      let loses : pass L M o here (p ∷ []) .lost ≡ step .lost = ap (λ (z : Passed). z .lost) passes ∙ lost-after (drops o (step .known) id) y p (step .lost) (step .known) in
+      further L M o k d ps (p ∷ []) n 0 s r data-set packages map-heads map-room fragment-heads bodies set out data-set′ packages′ map-heads′ map-room′ fragment-heads′ bodies′ set′ out′ f
       (rw knows (seen .holding))
       (rw knows (g .0))
       (rw knows (g .1))
@@ -223,15 +217,15 @@ emitted-within false y p c d r d′ z h =
     go none = omega arith
     go (some z) = omega arith
 
-never-longer : (o : Options) (p : Bytes) (y : Option Bytes) → narrowPacket o p ≡ y → length (Option·getD y p) ≤ length p
-never-longer o p none e = omega arith
-never-longer o p (some y) e = packet-shorter o p y e
+never-longer : (M : Modes) (o : Options) (p : Bytes) (y : Option Bytes) → narrowPacket M o p ≡ y → length (Option·getD y p) ≤ length p
+never-longer M o p none e = omega arith
+never-longer M o p (some y) e = packet-shorter M o p y e
 
-pub fits-after : (o : Options) {p payload : Bytes} {id : ℕ} {w : Bool} → Signals p payload id w → (s r : Progress) (set : Words) (d d′ : Bytes) (T : ℕ)
-    → Emitted (inSet set id) (narrowPacket o p) p (s .counts) d (r .counts) d′ → r .extent .lost ≤ s .extent .lost + length payload + T → T ≤ 16777216
+pub fits-after : (M : Modes) (o : Options) {p payload : Bytes} {id : ℕ} {w : Bool} → Signals p payload id w → (s r : Progress) (set : Words) (d d′ : Bytes) (T : ℕ)
+    → Emitted (inSet set id) (narrowPacket M o p) p (s .counts) d (r .counts) d′ → r .extent .lost ≤ s .extent .lost + length payload + T → T ≤ 16777216
     → length d′ ≡ length d → (m : ℕ) → Fits s (length p + m) (length d) → Fits r m (length d′)
-fits-after o {p} {payload} {id} h s r set d d′ T x l few same m f =
-    let z = emitted-within (inSet set id) (narrowPacket o p) p (s .counts) d (r .counts) d′ (never-longer o p (narrowPacket o p) refl) x in
+fits-after M o {p} {payload} {id} h s r set d d′ T x l few same m f =
+    let z = emitted-within (inSet set id) (narrowPacket M o p) p (s .counts) d (r .counts) d′ (never-longer M o p (narrowPacket M o p) refl) x in
     let long : 16 + length payload ≤ length p = h .behind-header in
     record {
       bytes-fit = omega (arith, z .0, f .bytes-fit);

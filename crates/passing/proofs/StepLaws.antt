@@ -49,13 +49,14 @@ module _ (t : Terms) (y : Machine) where
   row-moves : (qs : List Bytes) (bytes out′ : Bytes) (b : ℕ) → AllPass (y .set) (s .ready) qs → flatten qs ≡ bytes → Wrote bytes (y .out) (s .counts .bytes) out′ b
       → Moves qs 0 t y (withOut y (withRow s (length qs) b) out′)
   row-moves qs bytes out′ b a e w L k d ps n m f =
+      let M = t .modes in
       let o = t .options in
-      let q : pass L o (pass L o k ps .known) qs ≡ record { out = qs; rewritten = 0; lost = 0; known = pass L o k ps .known } =
-      pass-row L o (pass L o k ps .known) (y .set) (s .ready) (f .set-is) (f .ready-is) qs a in
+      let q : pass L M o (pass L M o k ps .known) qs ≡ record { out = qs; rewritten = 0; lost = 0; known = pass L M o k ps .known } =
+      pass-row L M o (pass L M o k ps .known) (y .set) (s .ready) (f .set-is) (f .ready-is) qs a in
       let l : s .extent .lost ≡ s .extent .lost + 0 = omega arith in
       let u : s .counts .rewritten ≡ s .counts .rewritten + 0 = omega arith in
       let v : s .counts .skipped ≡ s .counts .skipped + 0 = omega arith in
-      further L o k d ps qs n 0 s (withRow s (length qs) b) (y .data-set) (y .packages) (y .map-heads) (y .map-room) (y .fragment-heads) (y .bodies) (y .set) (y .out)
+      further L M o k d ps qs n 0 s (withRow s (length qs) b) (y .data-set) (y .packages) (y .map-heads) (y .map-room) (y .fragment-heads) (y .bodies) (y .set) (y .out)
       (y .data-set) (y .packages) (y .map-heads) (y .map-room) (y .fragment-heads) (y .bodies) (y .set) out′ f (rw q (f .holding)) (rw q (f .set-is)) (rw q (f .ready-is)) (rw q l)
       (rw q (λ i. record { bytes = b; accepted = s .counts .accepted + length qs; written = s .counts .written + length qs; rewritten = u i; skipped = v i; lost = s .counts .lost }))
       (rw (q, e) w)
@@ -67,7 +68,7 @@ module _ (t : Terms) (y : Machine) where
       let a : s .counts .accepted ≡ s .counts .accepted + 0 = omega arith in
       let w : s .counts .written ≡ s .counts .written + 0 = omega arith in
       let u : s .counts .rewritten ≡ s .counts .rewritten + 0 = omega arith in
-      further L (t .options) k d ps [] n m s (withSkipped s m) (y .data-set) (y .packages) (y .map-heads) (y .map-room) (y .fragment-heads) (y .bodies) (y .set) (y .out)
+      further L (t .modes) (t .options) k d ps [] n m s (withSkipped s m) (y .data-set) (y .packages) (y .map-heads) (y .map-room) (y .fragment-heads) (y .bodies) (y .set) (y .out)
       (y .data-set) (y .packages) (y .map-heads) (y .map-room) (y .fragment-heads) (y .bodies) (y .set) (y .out) f (f .holding) (f .set-is) (f .ready-is) l
       (λ i. record { bytes = s .counts .bytes; accepted = a i; written = w i; rewritten = u i; skipped = s .counts .skipped + m; lost = s .counts .lost })
       (wrote-none (y .out) (s .counts .bytes))
@@ -75,14 +76,15 @@ module _ (t : Terms) (y : Machine) where
   withheld-moves : (p : Bytes) → Plain p (y .set) (s .ready) true → Moves (p ∷ []) 0 t y (withOut y (withWithheld s) (y .out))
   unfolding flatten
   withheld-moves p h L k d ps n m f =
+      let M = t .modes in
       let o = t .options in
-      let q : pass L o (pass L o k ps .known) (p ∷ []) ≡ record { out = []; rewritten = 0; lost = 0; known = pass L o k ps .known } =
-      pass-withheld L o (pass L o k ps .known) p (y .set) (s .ready) (f .set-is) (f .ready-is) h in
+      let q : pass L M o (pass L M o k ps .known) (p ∷ []) ≡ record { out = []; rewritten = 0; lost = 0; known = pass L M o k ps .known } =
+      pass-withheld L M o (pass L M o k ps .known) p (y .set) (s .ready) (f .set-is) (f .ready-is) h in
       let l : s .extent .lost ≡ s .extent .lost + 0 = omega arith in
       let w : s .counts .written ≡ s .counts .written + 0 = omega arith in
       let u : s .counts .rewritten ≡ s .counts .rewritten + 0 = omega arith in
       let v : s .counts .skipped ≡ s .counts .skipped + 0 = omega arith in
-      further L o k d ps (p ∷ []) n 0 s (withWithheld s) (y .data-set) (y .packages) (y .map-heads) (y .map-room) (y .fragment-heads) (y .bodies) (y .set) (y .out)
+      further L M o k d ps (p ∷ []) n 0 s (withWithheld s) (y .data-set) (y .packages) (y .map-heads) (y .map-room) (y .fragment-heads) (y .bodies) (y .set) (y .out)
       (y .data-set) (y .packages) (y .map-heads) (y .map-room) (y .fragment-heads) (y .bodies) (y .set) (y .out) f (rw q (f .holding)) (rw q (f .set-is)) (rw q (f .ready-is)) (rw q l)
       (rw q (λ i. record { bytes = s .counts .bytes; accepted = s .counts .accepted + 1; written = w i; rewritten = u i; skipped = v i; lost = s .counts .lost }))
       (rw q (wrote-none (y .out) (s .counts .bytes)))

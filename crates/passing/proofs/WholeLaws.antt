@@ -18,6 +18,7 @@ use Rattle.meaning.specs.Calls.{countsOf}
 use Rattle.meaning.specs.Push.{Passed, pass, Outcome, outcome, filtered}
 use Rattle.meaning.specs.declared.Limits.{Limits}
 use Rattle.meaning.specs.declared.Options.{Options}
+use Rattle.meaning.specs.declared.Modes.{Modes}
 use Rattle.meaning.specs.declared.Counts.{Counts}
 use Rattle.meaning.proofs.Writes.{wrote-none}
 use Rattle.learning.specs.declared.Extent.{Extent}
@@ -30,10 +31,10 @@ use Rattle.passing.specs.Passing.{Fits, Sofar}
 abbrev pub begun : Extent → Bool → Progress
 begun e is = record { extent = e; counts = countsOf 0; ready = is }
 
-module _ (L : Limits) (o : Options) (k : Known) (d : Bytes) where
+module _ (L : Limits) (M : Modes) (o : Options) (k : Known) (d : Bytes) where
   pub begins : (e : Extent) (is : Bool) (data-set packages map-heads map-room fragment-heads : List ℕ) (bodies : Bytes) (set : Words)
       → Holding (L .total) k e data-set packages map-heads map-room fragment-heads bodies → SetIs (drops o k) set → is ≡ ready (o .service) k → e .lost ≡ 0
-      → Sofar L o k d [] 0 (begun e is) data-set packages map-heads map-room fragment-heads bodies set d
+      → Sofar L M o k d [] 0 (begun e is) data-set packages map-heads map-room fragment-heads bodies set d
   unfolding pass flatten
   begins e is data-set packages map-heads map-room fragment-heads bodies set h t y l =
       record { holding = h; set-is = t; ready-is = y; lost-is = l; counts-are = refl; written = wrote-none d 0 }
@@ -62,17 +63,17 @@ module _ (L : Limits) (o : Options) (k : Known) (d : Bytes) where
     cut-same : cut (packetLimit (L .work)) (held ++ chunk) ≡ cut limit (drop 0 run)
     cut-same = ap₂ cut (sym q) (sym e)
 
-    pub held-same : cut limit (drop 0 run) .held ≡ filtered L o st chunk .state .held
+    pub held-same : cut limit (drop 0 run) .held ≡ filtered L M o st chunk .state .held
     unfolding filtered
     held-same = ap (λ (c : Cut). c .held) (sym cut-same)
 
     pub ends : (p : Progress) (data-set packages map-heads map-room fragment-heads : List ℕ) (bodies : Bytes) (set : Words) (out : Bytes)
-        → Sofar L o k d ([] ++ cut limit (drop 0 run) .packets) (0 + cut limit (drop 0 run) .skipped) p data-set packages map-heads map-room fragment-heads bodies set out
-        → Ended (filtered L o st chunk) p data-set packages map-heads map-room fragment-heads bodies out
+        → Sofar L M o k d ([] ++ cut limit (drop 0 run) .packets) (0 + cut limit (drop 0 run) .skipped) p data-set packages map-heads map-room fragment-heads bodies set out
+        → Ended (filtered L M o st chunk) p data-set packages map-heads map-room fragment-heads bodies out
     unfolding filtered
     ends p data-set packages map-heads map-room fragment-heads bodies set out f =
         let c : Cut = cut limit (drop 0 run) in
-        let x : Passed = pass L o k (c .packets) in
+        let x : Passed = pass L M o k (c .packets) in
         let z : 0 + c .skipped ≡ c .skipped = omega arith in
         let counts : ended p ≡ outcome c x .counts =
         λ i. record {

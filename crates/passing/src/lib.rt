@@ -7,6 +7,7 @@ ghost use mathlib.Core.List.{List, [], _∷_, _++_};
 ghost use mathlib.Core.Option.{some};
 ghost use lib.ListN.{length};
 ghost use Rattle.meaning.specs.Sets.{inSet};
+ghost use Rattle.meaning.specs.Mmtp.{mmtpOf};
 ghost use Rattle.meaning.specs.Narrow.{packetFor, narrowPacket};
 ghost use Rattle.meaning.specs.Learn.{Known};
 ghost use Rattle.narrowing.specs.Answers.{signalOf};
@@ -15,6 +16,7 @@ ghost use Rattle.passing.specs.Verdicts.{VerdictIs, Signals, SignalsSome
 ghost use Rattle.passing.specs.Passing.{Emitted, Refreshed, Fits, SofarSome, SofarAfter, AheadIs, Along, ScannedAs, withSkipped, withWithheld, withRow};
 use learning::Extent;
 use meaning::Counts;
+use meaning::Modes;
 use meaning::Options;
 use meaning::Step;
 use narrowing::narrow::rewrite;
@@ -30,8 +32,9 @@ use tlv::mmtp_of;
 use tlv::next;
 use tlv::packet_payload;
 
-// What stays the same over a call: the wishes, the packet limit, and the most bytes of one message.
+// What stays the same over a call: the modes, the wishes, the packet limit, and the most bytes of one message.
 pub struct Terms {
+    pub modes: Modes,
     pub options: Options,
     pub limit: usize,
     pub most: usize,
@@ -44,7 +47,7 @@ pub struct Progress {
     pub ready: bool,
 }
 
-// A signalling packet: its identifier, and whether narrowing may change it.
+// A signalling packet: its identifier, and whether it is rewritable by its header.
 pub struct Signal {
     pub id: u16,
     pub rewritable: bool,
@@ -101,11 +104,19 @@ fn sent(c: Counts, bytes: usize, rewritten: usize) -> Counts
 }
 
 // Narrowed, or as it is where narrowing leaves it.
-fn narrowed(p: &[u8], payload: &[u8], id: u16, o: Options, c: Counts, out: &mut [u8]) -> Counts
-    requires { ⌜ (4 + length (now payload) ≤ length (now p)) × (c .bytes + length (now p) ≤ length (now out)) × (c .accepted + 1 ≤ 18446744073709551615) × (c .written + 1 ≤ 18446744073709551615) × (c .rewritten + 1 ≤ 18446744073709551615) ⌝ }
-    ensures { λ r. ⌜ Emitted false (packetFor o (now (p .entry)) (some (signalOf id (now (payload .entry))))) (now (p .entry)) c (now (out .entry)) r (now (out .exit)) ⌝ }
+fn narrowed(
+    p: &[u8],
+    payload: &[u8],
+    s: Signal,
+    o: Options,
+    modes: Modes,
+    c: Counts,
+    out: &mut [u8],
+) -> Counts
+    requires { ⌜ (mmtpOf (now p) ≡ some (signalOf (s .id) (s .rewritable) (now payload))) × (c .bytes + length (now p) ≤ length (now out)) × (c .accepted + 1 ≤ 18446744073709551615) × (c .written + 1 ≤ 18446744073709551615) × (c .rewritten + 1 ≤ 18446744073709551615) ⌝ }
+    ensures { λ r. ⌜ Emitted false (packetFor modes o (now (p .entry)) (some (signalOf (s .id) (s .rewritable) (now (payload .entry))))) (now (p .entry)) c (now (out .entry)) r (now (out .exit)) ⌝ }
 {
-    let End::At(last) = rewrite(p, payload, id, o, out, c.bytes) else {
+    let End::At(last) = rewrite(p, payload, s.id, s.rewritable, o, modes, out, c.bytes) else {
         return sent(c, copy(p, out, c.bytes), 0);
     };
     sent(c, last, 1)
@@ -117,12 +128,13 @@ fn emit(
     payload: &[u8],
     s: Signal,
     o: Options,
+    modes: Modes,
     c: Counts,
     set: &[u64; 1024],
     out: &mut [u8],
 ) -> Counts
     requires { ⌜ Signals (now p) (now payload) (s .id) (s .rewritable) × (c .bytes + length (now p) ≤ length (now out)) × (c .accepted + 1 ≤ 18446744073709551615) × (c .written + 1 ≤ 18446744073709551615) × (c .rewritten + 1 ≤ 18446744073709551615) ⌝ }
-    ensures { λ r. ⌜ Emitted (inSet (now (set .entry)) (s .id)) (narrowPacket o (now (p .entry))) (now (p .entry)) c (now (out .entry)) r (now (out .exit)) ⌝ }
+    ensures { λ r. ⌜ Emitted (inSet (now (set .entry)) (s .id)) (narrowPacket modes o (now (p .entry))) (now (p .entry)) c (now (out .entry)) r (now (out .exit)) ⌝ }
 {
     if has(set, s.id) {
         return Counts {
@@ -134,10 +146,7 @@ fn emit(
             lost: c.lost,
         };
     }
-    if s.rewritable {
-        return narrowed(p, payload, s.id, o, c, out);
-    }
-    sent(c, copy(p, out, c.bytes), 0)
+    narrowed(p, payload, s, o, modes, c, out)
 }
 
 // Readiness after a packet; the drop set is worked out again only where something changed.
@@ -210,7 +219,7 @@ fn signalling(
         bodies,
     );
     let is_ready = refreshed(e, s.ready, o, data_set, packages, map_heads, map_room, set);
-    let d = emit(p, payload, signal, o, c, set, out);
+    let d = emit(p, payload, signal, o, t.modes, c, set, out);
     Progress {
         extent: e,
         counts: d,

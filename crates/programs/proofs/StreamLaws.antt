@@ -11,7 +11,7 @@ use borrow.Author.Tests.{eqb-true}
 use Rattle.meaning.specs.Bytes.{Bytes}
 use Rattle.meaning.specs.Writing.{Wrote}
 use Rattle.meaning.specs.Refusals.{numberOf, answerNumber}
-use Rattle.meaning.specs.Wishes.{wantsAssets}
+use Rattle.meaning.specs.Wishes.{wantsAssets, allOff}
 use Rattle.meaning.specs.Rooms.{goodWorkRoom, goodFragmentRoom, goodMapRoom}
 use Rattle.meaning.specs.Record.{State, Record, recordOf, stateOf}
 use Rattle.meaning.specs.Calls.{Called}
@@ -23,6 +23,7 @@ use Rattle.meaning.specs.Readers.{walk}
 use Rattle.meaning.specs.Programs.{inputRefused, inputRefusal, inputOptions, chunk, programLimits, programCalls, sumsOf, refusedLine, sumsLine, filterWrites, sumsWrites}
 use Rattle.meaning.specs.declared.Limits.{Limits}
 use Rattle.meaning.specs.declared.Options.{Options}
+use Rattle.meaning.specs.declared.Modes.{Modes}
 use Rattle.meaning.specs.declared.Counts.{Counts}
 use Rattle.meaning.specs.declared.Refusal.{Refusal}
 use Rattle.meaning.specs.declared.Refusal.the-variants.{Input}
@@ -49,47 +50,47 @@ program-start : (n : ℕ) (o : Options) → n ≡ 32768 → wantsAssets o ≡ tr
 unfolding startRefusal goodWorkRoom goodFragmentRoom goodMapRoom programLimits
 program-start n o e w = rw (e, w)
 
-module _ (o : Options) (w : wantsAssets o ≡ true) (map-room : List ℕ) (zeros : map-room ≡ replicate 32768 0) where
+module _ (M : Modes) (o : Options) (w : wantsAssets o ≡ true) (map-room : List ℕ) (zeros : map-room ≡ replicate 32768 0) where
   map-room-long : length map-room ≡ 32768
   map-room-long = ap length zeros ∙ length-replicate {A = ℕ} 32768 0
 
-  start-done : started programLimits o map-room .number ≡ 0
+  start-done : started programLimits M o map-room .number ≡ 0
   unfolding started
   start-done = program-start (length map-room) o map-room-long w
 
-  start-handed : started programLimits o map-room .handed ≡ recordOf programLimits o (fresh map-room)
+  start-handed : started programLimits M o map-room .handed ≡ recordOf programLimits M o (fresh map-room)
   unfolding started
   start-handed = rw start-done
 
-  fresh-is : programCalls o [] .state ≡ fresh map-room
-  fresh-is = ap (λ (s : Series). s .state) (calls-none o) ∙ ap fresh (sym zeros)
+  fresh-is : programCalls M o [] .state ≡ fresh map-room
+  fresh-is = ap (λ (s : Series). s .state) (calls-none M o) ∙ ap fresh (sym zeros)
 
   total-few : programLimits .total ≤ 16777216
   unfolding programLimits
   total-few = omega arith
 
-  none-summed : sumsRefusal (programCalls o [] .counts) ≡ 0
+  none-summed : sumsRefusal (programCalls M o [] .counts) ≡ 0
   unfolding sumsRefusal fits64
-  none-summed = ap (λ (s : Series). sumsRefusal (s .counts)) (calls-none o)
+  none-summed = ap (λ (s : Series). sumsRefusal (s .counts)) (calls-none M o)
 
   limits-are : (work bodies : ℕ) → work ≡ 65536 → bodies ≡ 65536 → _≡_ {A = Limits} (record { work = work; total = bodies; most = 65536 }) programLimits
   unfolding programLimits
   limits-are work bodies e f = λ i. record { work = e i; total = f i; most = 65536 }
 
   pub come-start : (work bodies : Bytes) (s : Started) → length work ≡ 65536 → length bodies ≡ 65536
-      → StartedAs (record { work = length work; total = length bodies; most = 65536 }) o map-room s → Come o [] (begunAs s) work bodies map-room
+      → StartedAs (record { work = length work; total = length bodies; most = 65536 }) M o map-room s → Come M o [] (begunAs s) work bodies map-room
   come-start work bodies s l b p =
-      let q = subst (λ (L : Limits). StartedAs L o map-room s) (limits-are (length work) (length bodies) l b) p in
-      let r : recordIn (s .filter) ≡ recordOf programLimits o (fresh map-room) = q .handed-is ∙ start-handed in
+      let q = subst (λ (L : Limits). StartedAs L M o map-room s) (limits-are (length work) (length bodies) l b) p in
+      let r : recordIn (s .filter) ≡ recordOf programLimits M o (fresh map-room) = q .handed-is ∙ start-handed in
       record {
         wants-assets = w;
         chunks-are = tt;
         answer-is = q .answer-is ∙ start-done ∙ sym none-summed;
-        sums-are = λ done. ap (λ (z : Series). z .counts) (sym (calls-none o));
-        record-is = r ∙ ap (recordOf programLimits o) (sym fresh-is);
+        sums-are = λ done. ap (λ (z : Series). z .counts) (sym (calls-none M o));
+        record-is = r ∙ ap (recordOf programLimits M o) (sym fresh-is);
         state-is =
             ap (λ (z : Record). stateOf z work bodies map-room) r
-            ∙ fresh-back programLimits o work bodies map-room total-few (subst (HoldsState programLimits o) fresh-is (calls-hold o w []))
+            ∙ fresh-back programLimits M o work bodies map-room total-few (subst (HoldsState programLimits o) fresh-is (calls-hold M o w []))
             ∙ sym fresh-is;
         work-long = l;
         bodies-long = b;
@@ -97,7 +98,7 @@ module _ (o : Options) (w : wantsAssets o ≡ true) (map-room : List ℕ) (zeros
       }
 
   -- A start is not refused.
-  pub start-taken : {x : Standing} {work bodies : Bytes} → Come o [] x work bodies map-room → answerNumber (x .answer) ≡ 0
+  pub start-taken : {x : Standing} {work bodies : Bytes} → Come M o [] x work bodies map-room → answerNumber (x .answer) ≡ 0
   start-taken h = h .answer-is ∙ none-summed
 
 -- ---- one chunk more
@@ -116,48 +117,48 @@ unfolding tallied
 tally-fits a b e = rw e
 
 -- The push of a record's limits and options on the state that the rooms hold.
-push-same : (L : Limits) (o : Options) (st : State) (r : Record) (now : State) (chunk : Bytes) → r ≡ recordOf L o st → now ≡ st
-    → push (r .limits) (r .options) now chunk .state ≡ push L o st chunk .state
+push-same : (L : Limits) (M : Modes) (o : Options) (st : State) (r : Record) (now : State) (chunk : Bytes) → r ≡ recordOf L M o st → now ≡ st
+    → push (r .limits) (r .modes) (r .options) now chunk .state ≡ push L M o st chunk .state
 unfolding recordOf
-push-same L o st r now chunk e s = λ i. push (e i .limits) (e i .options) (s i) chunk .state
+push-same L M o st r now chunk e s = λ i. push (e i .limits) (e i .modes) (e i .options) (s i) chunk .state
 
 room-long : (programLimits .work ≡ 65536) × (programLimits .total ≡ 65536)
 unfolding programLimits
 room-long = (refl, refl)
 
-module _ (o : Options) (cs : List Bytes) (x y : Standing) (work bodies : Bytes) (map-room : List ℕ) (chunk out work′ bodies′ : Bytes) (map-room′ : List ℕ) (out′ : Bytes)
-    (h : Come o cs x work bodies map-room) (done : answerNumber (x .answer) ≡ 0) (some-bytes : 1 ≤ length chunk) (few : length chunk ≤ 32768) (out-long : length out ≡ 65536)
+module _ (M : Modes) (o : Options) (cs : List Bytes) (x y : Standing) (work bodies : Bytes) (map-room : List ℕ) (chunk out work′ bodies′ : Bytes) (map-room′ : List ℕ) (out′ : Bytes)
+    (h : Come M o cs x work bodies map-room) (done : answerNumber (x .answer) ≡ 0) (some-bytes : 1 ≤ length chunk) (few : length chunk ≤ 32768) (out-long : length out ≡ 65536)
     {writes : Bool} (t : TakenAs writes (recordIn (x .filter)) (x .sums) work bodies map-room chunk out y work′ bodies′ map-room′ out′) where
   abbrev st : State
-  st = programCalls o cs .state
+  st = programCalls M o cs .state
 
-  one : programCalls o (cs ++ (chunk ∷ [])) ≡ joined (programCalls o cs) (alone (push programLimits o st chunk))
-  one = calls-one o (h .wants-assets) cs chunk few
+  one : programCalls M o (cs ++ (chunk ∷ [])) ≡ joined (programCalls M o cs) (alone (push programLimits M o st chunk))
+  one = calls-one M o (h .wants-assets) cs chunk few
 
   call-is : called (recordIn (x .filter)) work bodies map-room chunk (length out)
-      ≡ record { number = 0; out = push programLimits o st chunk .out; counts = push programLimits o st chunk .counts; handed = recordOf programLimits o (push programLimits o st chunk .state) }
+      ≡ record { number = 0; out = push programLimits M o st chunk .out; counts = push programLimits M o st chunk .counts; handed = recordOf programLimits M o (push programLimits M o st chunk .state) }
   call-is =
       ap (λ (n : ℕ). called (recordIn (x .filter)) work bodies map-room chunk n) out-long
-      ∙ called-taken programLimits o st (limits-good .0) (limits-good .1) (calls-hold o (h .wants-assets) cs) (recordIn (x .filter)) work bodies map-room (chunk, 65536)
-      (h .record-is) (h .state-is) (h .work-long ∙ sym (room-long .0)) (h .bodies-long ∙ sym (room-long .1)) (h .map-room-long) (call-taken o (h .wants-assets) cs chunk few)
+      ∙ called-taken programLimits M o st (limits-good .0) (limits-good .1) (calls-hold M o (h .wants-assets) cs) (recordIn (x .filter)) work bodies map-room (chunk, 65536)
+      (h .record-is) (h .state-is) (h .work-long ∙ sym (room-long .0)) (h .bodies-long ∙ sym (room-long .1)) (h .map-room-long) (call-taken M o (h .wants-assets) cs chunk few)
 
   answered : answerNumber (t .call .answer) ≡ 0
   answered = t .pushed .answer-is ∙ ap (λ (z : Called). z .number) call-is
 
-  counted : t .call .counts ≡ push programLimits o st chunk .counts
+  counted : t .call .counts ≡ push programLimits M o st chunk .counts
   counted = t .pushed .counts-are ∙ ap (λ (z : Called). z .counts) call-is
 
   -- the answer is that of the sums with this call's counts
-  told : answerNumber (y .answer) ≡ tallyRefusal (programCalls o cs .counts) (push programLimits o st chunk .counts)
+  told : answerNumber (y .answer) ≡ tallyRefusal (programCalls M o cs .counts) (push programLimits M o st chunk .counts)
   told = t .answer-is ∙ (λ i. firstOf (answered i) (tallyRefusal (h .sums-are done i) (counted i)))
 
-  state-then : stateOf (recordIn (t .call .filter)) work′ bodies′ map-room′ ≡ push programLimits o st chunk .state
+  state-then : stateOf (recordIn (t .call .filter)) work′ bodies′ map-room′ ≡ push programLimits M o st chunk .state
   state-then =
-      subst (λ (z : Called). RoomsAfter (eqb (z .number) 0) (push (recordIn (x .filter) .limits) (recordIn (x .filter) .options) (stateOf (recordIn (x .filter)) work bodies map-room) chunk .state) (recordIn (t .call .filter)) work bodies map-room work′ bodies′ map-room′)
+      subst (λ (z : Called). RoomsAfter (eqb (z .number) 0) (push (recordIn (x .filter) .limits) (recordIn (x .filter) .modes) (recordIn (x .filter) .options) (stateOf (recordIn (x .filter)) work bodies map-room) chunk .state) (recordIn (t .call .filter)) work bodies map-room work′ bodies′ map-room′)
       call-is (t .pushed .rooms)
-      ∙ push-same programLimits o st (recordIn (x .filter)) (stateOf (recordIn (x .filter)) work bodies map-room) chunk (h .record-is) (h .state-is)
+      ∙ push-same programLimits M o st (recordIn (x .filter)) (stateOf (recordIn (x .filter)) work bodies map-room) chunk (h .record-is) (h .state-is)
 
-  pub come-next : length work′ ≡ length work → length bodies′ ≡ length bodies → length map-room′ ≡ length map-room → Come o (cs ++ (chunk ∷ [])) y work′ bodies′ map-room′
+  pub come-next : length work′ ≡ length work → length bodies′ ≡ length bodies → length map-room′ ≡ length map-room → Come M o (cs ++ (chunk ∷ [])) y work′ bodies′ map-room′
   come-next w b m = record {
     wants-assets = h .wants-assets;
     chunks-are = chunks-append cs (chunk ∷ []) (h .chunks-are) (some-bytes, few, tt);
@@ -167,7 +168,7 @@ module _ (o : Options) (cs : List Bytes) (x y : Standing) (work bodies : Bytes) 
         ∙ (λ i. tallied (h .sums-are done i) (counted i))
         ∙ tally-fits _ _ (sym told ∙ e)
         ∙ ap (λ (z : Series). z .counts) (sym one);
-    record-is = ap recordIn (t .filter-is) ∙ t .pushed .handed-is ∙ ap (λ (z : Called). z .handed) call-is ∙ ap (λ (z : Series). recordOf programLimits o (z .state)) (sym one);
+    record-is = ap recordIn (t .filter-is) ∙ t .pushed .handed-is ∙ ap (λ (z : Called). z .handed) call-is ∙ ap (λ (z : Series). recordOf programLimits M o (z .state)) (sym one);
     state-is = ap (λ f. stateOf (recordIn f) work′ bodies′ map-room′) (t .filter-is) ∙ state-then ∙ ap (λ (z : Series). z .state) (sym one);
     work-long = w ∙ h .work-long;
     bodies-long = b ∙ h .bodies-long;
@@ -177,13 +178,13 @@ module _ (o : Options) (cs : List Bytes) (x y : Standing) (work bodies : Bytes) 
 -- ---- on and on
 
 pub goes-none : {x : Standing} {work bodies : Bytes} {map-room : List ℕ} → Goes x work bodies map-room x work bodies map-room
-goes-none {x} {work} {bodies} {map-room} = λ o cs h. ([], subst (λ (l : List Bytes). Come o l x work bodies map-room) (sym (append-nil cs)) h)
+goes-none {x} {work} {bodies} {map-room} = λ M o cs h. ([], subst (λ (l : List Bytes). Come M o l x work bodies map-room) (sym (append-nil cs)) h)
 
 module _ {x₀ x : Standing} {work₀ bodies₀ work bodies : Bytes} {map-room₀ map-room : List ℕ} (g : Goes x₀ work₀ bodies₀ map-room₀ x work bodies map-room) where
   goes-ended : (came : Filled) → Goes x₀ work₀ bodies₀ map-room₀ (endedAs x came) work bodies map-room
   goes-ended (Filled.Bytes n) = g
-  goes-ended Filled.Failed = λ o cs h.
-      let k = g o cs h in
+  goes-ended Filled.Failed = λ M o cs h.
+      let k = g M o cs h in
       let z = k .1 in (
         k .0,
         record {
@@ -203,11 +204,11 @@ module _ {x₀ x : Standing} {work₀ bodies₀ work bodies : Bytes} {map-room�
       (w : length work′ ≡ length work) (b : length bodies′ ≡ length bodies) (m : length map-room′ ≡ length map-room) where
     goes-next : {chunk : Bytes} → 1 ≤ length chunk → length chunk ≤ 32768 → TakenAs writes (recordIn (x .filter)) (x .sums) work bodies map-room chunk out y work′ bodies′ map-room′ out′
         → Goes x₀ work₀ bodies₀ map-room₀ y work′ bodies′ map-room′
-    goes-next {chunk} some-bytes few t = λ o cs h.
-        let k = g o cs h in (
+    goes-next {chunk} some-bytes few t = λ M o cs h.
+        let k = g M o cs h in (
           k .0 ++ (chunk ∷ []),
-          subst (λ (l : List Bytes). Come o l y work′ bodies′ map-room′) (append-assoc cs (k .0) (chunk ∷ []))
-              (come-next o (cs ++ k .0) x y work bodies map-room chunk out work′ bodies′ map-room′ out′ (k .1) done some-bytes few long t w b m),
+          subst (λ (l : List Bytes). Come M o l y work′ bodies′ map-room′) (append-assoc cs (k .0) (chunk ∷ []))
+              (come-next M o (cs ++ k .0) x y work bodies map-room chunk out work′ bodies′ map-room′ out′ (k .1) done some-bytes few long t w b m),
         )
 
     pub goes-read : {came : Filled} {chunk : Bytes} → cameOf came ≤ length chunk → length chunk ≡ 32768 → NextAs writes x came work bodies map-room chunk out y work′ bodies′ map-room′ out′
@@ -232,9 +233,9 @@ refused-empty : inputRefusal [] ≡ numberOf Input
 unfolding inputRefusal inputRefused numberOf
 refused-empty = refl
 
-held-by : (o : Options) (st : State) (x : Standing) → recordIn (x .filter) ≡ recordOf programLimits o st → x .filter .«held_count» ≡ length (st .held)
+held-by : (M : Modes) (o : Options) (st : State) (x : Standing) → recordIn (x .filter) ≡ recordOf programLimits M o st → x .filter .«held_count» ≡ length (st .held)
 unfolding recordIn recordOf
-held-by o st x e = ap (λ (r : Record). r .held-count) e
+held-by M o st x e = ap (λ (r : Record). r .held-count) e
 
 module _ (head : Bytes) {work bodies : Bytes} {map-room : List ℕ} where
   ran-unasked : (failed : Bool) (r : Refusal) → inputRefusal head ≡ numberOf r → length head ≤ 3 → Ran head [] work bodies map-room (unaskedAs failed r) work bodies map-room
@@ -249,14 +250,14 @@ module _ (head : Bytes) {work bodies : Bytes} {map-room : List ℕ} where
   }
 
   ran-stream : {cs : List Bytes} {x : Standing} {work′ bodies′ : Bytes} {map-room′ : List ℕ} → inputRefusal head ≡ 0 → length head ≤ 3
-      → Come (inputOptions head) cs x work′ bodies′ map-room′ → Ran head cs work bodies map-room (endingOf x) work′ bodies′ map-room′
+      → Come allOff (inputOptions head) cs x work′ bodies′ map-room′ → Ran head cs work bodies map-room (endingOf x) work′ bodies′ map-room′
   unfolding runRefusal
   ran-stream {cs} {x} {work′} {bodies′} {map-room′} e short h = record {
     head-short = short;
     chunks-are = h .chunks-are;
     answer-is = rw e (h .answer-is);
     sums-are = h .sums-are;
-    held-is = λ z. held-by (inputOptions head) (programCalls (inputOptions head) cs .state) x (h .record-is);
+    held-is = λ z. held-by allOff (inputOptions head) (programCalls allOff (inputOptions head) cs .state) x (h .record-is);
     rooms = rw e (ap (λ (r : Record). stateOf r work′ bodies′ map-room′) (sym (h .record-is)) ∙ h .state-is);
   }
 
@@ -271,7 +272,7 @@ module _ {came : Filled} {n : ℕ} (s : Bytes) (is : came ≡ Filled.Bytes n) (s
   pub asked-assets : {o : Options} → askedOf (take n s) ≡ Asked.For o → wantsAssets o ≡ true
   asked-assets e = options-asked (take n s) e .2
 
-  pub by-stream : {o : Options} {x : Standing} {work′ bodies′ : Bytes} {map-room′ : List ℕ} → askedOf (take n s) ≡ Asked.For o → ((cs : List Bytes) × Come o cs x work′ bodies′ map-room′)
+  pub by-stream : {o : Options} {x : Standing} {work′ bodies′ : Bytes} {map-room′ : List ℕ} → askedOf (take n s) ≡ Asked.For o → ((cs : List Bytes) × Come allOff o cs x work′ bodies′ map-room′)
       → RanBy came s work bodies map-room (endingOf x) work′ bodies′ map-room′
   by-stream {o} e h =
       let k = options-asked (take n s) e in
@@ -300,7 +301,7 @@ module _ {work bodies : Bytes} {map-room : List ℕ} {e : Ending} {work′ bodie
   line-is : (head : Bytes) (cs : List Bytes) → Ran head cs work bodies map-room e work′ bodies′ map-room′ → (writes : Bool) → lastLine e writes ≡ cond (e .failed) [] (lineFor writes head cs)
   unfolding lastLine lineFor
   line-is head cs r writes =
-      let x = programCalls (inputOptions head) cs in
+      let x = programCalls allOff (inputOptions head) cs in
       ap (λ (l : Bytes). cond (e .failed) [] l)
       (line-same (answerNumber (e .answer)) (runRefusal head cs) writes (e .sums) (x .counts) (e .«held_count») (length (x .state .held)) (r .answer-is) (r .sums-are) (r .held-is))
 
@@ -318,9 +319,9 @@ module _ {work bodies : Bytes} {map-room : List ℕ} {e : Ending} {work′ bodie
 -- Where head and chunks are those of an input whose sums fit, it is what the definitions of the programs say: `sums` writes no more, and
 -- `filter` writes what its calls wrote before it.
 module _ (s : Bytes) (fits : fits64 (sumsOf s .counts) ≡ true) where
-  calls-are : programCalls (inputOptions (take 3 s)) (walk chunk (drop 3 s) .found) ≡ sumsOf s
+  calls-are : programCalls allOff (inputOptions (take 3 s)) (walk chunk (drop 3 s) .found) ≡ sumsOf s
   unfolding sumsOf
-  calls-are = ap (λ (o : Options). programCalls o (walk chunk (drop 3 s) .found)) (options-by-three s)
+  calls-are = ap (λ (o : Options). programCalls allOff o (walk chunk (drop 3 s) .found)) (options-by-three s)
 
   refusal-is : runRefusal (take 3 s) (walk chunk (drop 3 s) .found) ≡ inputRefusal s
   unfolding runRefusal sumsRefusal

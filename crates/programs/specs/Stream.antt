@@ -8,13 +8,14 @@ use lib.ListN.{length, take, replicate}
 use lib.Dec.{eqb}
 use Rattle.meaning.specs.Bytes.{Bytes}
 use Rattle.meaning.specs.Writing.{Wrote}
-use Rattle.meaning.specs.Wishes.{wantsAssets}
+use Rattle.meaning.specs.Wishes.{wantsAssets, allOff}
 use Rattle.meaning.specs.Refusals.{answerNumber}
 use Rattle.meaning.specs.Record.{Record, recordOf, stateOf}
 use Rattle.meaning.specs.Calls.{countsOf}
 use Rattle.meaning.specs.Tally.{fits64, tallyRefusal, tallied}
 use Rattle.meaning.specs.Programs.{inputRefusal, inputOptions, programLimits, programCalls, Chunks, refusedLine, sumsLine}
 use Rattle.meaning.specs.declared.Options.{Options}
+use Rattle.meaning.specs.declared.Modes.{Modes}
 use Rattle.meaning.specs.declared.Counts.{Counts}
 use Rattle.meaning.specs.declared.Answer.the-variants.{Refused}
 use Rattle.meaning.specs.declared.Refusal.{Refusal}
@@ -75,13 +76,13 @@ unfolding fits64
 sumsRefusal c = cond (fits64 c) 0 7
 
 -- After the calls of these chunks: the answer, the sums where they fit, the record, and rooms that hold its state.
-pub record Come (o : Options) (cs : List Bytes) (x : Standing) (work bodies : Bytes) (map-room : List ℕ) : Type 0 where
+pub record Come (M : Modes) (o : Options) (cs : List Bytes) (x : Standing) (work bodies : Bytes) (map-room : List ℕ) : Type 0 where
   pub wants-assets : wantsAssets o ≡ true
   pub chunks-are : Chunks cs
-  pub answer-is : answerNumber (x .answer) ≡ sumsRefusal (programCalls o cs .counts)
-  pub sums-are : answerNumber (x .answer) ≡ 0 → x .sums ≡ programCalls o cs .counts
-  pub record-is : recordIn (x .filter) ≡ recordOf programLimits o (programCalls o cs .state)
-  pub state-is : stateOf (recordIn (x .filter)) work bodies map-room ≡ programCalls o cs .state
+  pub answer-is : answerNumber (x .answer) ≡ sumsRefusal (programCalls M o cs .counts)
+  pub sums-are : answerNumber (x .answer) ≡ 0 → x .sums ≡ programCalls M o cs .counts
+  pub record-is : recordIn (x .filter) ≡ recordOf programLimits M o (programCalls M o cs .state)
+  pub state-is : stateOf (recordIn (x .filter)) work bodies map-room ≡ programCalls M o cs .state
   pub work-long : length work ≡ 65536
   pub bodies-long : length bodies ≡ 65536
   pub map-room-long : length map-room ≡ 32768
@@ -89,7 +90,7 @@ pub record Come (o : Options) (cs : List Bytes) (x : Standing) (work bodies : By
 -- From wherever a stream has come to, it comes further, by more chunks or none.
 abbrev pub Goes : Standing → Bytes → Bytes → List ℕ → Standing → Bytes → Bytes → List ℕ → Type 0
 Goes x work bodies map-room y work′ bodies′ map-room′ =
-    (o : Options) (cs : List Bytes) → Come o cs x work bodies map-room → (more : List Bytes) × Come o (cs ++ more) y work′ bodies′ map-room′
+    (M : Modes) (o : Options) (cs : List Bytes) → Come M o cs x work bodies map-room → (more : List Bytes) × Come M o (cs ++ more) y work′ bodies′ map-room′
 
 pub record MayPass (x : Standing) (chunk out : Bytes) : Type 0 where
   pub not-refused : answerNumber (x .answer) ≡ 0
@@ -118,21 +119,21 @@ unaskedAs failed r = record { failed = failed; answer = Refused r; sums = counts
 -- The refusal of an input with this head and these chunks: that of the head, or that of its sums.
 unfoldable pub runRefusal : Bytes → List Bytes → ℕ
 unfolding inputRefusal inputOptions programCalls sumsRefusal
-runRefusal head cs = firstOf (inputRefusal head) (sumsRefusal (programCalls (inputOptions head) cs .counts))
+runRefusal head cs = firstOf (inputRefusal head) (sumsRefusal (programCalls allOff (inputOptions head) cs .counts))
 
 -- The rooms after such an input: refused, they are as they were; else they and the state's record hold the state that its calls came to.
 abbrev pub RoomsLeft : Bytes → List Bytes → Bytes → Bytes → List ℕ → Bytes → Bytes → List ℕ → Type 0
 RoomsLeft head cs =
     let o = inputOptions head in
-    let st = programCalls o cs .state in
-    RoomsAfter (eqb (inputRefusal head) 0) st (recordOf programLimits o st)
+    let st = programCalls allOff o cs .state in
+    RoomsAfter (eqb (inputRefusal head) 0) st (recordOf programLimits allOff o st)
 
 pub record Ran (head : Bytes) (cs : List Bytes) (work bodies : Bytes) (map-room : List ℕ) (e : Ending) (work′ bodies′ : Bytes) (map-room′ : List ℕ) : Type 0 where
   pub head-short : length head ≤ 3
   pub chunks-are : Chunks cs
   pub answer-is : answerNumber (e .answer) ≡ runRefusal head cs
-  pub sums-are : answerNumber (e .answer) ≡ 0 → e .sums ≡ programCalls (inputOptions head) cs .counts
-  pub held-is : answerNumber (e .answer) ≡ 0 → e .«held_count» ≡ length (programCalls (inputOptions head) cs .state .held)
+  pub sums-are : answerNumber (e .answer) ≡ 0 → e .sums ≡ programCalls allOff (inputOptions head) cs .counts
+  pub held-is : answerNumber (e .answer) ≡ 0 → e .«held_count» ≡ length (programCalls allOff (inputOptions head) cs .state .held)
   pub rooms : RoomsLeft head cs work bodies map-room work′ bodies′ map-room′
 
 -- The room for a head, with what came to it.
@@ -151,7 +152,7 @@ RanBy Filled.Failed s work bodies map-room e work′ bodies′ map-room′ = (e 
 unfoldable pub lineFor : Bool → Bytes → List Bytes → Bytes
 unfolding runRefusal inputOptions programCalls refusedLine sumsLine
 lineFor writes head cs =
-    let r = programCalls (inputOptions head) cs in
+    let r = programCalls allOff (inputOptions head) cs in
     lineBy (runRefusal head cs) writes (r .counts) (length (r .state .held))
 
 -- There are a head and chunks for which this is the last line, and these are the rooms; where a read or a write failed there is no line.

@@ -25,6 +25,7 @@ use crate::pipe::write_all;
 use crate::pipe::write_last;
 use meaning::Answer;
 use meaning::Counts;
+use meaning::Modes;
 use meaning::Options;
 use meaning::Refusal;
 use recorder::Filter;
@@ -234,6 +235,7 @@ fn begun(s: Started) -> Standing
 // A start, which these rooms and wishes allow, then all chunks.
 fn started(
     o: Options,
+    modes: Modes,
     writes: bool,
     chunk: &mut [u8; CHUNK],
     work: &mut [u8; ROOM],
@@ -242,9 +244,9 @@ fn started(
     out: &mut [u8; ROOM],
 ) -> Standing
     requires { ⌜ (wantsAssets o ≡ true) × Rooms (now chunk) (now work) (now bodies) (now «map_room») (now out) ⌝ }
-    ensures { λ r. ⌜ ((cs : List Bytes) × Come o cs r (now (work .exit)) (now (bodies .exit)) (now («map_room» .exit))) ⌝ }
+    ensures { λ r. ⌜ ((cs : List Bytes) × Come modes o cs r (now (work .exit)) (now (bodies .exit)) (now («map_room» .exit))) ⌝ }
 {
-    let s = start(work, bodies, map_room, ROOM, o);
+    let s = start(work, bodies, map_room, ROOM, o, modes);
     pass(begun(s), writes, chunk, work, bodies, map_room, out)
 }
 
@@ -297,7 +299,9 @@ fn by_head(
     match asked_of(&head[0..n]) {
         Asked::Refused(refusal) => unasked(false, refusal),
         Asked::For(o) => {
-            let x = started(o, writes, chunk, work, bodies, map_room, out);
+            // No flag of an input turns a mode on.
+            let modes = Modes { plain_ip: false };
+            let x = started(o, modes, writes, chunk, work, bodies, map_room, out);
             ending(x)
         }
     }

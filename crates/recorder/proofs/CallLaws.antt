@@ -20,6 +20,7 @@ use Rattle.meaning.specs.Calls.{countsOf}
 use Rattle.meaning.specs.Push.{Outcome, pass, filtered, push}
 use Rattle.meaning.specs.declared.Limits.{Limits}
 use Rattle.meaning.specs.declared.Options.{Options}
+use Rattle.meaning.specs.declared.Modes.{Modes}
 use Rattle.meaning.specs.declared.Counts.{Counts}
 use Rattle.observing.specs.Observed.{Holding, HoldingSome}
 use Rattle.learning.specs.declared.Extent.{Extent}
@@ -64,10 +65,10 @@ module _ (t : Terms) (e : Extent) (first : Progress) (data-set packages map-head
   begun-is : first ≡ begun e (first .ready)
   begun-is = λ i. record { extent = decided .extent-is i; counts = decided .counts-are i; ready = first .ready }
 
-  pub call-begins : (L : Limits) (k : Known) → Holding (L .total) k e data-set packages map-heads map-room fragment-heads bodies → Sofar L (t .options) k out [] 0 first data-set packages map-heads map-room fragment-heads bodies set out
+  pub call-begins : (L : Limits) (k : Known) → Holding (L .total) k e data-set packages map-heads map-room fragment-heads bodies → Sofar L (t .modes) (t .options) k out [] 0 first data-set packages map-heads map-room fragment-heads bodies set out
   call-begins L k h =
-      subst (λ (x : Progress). Sofar L (t .options) k out [] 0 x data-set packages map-heads map-room fragment-heads bodies set out) (sym begun-is)
-      (begins L (t .options) k out e (first .ready) data-set packages map-heads map-room fragment-heads bodies set h (decided .set-is k (h .tables-kept)) (decided .ready-is k (h .tables-kept)) lost)
+      subst (λ (x : Progress). Sofar L (t .modes) (t .options) k out [] 0 x data-set packages map-heads map-room fragment-heads bodies set out) (sym begun-is)
+      (begins L (t .modes) (t .options) k out e (first .ready) data-set packages map-heads map-room fragment-heads bodies set h (decided .set-is k (h .tables-kept)) (decided .ready-is k (h .tables-kept)) lost)
 
   pub some-begins : HoldingSome e data-set packages map-heads map-room fragment-heads bodies → SofarSome t first data-set packages map-heads map-room fragment-heads bodies set out
   some-begins h =
@@ -91,10 +92,10 @@ fits-less n m f = record {
 pub rest-fits : {s r : Progress} {l l′ : ℕ} (n n′ m : ℕ) → FitsMore s n l r n′ l′ → Fits s (n + m) l → Fits r m l′
 rest-fits n n′ m f h = fits-less n′ m (f m h)
 
-pub sofar-skipped : {L : Limits} {o : Options} {k : Known} {d : Bytes} {ps : List Bytes} {n m : ℕ} {s : Progress} {data-set packages map-heads map-room fragment-heads : List ℕ} {bodies : Bytes} {set : Words} {out : Bytes}
-    → n ≡ m → Sofar L o k d ps n s data-set packages map-heads map-room fragment-heads bodies set out → Sofar L o k d ps m s data-set packages map-heads map-room fragment-heads bodies set out
-sofar-skipped {L} {o} {k} {d} {ps} {n} {m} {s} {data-set} {packages} {map-heads} {map-room} {fragment-heads} {bodies} {set} {out} e f =
-    subst (λ (i : ℕ). Sofar L o k d ps i s data-set packages map-heads map-room fragment-heads bodies set out) e f
+pub sofar-skipped : {L : Limits} {M : Modes} {o : Options} {k : Known} {d : Bytes} {ps : List Bytes} {n m : ℕ} {s : Progress} {data-set packages map-heads map-room fragment-heads : List ℕ} {bodies : Bytes} {set : Words} {out : Bytes}
+    → n ≡ m → Sofar L M o k d ps n s data-set packages map-heads map-room fragment-heads bodies set out → Sofar L M o k d ps m s data-set packages map-heads map-room fragment-heads bodies set out
+sofar-skipped {L} {M} {o} {k} {d} {ps} {n} {m} {s} {data-set} {packages} {map-heads} {map-room} {fragment-heads} {bodies} {set} {out} e f =
+    subst (λ (i : ℕ). Sofar L M o k d ps i s data-set packages map-heads map-room fragment-heads bodies set out) e f
 
 pub run-parts : (held chunk : Bytes) (k : ℕ) → held ++ chunk ≡ (held ++ take k chunk) ++ drop k chunk
 run-parts held chunk k = ap (λ (l : Bytes). held ++ l) (sym (take-append-drop k chunk)) ∙ sym (append-assoc held (take k chunk) (drop k chunk))
@@ -103,33 +104,36 @@ run-parts held chunk k = ap (λ (l : Bytes). held ++ l) (sym (take-append-drop k
 
 module _ (L : Limits) (t : Terms) (k : Known) (held chunk out out′ : Bytes) (W : ℕ) (limit : t .limit ≡ packetLimit W) (same : L .work ≡ W)
     (p : Progress) (data-set packages map-heads map-room fragment-heads : List ℕ) (bodies : Bytes) (set : Words) (x : CarriedOut) (work : Bytes) where
+  abbrev M : Modes
+  M = t .modes
+
   abbrev o : Options
   o = t .options
 
   abbrev all : Cut
   all = cut (t .limit) (held ++ chunk)
 
-  pub call-ends : Sofar L o k out ([] ++ all .packets) (0 + all .skipped) p data-set packages map-heads map-room fragment-heads bodies set out′
-      → x ≡ record { extent = p .extent; counts = ended L o k out p; «held_count» = length (all .held) }
+  pub call-ends : Sofar L M o k out ([] ++ all .packets) (0 + all .skipped) p data-set packages map-heads map-room fragment-heads bodies set out′
+      → x ≡ record { extent = p .extent; counts = ended L M o k out p; «held_count» = length (all .held) }
       → take (length (all .held)) work ≡ all .held
-      → CarriedOutAs L (filtered L o (record { held = held; known = k }) chunk) out x data-set packages map-heads map-room fragment-heads bodies work out′
+      → CarriedOutAs L (filtered L M o (record { held = held; known = k }) chunk) out x data-set packages map-heads map-room fragment-heads bodies work out′
   call-ends f e d =
       let q : t .limit ≡ packetLimit (L .work) = limit ∙ ap packetLimit (sym same) in
-      let y = ends L o k out held chunk (held ++ chunk) (t .limit) refl q p data-set packages map-heads map-room fragment-heads bodies set out′ f in
-      let h : all .held ≡ filtered L o (record { held = held; known = k }) chunk .state .held = held-same L o k out held chunk (held ++ chunk) (t .limit) refl q in
-      subst (λ (z : CarriedOut). CarriedOutAs L (filtered L o (record { held = held; known = k }) chunk) out z data-set packages map-heads map-room fragment-heads bodies work out′) (sym e)
+      let y = ends L M o k out held chunk (held ++ chunk) (t .limit) refl q p data-set packages map-heads map-room fragment-heads bodies set out′ f in
+      let h : all .held ≡ filtered L M o (record { held = held; known = k }) chunk .state .held = held-same L M o k out held chunk (held ++ chunk) (t .limit) refl q in
+      subst (λ (z : CarriedOut). CarriedOutAs L (filtered L M o (record { held = held; known = k }) chunk) out z data-set packages map-heads map-room fragment-heads bodies work out′) (sym e)
       (record { holding = y .holding; held-is = ap length h; held-bytes = d ∙ h; counts-are = y .counts-are; written = y .written })
 
   -- in two parts
   pub parts-end : (a b : Bytes) → held ++ chunk ≡ a ++ b → Parted (t .limit) a b
-      → Sofar L o k out (joined (cut (t .limit) a) (cut (t .limit) b) .packets) (joined (cut (t .limit) a) (cut (t .limit) b) .skipped) p data-set packages map-heads map-room fragment-heads bodies set out′
+      → Sofar L M o k out (joined (cut (t .limit) a) (cut (t .limit) b) .packets) (joined (cut (t .limit) a) (cut (t .limit) b) .skipped) p data-set packages map-heads map-room fragment-heads bodies set out′
       → x ≡ endedOf p (length (joined (cut (t .limit) a) (cut (t .limit) b) .held))
       → take (x .«held_count») work ≡ joined (cut (t .limit) a) (cut (t .limit) b) .held
-      → CarriedOutAs L (filtered L o (record { held = held; known = k }) chunk) out x data-set packages map-heads map-room fragment-heads bodies work out′
+      → CarriedOutAs L (filtered L M o (record { held = held; known = k }) chunk) out x data-set packages map-heads map-room fragment-heads bodies work out′
   parts-end a b s h f e d =
       let c : all ≡ joined (cut (t .limit) a) (cut (t .limit) b) = ap (cut (t .limit)) s ∙ h in
       call-ends
-      (subst (λ (z : Cut). Sofar L o k out (z .packets) (0 + z .skipped) p data-set packages map-heads map-room fragment-heads bodies set out′) (sym c)
+      (subst (λ (z : Cut). Sofar L M o k out (z .packets) (0 + z .skipped) p data-set packages map-heads map-room fragment-heads bodies set out′) (sym c)
       (let u : joined (cut (t .limit) a) (cut (t .limit) b) .skipped ≡ 0 + joined (cut (t .limit) a) (cut (t .limit) b) .skipped = omega arith in sofar-skipped u f))
       (e ∙ ap (λ (z : Cut). endedOf p (length (z .held))) (sym c))
       (subst (λ (z : Bytes). take (length z) work ≡ z) (ap (λ (z : Cut). z .held) (sym c)) (ap (λ (n : ℕ). take n work) (sym (ap (λ (z : CarriedOut). z .«held_count») e)) ∙ d))
@@ -141,7 +145,7 @@ module _ (L : Limits) (t : Terms) (k : Known) (held chunk first second out out�
       → Holding (L .total) k e data-set packages map-heads map-room fragment-heads bodies
       → PartsPassed first second t e data-set packages map-heads map-room fragment-heads bodies out x data-set′ packages′ map-heads′ map-room′ fragment-heads′ bodies′ out′
       → HeldOn x n second work₁ r work′
-      → CarriedOutAs L (filtered L (t .options) (record { held = held; known = k }) chunk) out r data-set′ packages′ map-heads′ map-room′ fragment-heads′ bodies′ work′ out′
+      → CarriedOutAs L (filtered L (t .modes) (t .options) (record { held = held; known = k }) chunk) out r data-set′ packages′ map-heads′ map-room′ fragment-heads′ bodies′ work′ out′
   parts-carried limit same most run apart front h passed on =
       let s = passed .passed L k most h in
       let left : drop (x .«first_at») (take n work₁) ++ drop (x .«second_at») second ≡ cut (t .limit) first .held ++ cut (t .limit) second .held =
@@ -151,24 +155,24 @@ module _ (L : Limits) (t : Terms) (k : Known) (held chunk first second out out�
       (on .ended-is ∙ ap (λ (l : Bytes). endedOf (x .progress) (length l)) left) (on .held-bytes ∙ left)
 
 -- no packet is whole: nothing is written, counted or learned
-pub held-ends : (L : Limits) (o : Options) (k : Known) (held chunk out work : Bytes) (W P : ℕ) (e : Extent) (x : CarriedOut) (data-set packages map-heads map-room fragment-heads : List ℕ) (bodies : Bytes)
+pub held-ends : (L : Limits) (M : Modes) (o : Options) (k : Known) (held chunk out work : Bytes) (W P : ℕ) (e : Extent) (x : CarriedOut) (data-set packages map-heads map-room fragment-heads : List ℕ) (bodies : Bytes)
     → P ≡ packetLimit W → L .work ≡ W → cut P (held ++ chunk) ≡ hold (held ++ chunk) → x ≡ record { extent = e; counts = countsOf 0; «held_count» = length (held ++ chunk) }
     → take (length (held ++ chunk)) work ≡ held ++ chunk → Holding (L .total) k e data-set packages map-heads map-room fragment-heads bodies
-    → CarriedOutAs L (filtered L o (record { held = held; known = k }) chunk) out x data-set packages map-heads map-room fragment-heads bodies work out
+    → CarriedOutAs L (filtered L M o (record { held = held; known = k }) chunk) out x data-set packages map-heads map-room fragment-heads bodies work out
 unfolding filtered pass flatten
-held-ends L o k held chunk out work W P e x data-set packages map-heads map-room fragment-heads bodies limit same c q d h =
+held-ends L M o k held chunk out work W P e x data-set packages map-heads map-room fragment-heads bodies limit same c q d h =
     let z : cut (packetLimit (L .work)) (held ++ chunk) ≡ hold (held ++ chunk) = ap (λ (n : ℕ). cut (packetLimit n) (held ++ chunk)) same ∙ ap (λ (n : ℕ). cut n (held ++ chunk)) (sym limit) ∙ c in
     rw (z, q) (record { holding = h; held-is = refl; held-bytes = d; counts-are = refl; written = wrote-none out 0 })
 
 -- ---- copy-all, or not
 
 -- Copy-all writes the chunk and leaves the rest; it holds nothing.
-pub all-copied : (L : Limits) (o : Options) (k : Known) (held-count : ℕ) (chunk work out out′ : Bytes) (e : Extent) (x : CarriedOut) (data-set packages map-heads map-room fragment-heads : List ℕ) (bodies : Bytes)
+pub all-copied : (L : Limits) (M : Modes) (o : Options) (k : Known) (held-count : ℕ) (chunk work out out′ : Bytes) (e : Extent) (x : CarriedOut) (data-set packages map-heads map-room fragment-heads : List ℕ) (bodies : Bytes)
     → copiesAll o ≡ true → held-count ≡ 0 → x ≡ record { extent = e; counts = countsOf (length chunk); «held_count» = 0 } → Wrote chunk out 0 out′ (length chunk)
     → Holding (L .total) k e data-set packages map-heads map-room fragment-heads bodies
-    → CarriedOutAs L (push L o (record { held = take held-count work; known = k }) chunk) out x data-set packages map-heads map-room fragment-heads bodies work out′
+    → CarriedOutAs L (push L M o (record { held = take held-count work; known = k }) chunk) out x data-set packages map-heads map-room fragment-heads bodies work out′
 unfolding push flatten
-all-copied L o k held-count chunk work out out′ e x data-set packages map-heads map-room fragment-heads bodies all none q w h =
+all-copied L M o k held-count chunk work out out′ e x data-set packages map-heads map-room fragment-heads bodies all none q w h =
     let z : take held-count work ≡ [] = ap (λ (n : ℕ). take n work) none in
     rw (all, q)
     (record {
@@ -179,9 +183,9 @@ all-copied L o k held-count chunk work out out′ e x data-set packages map-head
       written = subst (λ (y : Bytes). Wrote y out 0 out′ (length chunk)) (sym (append-nil chunk)) w;
     })
 
-pub not-all : (L : Limits) (o : Options) (st : State) (chunk : Bytes) → copiesAll o ≡ false → filtered L o st chunk ≡ push L o st chunk
+pub not-all : (L : Limits) (M : Modes) (o : Options) (st : State) (chunk : Bytes) → copiesAll o ≡ false → filtered L M o st chunk ≡ push L M o st chunk
 unfolding push
-not-all L o st chunk e = rw e
+not-all L M o st chunk e = rw e
 
 module _ {L : Limits} {x y : Outcome} {out : Bytes} {r : CarriedOut} {data-set packages map-heads map-room fragment-heads : List ℕ} {bodies work out′ : Bytes} where
   pub ran-as : x ≡ y → CarriedOutAs L x out r data-set packages map-heads map-room fragment-heads bodies work out′ → CarriedOutAs L y out r data-set packages map-heads map-room fragment-heads bodies work out′

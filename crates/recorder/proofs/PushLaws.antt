@@ -121,9 +121,9 @@ module _ (f : Filter) (work bodies : Bytes) (map-room : List ℕ) (chunk out : B
     L = limitsOf (f .work) (f .total) (f .most)
 
     abbrev after : Outcome
-    after = push L (f .options) (stateOf r work bodies map-room) chunk
+    after = push L (f .modes) (f .options) (stateOf r work bodies map-room) chunk
 
-    called-done : called r work bodies map-room chunk (length out) ≡ record { number = 0; out = after .out; counts = after .counts; handed = recordOf L (f .options) (after .state) }
+    called-done : called r work bodies map-room chunk (length out) ≡ record { number = 0; out = after .out; counts = after .counts; handed = recordOf L (f .modes) (f .options) (after .state) }
     unfolding called recordIn
     called-done = rw (sym (ap (λ (n : ℕ). eqb n 0) number-is) ∙ e)
 
@@ -135,22 +135,23 @@ module _ (f : Filter) (work bodies : Bytes) (map-room : List ℕ) (chunk out : B
           let c = called-done in
           let s = when-done .is-sound in
           let p = record-parts r (length work) (length bodies) (length map-room) s in
+          let M = f .modes in
           let o = f .options in
-          let same : recordIn (handedOf (begunOf f) x data-set packages map-heads fragment-heads) ≡ recordOf L o (after .state) = record-back L o (after .state) (h .holding) (x .«held_count») (h .held-is) in
+          let same : recordIn (handedOf (begunOf f) x data-set packages map-heads fragment-heads) ≡ recordOf L M o (after .state) = record-back L M o (after .state) (h .holding) (x .«held_count») (h .held-is) in
           let four : 4 ≤ packetLimit (L .work) = subst (λ (n : ℕ). 4 ≤ packetLimit n) (sym (p .work-is)) (good-limit (length work) (p .work-good)) in
-          let holds : HoldsState L o (after .state) = push-holds L o (stateOf r work bodies map-room) chunk four (state-holds r work bodies map-room s) in
+          let holds : HoldsState L o (after .state) = push-holds L M o (stateOf r work bodies map-room) chunk four (state-holds r work bodies map-room s) in
           let front : take (length (after .state .held)) work′ ≡ after .state .held = ap (λ (n : ℕ). take n work′) (sym (h .held-is)) ∙ h .held-bytes in
           record {
             answer-is = rw c (eqb-true (answerNumber a) 0 e);
             counts-are = rw c (h .counts-are);
             handed-is = rw c same;
             written = rw (c, h .counts-are) (h .written);
-            rooms = rw (c, same) (state-again L o (after .state) (h .holding) work′ holds front);
+            rooms = rw (c, same) (state-again L M o (after .state) (h .holding) work′ holds front);
             work-length = long;
             bodies-length = h .holding .fragments-kept .total ∙ p .total-is;
           }
 
-      pub done-as : CarriesOut (λ L st. push L (f .options) st chunk) (f .most) (f .«held_count») (extentOf f) (f .«data_set») (cleared (f .«package_count») (f .packages)) (cleared (f .«map_count») (f .«map_heads»)) map-room
+      pub done-as : CarriesOut (λ L st. push L (f .modes) (f .options) st chunk) (f .most) (f .«held_count») (extentOf f) (f .«data_set») (cleared (f .«package_count») (f .packages)) (cleared (f .«map_count») (f .«map_heads»)) map-room
           (cleared (f .«fragment_count») (f .«fragment_heads»)) bodies work out x data-set packages map-heads map-room′ fragment-heads bodies′ work′ out′ → length work′ ≡ length work
           → PushedAs r work bodies map-room chunk out (record { answer = a; counts = x .counts; filter = handedOf (begunOf f) x data-set packages map-heads fragment-heads }) work′ bodies′ map-room′ out′
       unfolding recordIn stateOf

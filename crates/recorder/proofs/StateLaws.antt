@@ -16,6 +16,7 @@ use Rattle.meaning.specs.Record.{State, slots, Record, packPair, pairOf, fragme
 use Rattle.meaning.specs.Soundness.{rising, distinct, soundPackages, soundMaps, soundFragments, sound, HoldsPackages, HoldsMaps, HoldsFragments}
 use Rattle.meaning.specs.declared.Limits.{Limits}
 use Rattle.meaning.specs.declared.Options.{Options}
+use Rattle.meaning.specs.declared.Modes.{Modes}
 use Rattle.meaning.proofs.ListLaws.{and-both}
 use Rattle.meaning.proofs.SoundnessLaws.{HoldsState, state-holds, state-back}
 use Rattle.fragments.specs.Fragments.{KeptFragments}
@@ -173,9 +174,10 @@ state-held r work bodies map-room e s w n =
 -- ---- the record of arrays that hold a state
 
 -- A record by an extent's numbers and arrays.
-abbrev pub recordWith : Limits → Options → ℕ → Extent → List ℕ → List ℕ → List ℕ → List ℕ → Record
-recordWith L o held-count e data-set packages map-heads fragment-heads = record {
+abbrev pub recordWith : Limits → Modes → Options → ℕ → Extent → List ℕ → List ℕ → List ℕ → List ℕ → Record
+recordWith L M o held-count e data-set packages map-heads fragment-heads = record {
   limits = L;
+  modes = M;
   options = o;
   held-count = held-count;
   plt-seen = e .seen;
@@ -192,15 +194,16 @@ recordWith L o held-count e data-set packages map-heads fragment-heads = record 
 by-front : (n : ℕ) (xs ys : List ℕ) → take n xs ≡ ys → xs ≡ ys ++ drop n xs
 by-front n xs ys e = sym (take-append-drop n xs) ∙ ap (λ (zs : List ℕ). zs ++ drop n xs) e
 
-module _ (L : Limits) (o : Options) (st : State) {e : Extent} {data-set packages map-heads map-room fragment-heads : List ℕ} {bodies : Bytes}
+module _ (L : Limits) (M : Modes) (o : Options) (st : State) {e : Extent} {data-set packages map-heads map-room fragment-heads : List ℕ} {bodies : Bytes}
     (k : Holding (L .total) (st .known) e data-set packages map-heads map-room fragment-heads bodies) where
-  pub record-back : (n : ℕ) → n ≡ length (st .held) → recordWith L o n e data-set packages map-heads fragment-heads ≡ recordOf L o st
+  pub record-back : (n : ℕ) → n ≡ length (st .held) → recordWith L M o n e data-set packages map-heads fragment-heads ≡ recordOf L M o st
   unfolding recordOf
   record-back n h =
       let t = k .tables-kept in
       let f = k .fragments-kept in
       λ i. record {
         limits = L;
+        modes = M;
         options = o;
         held-count = h i;
         plt-seen = t .seen i;
@@ -214,13 +217,13 @@ module _ (L : Limits) (o : Options) (st : State) {e : Extent} {data-set packages
       }
 
   -- with a work room that begins with the held bytes, the record's state is this one
-  pub state-again : (work : Bytes) → HoldsState L o st → take (length (st .held)) work ≡ st .held → stateOf (recordOf L o st) work bodies map-room ≡ st
+  pub state-again : (work : Bytes) → HoldsState L o st → take (length (st .held)) work ≡ st .held → stateOf (recordOf L M o st) work bodies map-room ≡ st
   state-again work h w =
       let fs = st .known .fragments in
       let n = length (st .held) in
       let m = fragmentBytes fs in
       let at-work : work ≡ st .held ++ drop n work = by-front n work (st .held) w in
       let at-bytes : bodies ≡ bodiesOf fs ++ drop m bodies = by-front m bodies (bodiesOf fs) (k .fragments-kept .front) in
-      let same : stateOf (recordOf L o st) work bodies map-room ≡ stateOf (recordOf L o st) (st .held ++ drop n work) (bodiesOf fs ++ drop m bodies) (st .known .map-room) =
-      λ i. stateOf (recordOf L o st) (at-work i) (at-bytes i) (k .tables-kept .map-room-is i) in
-      same ∙ state-back L o st (k .fragments-kept .total-few) h (drop n work) (drop m bodies)
+      let same : stateOf (recordOf L M o st) work bodies map-room ≡ stateOf (recordOf L M o st) (st .held ++ drop n work) (bodiesOf fs ++ drop m bodies) (st .known .map-room) =
+      λ i. stateOf (recordOf L M o st) (at-work i) (at-bytes i) (k .tables-kept .map-room-is i) in
+      same ∙ state-back L M o st (k .fragments-kept .total-few) h (drop n work) (drop m bodies)

@@ -16,6 +16,7 @@ use Rattle.meaning.specs.Push.{Outcome, push, called}
 use Rattle.meaning.specs.Dropped.{droppedNow}
 use Rattle.meaning.specs.declared.Limits.{Limits}
 use Rattle.meaning.specs.declared.Options.{Options}
+use Rattle.meaning.specs.declared.Modes.{Modes}
 use Rattle.observing.specs.Observed.{Holding}
 use Rattle.learning.specs.declared.Extent.{Extent}
 use Rattle.recorder.specs.declared.call.CarriedOut.{CarriedOut}
@@ -60,7 +61,7 @@ pub record PushedAs (r : Record) (work bodies : Bytes) (map-room : List ℕ) (ch
   pub counts-are : x .counts ≡ called r work bodies map-room chunk (length out) .counts
   pub handed-is : recordIn (x .filter) ≡ called r work bodies map-room chunk (length out) .handed
   pub written : Wrote (flatten (called r work bodies map-room chunk (length out) .out)) out 0 out′ (x .counts .bytes)
-  pub rooms : RoomsAfter (eqb (called r work bodies map-room chunk (length out) .number) 0) (push (r .limits) (r .options) (stateOf r work bodies map-room) chunk .state)
+  pub rooms : RoomsAfter (eqb (called r work bodies map-room chunk (length out) .number) 0) (push (r .limits) (r .modes) (r .options) (stateOf r work bodies map-room) chunk .state)
       (recordIn (x .filter)) work bodies map-room work′ bodies′ map-room′
   -- refused or not, so that the next call finds rooms of the start's lengths; the map room's is told by the state in it
   pub work-length : length work′ ≡ length work
@@ -69,9 +70,9 @@ pub record PushedAs (r : Record) (work bodies : Bytes) (map-room : List ℕ) (ch
 -- ---- a start, and the number of dropped identifiers
 
 -- A start reads the lengths of the rooms, and touches none.
-pub record StartedAs (L : Limits) (o : Options) (map-room : List ℕ) (x : code′.Started) : Type 0 where
-  pub answer-is : answerNumber (x .answer) ≡ started L o map-room .number
-  pub handed-is : recordIn (x .filter) ≡ started L o map-room .handed
+pub record StartedAs (L : Limits) (M : Modes) (o : Options) (map-room : List ℕ) (x : code′.Started) : Type 0 where
+  pub answer-is : answerNumber (x .answer) ≡ started L M o map-room .number
+  pub handed-is : recordIn (x .filter) ≡ started L M o map-room .handed
 
 -- It hands back the record that it was given, refused or not.
 pub record DroppedAs (r : Record) (work bodies : Bytes) (map-room : List ℕ) (x : code″.Dropped) : Type 0 where

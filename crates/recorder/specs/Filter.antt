@@ -6,6 +6,7 @@ use lib.ListN.{replicate}
 use Rattle.meaning.specs.Record.{Record}
 use Rattle.meaning.specs.declared.Limits.{Limits}
 use Rattle.meaning.specs.declared.Options.{Options}
+use Rattle.meaning.specs.declared.Modes.{Modes}
 use Rattle.soundness.specs.Parts.{limitsOf}
 use Rattle.learning.specs.declared.Extent.{Extent}
 use Rattle.recorder.specs.declared.Filter.{Filter}
@@ -15,6 +16,7 @@ use Rattle.recorder.specs.declared.call.CarriedOut.{CarriedOut}
 unfoldable pub recordIn : Filter → Record
 recordIn f = record {
   limits = limitsOf (f .work) (f .total) (f .most);
+  modes = f .modes;
   options = f .options;
   held-count = f .«held_count»;
   plt-seen = f .seen;
@@ -28,9 +30,10 @@ recordIn f = record {
 }
 
 -- A record that holds and knows nothing.
-abbrev pub freshRecord : Limits → Options → Record
-freshRecord L o = record {
+abbrev pub freshRecord : Limits → Modes → Options → Record
+freshRecord L M o = record {
   limits = L;
+  modes = M;
   options = o;
   held-count = 0;
   plt-seen = false;
@@ -50,7 +53,7 @@ abbrev pub extentOf : Filter → Extent
 extentOf f = record { seen = f .seen; «package_count» = f .«package_count»; «map_count» = f .«map_count»; «fragment_count» = f .«fragment_count»; lost = 0; changed = false }
 
 abbrev pub begunOf : Filter → Begun
-begunOf f = record { limits = limitsOf (f .work) (f .total) (f .most); options = f .options; «held_count» = f .«held_count»; extent = extentOf f }
+begunOf f = record { limits = limitsOf (f .work) (f .total) (f .most); modes = f .modes; options = f .options; «held_count» = f .«held_count»; extent = extentOf f }
 
 -- The record after a call: its limits and options stay.
 abbrev pub handedOf : Begun → CarriedOut → List ℕ → List ℕ → List ℕ → List ℕ → Filter
@@ -58,6 +61,7 @@ handedOf b x data-set packages map-heads fragment-heads = record {
   work = b .limits .work;
   total = b .limits .total;
   most = b .limits .most;
+  modes = b .modes;
   options = b .options;
   «held_count» = x .«held_count»;
   seen = x .extent .seen;

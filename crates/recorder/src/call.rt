@@ -23,6 +23,7 @@ use learning::Extent;
 use meaning::Answer;
 use meaning::Counts;
 use meaning::Limits;
+use meaning::Modes;
 use meaning::Options;
 use meaning::Refusal;
 use octets::copy;
@@ -169,20 +170,23 @@ fn copied(chunk: &[u8], e: Extent, out: &mut [u8]) -> CarriedOut
     }
 }
 
-// What a call begins with beside the arrays: its record's limits and wishes, how many bytes are held, and how much is known.
+// What a call begins with beside the arrays: its record's limits, modes and wishes, how many bytes are held, and how much is known.
 pub struct Begun {
     pub limits: Limits,
+    pub modes: Modes,
     pub options: Options,
     pub held_count: usize,
     pub extent: Extent,
 }
 
 fn terms_of(b: Begun, work: usize) -> Terms
-    ensures { λ r. ⌜ r ≡ record { options = b .options; limit = packetLimit work; most = b .limits .most } ⌝ }
+    ensures { λ r. ⌜ r ≡ record { modes = b .modes; options = b .options; limit = packetLimit work; most = b .limits .most } ⌝ }
 {
+    let modes = b.modes;
     let options = b.options;
     let l = b.limits;
     Terms {
+        modes,
         options,
         limit: packet_limit(work),
         most: l.most,
@@ -203,7 +207,7 @@ pub fn carry_out(
     out: &mut [u8],
 ) -> CarriedOut
     requires { ⌜ RoomFor (b .extent) (b .«held_count») (now chunk) (now work) (now out) × (copiesAll (b .options) ≡ true → b .«held_count» ≡ 0) × HoldingSome (b .extent) (now «data_set») (now packages) (now «map_heads») (now «map_room») (now «fragment_heads») (now bodies) ⌝ }
-    ensures { λ r. ⌜ CarriesOut (λ L st. push L (b .options) st (now (chunk .entry))) (b .limits .most) (b .«held_count») (b .extent) (now («data_set» .entry)) (now (packages .entry)) (now («map_heads» .entry)) (now («map_room» .entry)) (now («fragment_heads» .entry)) (now (bodies .entry)) (now (work .entry)) (now (out .entry)) r (now («data_set» .exit)) (now (packages .exit)) (now («map_heads» .exit)) (now («map_room» .exit)) (now («fragment_heads» .exit)) (now (bodies .exit)) (now (work .exit)) (now (out .exit)) ⌝ }
+    ensures { λ r. ⌜ CarriesOut (λ L st. push L (b .modes) (b .options) st (now (chunk .entry))) (b .limits .most) (b .«held_count») (b .extent) (now («data_set» .entry)) (now (packages .entry)) (now («map_heads» .entry)) (now («map_room» .entry)) (now («fragment_heads» .entry)) (now (bodies .entry)) (now (work .entry)) (now (out .entry)) r (now («data_set» .exit)) (now (packages .exit)) (now («map_heads» .exit)) (now («map_room» .exit)) (now («fragment_heads» .exit)) (now (bodies .exit)) (now (work .exit)) (now (out .exit)) ⌝ }
 {
     let o = b.options;
     let e = b.extent;

@@ -29,6 +29,7 @@ use learning::Extent;
 use meaning::Answer;
 use meaning::Counts;
 use meaning::Limits;
+use meaning::Modes;
 use meaning::Options;
 use meaning::Refusal;
 use meaning::Service;
@@ -45,6 +46,7 @@ pub struct Filter {
     pub work: usize,
     pub total: usize,
     pub most: usize,
+    pub modes: Modes,
     pub options: Options,
     // How many bytes are held, at the front of the work room.
     pub held_count: usize,
@@ -70,13 +72,14 @@ pub struct Started {
 }
 
 // Nothing held and nothing known.
-fn fresh(work: usize, total: usize, most: usize, options: Options) -> Filter
-    ensures { λ r. ⌜ recordIn r ≡ freshRecord (limitsOf work total most) options ⌝ }
+fn fresh(work: usize, total: usize, most: usize, options: Options, modes: Modes) -> Filter
+    ensures { λ r. ⌜ recordIn r ≡ freshRecord (limitsOf work total most) modes options ⌝ }
 {
     Filter {
         work,
         total,
         most,
+        modes,
         options,
         held_count: 0,
         seen: false,
@@ -102,13 +105,20 @@ fn not_started(r: Refusal) -> Started
     };
     Started {
         answer: Answer::Refused(r),
-        filter: fresh(0, 0, 0, o),
+        filter: fresh(0, 0, 0, o, Modes { plain_ip: false }),
     }
 }
 
 // A recorder with these rooms. A middle or last that takes a message above `most` bytes discards it; a first is not asked.
-pub fn start(work: &[u8], bodies: &[u8], map_room: &[u16], most: usize, options: Options) -> Started
-    ensures { λ x. ⌜ StartedAs (limitsOf (length (now (work .entry))) (length (now (bodies .entry))) most) options (now («map_room» .entry)) x ⌝ }
+pub fn start(
+    work: &[u8],
+    bodies: &[u8],
+    map_room: &[u16],
+    most: usize,
+    options: Options,
+    modes: Modes,
+) -> Started
+    ensures { λ x. ⌜ StartedAs (limitsOf (length (now (work .entry))) (length (now (bodies .entry))) most) modes options (now («map_room» .entry)) x ⌝ }
 {
     if !good_work_room(work.len()) {
         return not_started(Refusal::WorkRoom);
@@ -124,7 +134,7 @@ pub fn start(work: &[u8], bodies: &[u8], map_room: &[u16], most: usize, options:
     }
     Started {
         answer: Answer::Done,
-        filter: fresh(work.len(), bodies.len(), most, options),
+        filter: fresh(work.len(), bodies.len(), most, options, modes),
     }
 }
 
@@ -171,9 +181,11 @@ fn extent_of(f: Filter) -> Extent
 fn begun(f: Filter) -> Begun
     ensures { λ r. ⌜ r ≡ begunOf f ⌝ }
 {
+    let m = f.modes;
     let o = f.options;
     Begun {
         limits: limits_of(f),
+        modes: m,
         options: o,
         held_count: f.held_count,
         extent: extent_of(f),
@@ -220,12 +232,14 @@ fn handed(
     ensures { λ x. ⌜ x ≡ handedOf b r «data_set» packages «map_heads» «fragment_heads» ⌝ }
 {
     let l = b.limits;
+    let m = b.modes;
     let o = b.options;
     let e = r.extent;
     Filter {
         work: l.work,
         total: l.total,
         most: l.most,
+        modes: m,
         options: o,
         held_count: r.held_count,
         seen: e.seen,

@@ -10,6 +10,7 @@ use crate::records::MAPS;
 use crate::records::T;
 use crate::records::W;
 use meaning::Counts;
+use meaning::Modes;
 use meaning::Options;
 use meaning::Service;
 use programs::asked::answer_number;
@@ -193,6 +194,11 @@ fn same_record(f: Filter, g: Filter) -> bool {
     if !same_options(o, p) {
         return false;
     }
+    let m = f.modes;
+    let n = g.modes;
+    if m.plain_ip != n.plain_ip {
+        return false;
+    }
     if !same_limits(f, g) {
         return false;
     }
@@ -312,7 +318,7 @@ pub fn calls_with(
     calls_in(x, work, bodies, map_room, out)
 }
 
-// A start with the rooms that most records go with; it wants all but captions.
+// A start with the rooms that most records go with; it wants all but captions, and has the mode on, which no refusal asks.
 pub fn start_in(work: &[u8], bodies: &[u8], map_room: &[u16]) -> Started {
     let w = least(W, work.len());
     let t = least(T, bodies.len());
@@ -324,5 +330,12 @@ pub fn start_in(work: &[u8], bodies: &[u8], map_room: &[u16]) -> Started {
         eit: true,
         other: true,
     };
-    start(&work[0..w], &bodies[0..t], &map_room[0..m], T, o)
+    start(
+        &work[0..w],
+        &bodies[0..t],
+        &map_room[0..m],
+        T,
+        o,
+        Modes { plain_ip: true },
+    )
 }

@@ -12,6 +12,9 @@ id16-requires c κs = search needs
 options-of-requires : tie.Need-options-of-requires
 options-of-requires c κs = search needs
 
+modes-of-requires : tie.Need-modes-of-requires
+modes-of-requires c κs = search needs
+
 add-id16 : tie.Need-add-id16
 add-id16 c = search needs
 
@@ -31,7 +34,9 @@ be32-requires-2 : tie.Need-be32-requires-2
 be32-requires-2 c κs = search needs
 
 returns : tie.Need-returns
-returns c = let a = c .before .before .before .before .before .before .before .args in head-is (a .head .now) (a .at) (c .before .before .before .before .id16 .ensures) (c .before .before .before .options-of .ensures) (c .before .before .id162 .ensures) (c .before .be32 .ensures .0) (c .be322 .ensures .0)
+returns c =
+    let a = c .before .before .before .before .before .before .before .before .args in
+    head-is (a .head .now) (a .at) (a .modes) (c .before .before .before .before .before .id16 .ensures) (c .before .before .before .before .options-of .ensures) (c .before .before .before .modes-of .ensures) (c .before .before .id162 .ensures) (c .before .be32 .ensures .0) (c .be322 .ensures .0)
 
 pub head-at-spec : {M : Type 1} → statement M
 head-at-spec =
@@ -40,6 +45,7 @@ head-at-spec =
     shared-slice-read-options-of
     id16-requires
     options-of-requires
+    modes-of-requires
     add-id16
     id16-requires-2
     add-be32

@@ -19,7 +19,7 @@ observe-requires c κs =
     let h = x .6 .holding in
     rw (c .before .before .before .before .before .before .before .unchanged .ensures, part-is _ (z .pre .0 .1) (c .before .before .before .before .before .before .packet-payload .ensures)) (
       observer-fits (a .s .extent .lost) _ (z .pre .0 .1) (z .pre .1 .lost-fit) (rw (h .fragments-kept .total) (h .fragments-kept .total-few)),
-      (x .0 .total, pass (x .0) (a .t .options) (x .1) (x .3) .known, holding-anew h),
+      (x .0 .total, pass (x .0) (a .t .modes) (a .t .options) (x .1) (x .3) .known, holding-anew h),
     )
 
 refreshed-requires : tie.Need-refreshed-requires
@@ -28,7 +28,7 @@ refreshed-requires c κs =
     let a = z .args in
     let x = z .pre .2 in
     let y = rw (c .before .before .before .before .before .before .before .before .before .before .before .before .before .before .before .before .before .unchanged .ensures) at (c .before .before .before .before .before .before .before .before .before .observe .ensures .0) in
-    (_, y (x .0) (pass (x .0) (a .t .options) (x .1) (x .3) .known) (x .5) (holding-anew (x .6 .holding)) .holding .tables-kept)
+    (_, y (x .0) (pass (x .0) (a .t .modes) (a .t .options) (x .1) (x .3) .known) (x .5) (holding-anew (x .6 .holding)) .holding .tables-kept)
 
 emit-requires : tie.Need-emit-requires
 emit-requires c κs =
@@ -53,9 +53,9 @@ returns c =
     let h = z .pre .2 .6 .holding .fragments-kept in
     let y = rw (c .before .before .before .before .before .before .before .before .before .before .before .before .before .before .before .before .before .before .before .before .before .before .before .unchanged .ensures, part-is _ (z .pre .0 .1) (c .before .before .before .before .before .before .before .before .before .before .before .before .before .before .before .before .before .before .before .before .before .before .packet-payload .ensures)) at (c .before .before .before .before .before .before .before .before .before .before .before .before .before .before .before .observe .ensures) in (
       (λ L k d ps n most f.
-          signalled L (a .t .options) k d ps n (a .s) _ (z .pre .0 .1) f
-          (y .0 L (pass L (a .t .options) k ps .known) most (holding-anew (f .holding))) (c .before .before .before .before .before .refreshed .ensures) (c .before .before .emit .ensures)),
-      (λ m f. fits-after (a .t .options) (z .pre .0 .1) (a .s) _ _ (a .out .now) _ (length (a .bodies .now)) (c .before .before .emit .ensures) (y .1) (rw (h .total) (h .total-few)) (same-length-3 c) m f),
+          signalled L (a .t .modes) (a .t .options) k d ps n (a .s) _ (z .pre .0 .1) f
+          (y .0 L (pass L (a .t .modes) (a .t .options) k ps .known) most (holding-anew (f .holding))) (c .before .before .before .before .before .refreshed .ensures) (c .before .before .emit .ensures)),
+      (λ m f. fits-after (a .t .modes) (a .t .options) (z .pre .0 .1) (a .s) _ _ (a .out .now) _ (length (a .bodies .now)) (c .before .before .emit .ensures) (y .1) (rw (h .total) (h .total-few)) (same-length-3 c) m f),
     )
 
 pub signalling-spec : {M : Type 1} → statement M

@@ -5,7 +5,7 @@
 //! Only these 256 calls count. A turn starts a filter, hands it all that comes before them as one chunk, and then the bytes;
 //! the turn whose time is taken away does the same without the bytes.
 
-use face::Part;
+use face::{Modes, Part};
 
 use crate::measure::Row;
 use crate::passage::Passage;
@@ -29,6 +29,7 @@ fn row(name: &str, held: usize) -> Row {
     let passage = |stream: &[u8]| Passage {
         stream: stream.into(),
         options: NEITHER,
+        modes: Modes::OFF,
         first,
         size: 1,
     };

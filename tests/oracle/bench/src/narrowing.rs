@@ -1,16 +1,16 @@
 //! Rows on narrowing: packets with a table of 8 entries, or with none. The original's side is its `packet` without
 //! what it learns, the proved one `rewrite`, and `copy` where nothing changed. Both write to an output that is
-//! there already. The rows on `rewrite` alone leave away what stands around it on either side. Each side goes through
-//! the packets in its own language, so that no row holds a call from one to the other for each packet.
+//! there already. Each side goes through the packets in its own language, so that no row holds a call from one to the
+//! other for each packet. In plain IP nothing is cut out, so that the original gives the same in either mode.
 
-use face::Options;
+use face::{Modes, Options};
 use oracle::builders::{
     NO_CAPTIONS, asset, here, long_message, mpt, only, plt, service_at, signalling, tables, whole,
 };
 use original::Parts;
 
-use crate::measure::{Row, Turn};
-use crate::proved::{BODY, IDENTIFIER, Work, each};
+use crate::measure::Row;
+use crate::proved::{Work, each};
 
 const PACKETS: usize = 64;
 const ENTRIES: usize = 8;
@@ -20,10 +20,10 @@ pub fn rows() -> Vec<Row> {
         carousel: false,
         ..NO_CAPTIONS
     };
-    let sent = |name, options, packets| row(name, options, packets, Work::Written);
+    let sent = |name, options, packets| row(name, (options, Modes::OFF), packets, Work::Written);
     // The original counts no entries: its side is the same with counts and without.
-    let counted = |name, options, packets| row(name, options, packets, Work::Counted);
-    let alone = |name, packets| row(name, neither, packets, Work::Rewritten);
+    let counted = |name, options, packets| row(name, (options, Modes::OFF), packets, Work::Counted);
+    let plain_ip = |name, modes| row(name, (neither, modes), uncut(), Work::Written);
     vec![
         sent("MPT of 8 entries, 1 goes", neither, mpts(1)),
         sent("MPT of 8 entries, 2 go", neither, mpts(2)),
@@ -32,10 +32,14 @@ pub fn rows() -> Vec<Row> {
         sent("PLT of 8 entries, one stays", only(0x0404), plts()),
         sent("no PA message, 1,400 bytes", neither, others()),
         counted("MPT of 8 entries, 2 go, with counts", neither, mpts(2)),
-        alone("rewrite alone, MPT of 8, 2 go", mpts(2)),
-        alone("rewrite alone, MPT of 8, none goes", mpts(0)),
-        alone("rewrite alone, no PA message, 1,400 bytes", others()),
+        plain_ip("plain IP, none goes, mode off", Modes::OFF),
+        plain_ip("plain IP, none goes, mode on", Modes::PLAIN_IP),
     ]
+}
+
+/// Plain IPv4 packets with an MPT each, in which nothing is to be cut out.
+fn uncut() -> Vec<Vec<u8>> {
+    maker::plain_ip_uncut(1, ENTRIES, PACKETS)
 }
 
 /// Packets with an MPT each. Of its captions and carousels this many go, elsewhere in each packet.
@@ -72,53 +76,24 @@ fn others() -> Vec<Vec<u8>> {
 }
 
 /// A row whose packets, all of one size, both sides narrow alike.
-fn row(name: &str, options: Options, packets: Vec<Vec<u8>>, work: Work) -> Row {
+fn row(name: &str, by: (Options, Modes), packets: Vec<Vec<u8>>, work: Work) -> Row {
     let (times, size) = (packets.len(), packets[0].len());
-    let mut filter = Parts::new(options);
+    let mut filter = Parts::new(by.0);
     let (mut out, mut grown) = (vec![0; size], Vec::with_capacity(size));
     for packet in &packets {
         assert_eq!(packet.len(), size, "{name}");
-        let written = each(work, packet, size, options, &mut out);
-        let proved = &out[front(work).min(written)..written];
-        assert_eq!(proved, by_original(&mut filter, work, packet), "{name}");
+        let written = each(work, packet, size, by, &mut out);
+        let mut expected = Vec::new();
+        filter.packet(packet, &mut expected);
+        assert_eq!(out[..written], expected, "{name}");
     }
     let packets = packets.concat();
     let given = packets.clone();
-    let original: Turn = match work {
-        Work::Rewritten => Box::new(move || filter.rewrites(&packets, size, IDENTIFIER, BODY)),
-        Work::Written | Work::Counted => {
-            Box::new(move || filter.packets(&packets, size, &mut grown))
-        }
-    };
     Row {
         name: name.to_owned(),
         times,
-        original,
-        proved: Box::new(move || each(work, &given, size, options, &mut out)),
+        original: Box::new(move || filter.packets(&packets, size, &mut grown)),
+        proved: Box::new(move || each(work, &given, size, by, &mut out)),
         aside: None,
     }
-}
-
-/// Where in a packet that the proved code wrote the bytes start that the original makes: of its own `rewrite` it is the
-/// payload alone.
-fn front(work: Work) -> usize {
-    match work {
-        Work::Rewritten => BODY,
-        Work::Written | Work::Counted => 0,
-    }
-}
-
-/// What the original makes of a packet; nothing where its `rewrite` leaves it.
-fn by_original(filter: &mut Parts, work: Work, packet: &[u8]) -> Vec<u8> {
-    let mut out = Vec::new();
-    match work {
-        Work::Rewritten => {
-            let identifier = u16::from_be_bytes([packet[IDENTIFIER], packet[IDENTIFIER + 1]]);
-            out = filter
-                .rewrite(identifier, &packet[BODY..])
-                .unwrap_or_default();
-        }
-        Work::Written | Work::Counted => filter.packet(packet, &mut out),
-    }
-    out
 }

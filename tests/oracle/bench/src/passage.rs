@@ -5,8 +5,9 @@
 use std::hint::black_box;
 use std::rc::Rc;
 
-use face::Options;
+use face::{Engine, Limits, Modes, Options};
 use original::Untouched;
+use plain::Plain;
 
 use crate::measure::Turn;
 
@@ -14,6 +15,12 @@ use crate::measure::Turn;
 const WORK: usize = 131_078;
 const BODIES: usize = 1 << 20;
 const MAPS: usize = 32_768;
+const LIMITS: Limits = Limits {
+    work: WORK,
+    total: BODIES,
+    most: BODIES,
+    maps: MAPS,
+};
 
 unsafe extern "C" {
     fn driver_stream(
@@ -24,6 +31,7 @@ unsafe extern "C" {
         kept: bool,
         flags: u8,
         service: u16,
+        modes: u8,
         work: *mut u8,
         work_length: usize,
         bodies: *mut u8,
@@ -40,6 +48,7 @@ unsafe extern "C" {
 pub struct Passage {
     pub stream: Rc<[u8]>,
     pub options: Options,
+    pub modes: Modes,
     pub first: usize,
     pub size: usize,
 }
@@ -51,11 +60,16 @@ impl Passage {
         usize::from(self.first > 0) + rest.div_ceil(self.size)
     }
 
-    /// Compares what both filters write, all of it; answers how many bytes that is.
+    /// Compares what both filters write, all of it; answers how many bytes that is. In a mode that the original does not
+    /// know the second filter takes its place.
     pub fn compared(&self, name: &str) -> usize {
         let mut rooms = Rooms::new(self.stream.len());
         let mut out = Vec::new();
-        self.by_original(true, &mut out);
+        if self.modes.all_off() {
+            self.by_original(true, &mut out);
+        } else {
+            self.by_plain(&mut out);
+        }
         let written = rooms.pass(self, true);
         assert!(rooms.out[..written] == out, "{name}");
         written
@@ -82,6 +96,17 @@ impl Passage {
             let rest = &passage.stream[passage.first..];
             rest.chunks(passage.size).map(&mut copy).sum()
         })
+    }
+
+    fn by_plain(&self, out: &mut Vec<u8>) {
+        let mut filter = Plain::start(LIMITS, self.options, self.modes).expect("a start");
+        let (first, rest) = self.stream.split_at(self.first);
+        for chunk in first
+            .chunks(first.len().max(1))
+            .chain(rest.chunks(self.size))
+        {
+            out.extend(filter.push(chunk, 2 * WORK).expect("a call").out);
+        }
     }
 
     fn by_original(&self, kept: bool, out: &mut Vec<u8>) -> usize {
@@ -120,6 +145,7 @@ impl Rooms {
                 kept,
                 passage.options.flags(),
                 passage.options.service.unwrap_or(0),
+                passage.modes.bits(),
                 self.work.as_mut_ptr(),
                 self.work.len(),
                 self.bodies.as_mut_ptr(),

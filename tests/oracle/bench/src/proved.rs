@@ -1,6 +1,6 @@
 //! The proved narrowing behind the driver (`driver/lib.rt.in`). A slice goes over as its place and its length.
 
-use face::Options;
+use face::{Modes, Options};
 
 unsafe extern "C" {
     fn driver_each(
@@ -11,14 +11,11 @@ unsafe extern "C" {
         count: usize,
         flags: u8,
         service: u16,
+        modes: u8,
         out: *mut u8,
         room: usize,
     ) -> usize;
 }
-
-/// Where the driver takes identifier and payload from in a packet that it rewrites alone.
-pub const IDENTIFIER: usize = 9;
-pub const BODY: usize = 19;
 
 /// What the driver does with a packet, by its number there.
 #[derive(Clone, Copy)]
@@ -27,19 +24,32 @@ pub enum Work {
     Written,
     /// Narrows it by itself, its entries counted; nothing is written where it stays.
     Counted,
-    /// Narrows it by `rewrite` alone.
-    Rewritten,
 }
 
 /// Does so with each packet of `size` bytes; answers how many bytes were written.
-pub fn each(work: Work, packets: &[u8], size: usize, options: Options, out: &mut [u8]) -> usize {
+pub fn each(
+    work: Work,
+    packets: &[u8],
+    size: usize,
+    (options, modes): (Options, Modes),
+    out: &mut [u8],
+) -> usize {
     let (flags, service) = (options.flags(), options.service.unwrap_or(0));
     let (length, count) = (packets.len(), packets.len() / size);
     let (from, to, room) = (packets.as_ptr(), out.as_mut_ptr(), out.len());
     // SAFETY: both are whole slices that do not overlap, and the driver keeps neither.
     unsafe {
         driver_each(
-            work as u8, from, length, size, count, flags, service, to, room,
+            work as u8,
+            from,
+            length,
+            size,
+            count,
+            flags,
+            service,
+            modes.bits(),
+            to,
+            room,
         )
     }
 }

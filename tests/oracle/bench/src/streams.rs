@@ -2,7 +2,7 @@
 
 use std::rc::Rc;
 
-use face::{Options, Part};
+use face::{Modes, Options, Part};
 use oracle::builders::{ALL, NO_CAPTIONS, only};
 
 const SIZE: usize = 1 << 20;
@@ -11,6 +11,8 @@ const SEED: u64 = 1;
 pub const MAXIMUM: usize = 65_539;
 /// A media packet as it is on the air.
 const USUAL: usize = 1_400;
+/// The entries of an MPT in which nothing is to be cut out.
+const ENTRIES: usize = 8;
 /// The smallest packet: a header with nothing behind it.
 const SMALLEST: usize = 4;
 
@@ -20,9 +22,13 @@ pub const NEITHER: Options = Options {
     ..NO_CAPTIONS
 };
 
+/// All but EIT, which is no asset: no table changes.
+pub const NO_EIT: Options = Options { eit: false, ..ALL };
+
 pub struct Stream {
     pub name: &'static str,
     pub options: Options,
+    pub modes: Modes,
     pub bytes: Rc<[u8]>,
 }
 
@@ -30,10 +36,17 @@ pub fn streams() -> Vec<Stream> {
     let stream = |name, options, bytes: Vec<u8>| Stream {
         name,
         options,
+        modes: Modes::OFF,
         bytes: bytes.into(),
+    };
+    let narrowed = |stream: Stream| Stream {
+        modes: Modes::PLAIN_IP,
+        ..stream
     };
     let neither = |name, bytes| stream(name, NEITHER, bytes);
     let air = || maker::air(SEED, SIZE);
+    let plain_ip_air = || maker::plain_ip_air(SEED, SIZE);
+    let uncut = || maker::plain_ip_uncut(SEED, ENTRIES, SIZE / 256).concat();
     let media = |part, packet| maker::media(SEED, part, packet, SIZE);
     let fragments = |identifiers| maker::fragmented(SEED, identifiers, SIZE);
     vec![
@@ -53,6 +66,20 @@ pub fn streams() -> Vec<Stream> {
         neither("fragments over 5", fragments(5)),
         neither("fragments over 16", fragments(16)),
         neither("fragments over 256", fragments(256)),
+        neither("air in plain IP, mode off", plain_ip_air()),
+        narrowed(neither("air in plain IP, mode on", plain_ip_air())),
+        stream(
+            "air in plain IP, none goes, mode off",
+            NO_EIT,
+            plain_ip_air(),
+        ),
+        narrowed(stream(
+            "air in plain IP, none goes, mode on",
+            NO_EIT,
+            plain_ip_air(),
+        )),
+        neither("plain IP, none goes, mode off", uncut()),
+        narrowed(neither("plain IP, none goes, mode on", uncut())),
     ]
 }
 
@@ -74,6 +101,8 @@ mod tests {
         for stream in streams() {
             let expected = match stream.name {
                 "air, no captions or carousels" => 85..=95,
+                name if name.starts_with("air in plain IP, none") => 99..=100,
+                name if name.starts_with("air in plain IP") => 85..=95,
                 "air, one service of six" => 15..=25,
                 "dense tables" => 60..=90,
                 "garbage, random" | "garbage, zeros" => 0..=20,

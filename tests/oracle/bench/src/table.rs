@@ -61,6 +61,7 @@ pub fn lines() -> Vec<Line> {
         passage: Passage {
             stream: stream.bytes.clone(),
             options: stream.options,
+            modes: stream.modes,
             first: 0,
             size,
         },

@@ -1,4 +1,4 @@
-//! What the filters of this workspace have in common: options, limits, counts and answers, in the words of 01 and 02,
+//! What the filters of this workspace have in common: options, modes, limits, counts and answers, in the words of 01 and 02,
 //! and the trait that each filter answers. It holds no rule of the filter itself.
 
 /// What is wanted of a broadcast: one service or all, and the four wishes.
@@ -54,6 +54,32 @@ impl Options {
 
     pub fn copies_all(&self) -> bool {
         self.service.is_none() && self.caption && self.carousel && self.eit && self.other
+    }
+}
+
+/// The modes that 02's requests add. All off is the base, and what is meant where nobody speaks of them.
+#[derive(Debug, Clone, Copy, Default, PartialEq, Eq)]
+pub struct Modes {
+    /// Request 2: tables in plain IPv4 and IPv6 packets are narrowed too.
+    pub plain_ip: bool,
+}
+
+impl Modes {
+    pub const OFF: Self = Self { plain_ip: false };
+    pub const PLAIN_IP: Self = Self { plain_ip: true };
+
+    /// The modes byte of cases: bit 0 is plain IP. `None`: a bit is set that has no meaning.
+    pub fn from_bits(bits: u8) -> Option<Self> {
+        let plain_ip = bits & 1 != 0;
+        (bits <= 1).then_some(Self { plain_ip })
+    }
+
+    pub fn bits(&self) -> u8 {
+        u8::from(self.plain_ip)
+    }
+
+    pub fn all_off(&self) -> bool {
+        *self == Self::OFF
     }
 }
 
@@ -126,7 +152,7 @@ pub enum Narrowed {
 
 /// A filter by 01 and the requests of 02. Refusals are their numbers; a refused call changes nothing.
 pub trait Engine: Sized {
-    fn start(limits: Limits, options: Options) -> Result<Self, u8>;
+    fn start(limits: Limits, options: Options, modes: Modes) -> Result<Self, u8>;
     /// `room` is the length of the output that is lent.
     fn push(&mut self, chunk: &[u8], room: usize) -> Result<Call, u8>;
     /// Bytes held now.
@@ -134,6 +160,12 @@ pub trait Engine: Sized {
     /// How many packet identifiers the present rules drop.
     fn dropped(&self) -> u32;
     /// `identifier` is read for a payload alone; `room` is the length of the output that is lent.
-    fn narrow(kind: Kind, options: Options, identifier: u16, input: &[u8], room: usize)
-    -> Narrowed;
+    fn narrow(
+        kind: Kind,
+        options: Options,
+        modes: Modes,
+        identifier: u16,
+        input: &[u8],
+        room: usize,
+    ) -> Narrowed;
 }

@@ -1,13 +1,15 @@
-//! Clean streams for benchmarks: one like a broadcast on the air, one dense with tables, and streams of packets that are all
-//! alike. Their broadcast never changes, so that a seed decides only the order and the media.
+//! Clean streams for benchmarks: one like a broadcast on the air, in compressed IP or in plain IP, one dense with tables, and
+//! streams of packets that are all alike. Their broadcast never changes, so that a seed decides only the order and the
+//! media.
 
 use face::Part;
 
+use crate::ip;
 use crate::messages::{self, Pa};
 use crate::mmtp::{MEDIA, SIGNALLING};
 use crate::rng::Rng;
 use crate::tables::{Asset, Location, Mpt, Package, Plt};
-use crate::tlv::{self, Carrier, NULL};
+use crate::tlv::{self, Carrier, IPV4_HEADER, NULL, UDP_HEADER};
 
 const SERVICES: u16 = 6;
 /// Media packets between two bursts of tables.
@@ -19,6 +21,8 @@ const FRAGMENTED: u16 = 0x2000;
 const UNREAD: u16 = 0x8000;
 /// What stands before a payload: the TLV, the compressed IP and the MMTP header.
 const HEADERS: usize = tlv::HEADER + 3 + 12;
+/// The same in plain IPv4.
+const PLAIN_HEADERS: usize = tlv::HEADER + IPV4_HEADER + UDP_HEADER + 12;
 const KINDS: [&[u8; 4]; 6] = [b"hvc1", b"mp4a", b"mp4a", b"stpp", b"aapp", b"asgd"];
 
 /// The stream under way. It ends with a null packet, so that it has exactly the length asked for.
@@ -26,12 +30,27 @@ struct Stream {
     rng: Rng,
     bytes: Vec<u8>,
     size: usize,
+    /// All packets of MMTP are in plain IPv4, not in compressed IP.
+    plain_ip: bool,
 }
 
 impl Stream {
     fn new(rng: Rng, size: usize) -> Self {
-        let bytes = Vec::with_capacity(size);
-        Self { rng, bytes, size }
+        Self {
+            rng,
+            bytes: Vec::with_capacity(size),
+            size,
+            plain_ip: false,
+        }
+    }
+
+    /// The length of what stands before a payload.
+    fn headers(&self) -> usize {
+        if self.plain_ip {
+            PLAIN_HEADERS
+        } else {
+            HEADERS
+        }
     }
 
     fn full(&self) -> bool {
@@ -67,6 +86,9 @@ impl Stream {
         header.extend_from_slice(&identifier.to_be_bytes());
         header.extend(self.rng.bytes(8));
         header.extend_from_slice(payload);
+        if self.plain_ip {
+            return ip::usual(&mut self.rng, &header);
+        }
         tlv::carry(&mut self.rng, Carrier::Compressed(0x61), &header)
     }
 
@@ -113,7 +135,17 @@ fn mpt(service: u16, times: usize) -> Vec<u8> {
 }
 
 pub(crate) fn air(seed: u64, size: usize) -> Vec<u8> {
-    let mut stream = Stream::new(Rng::new(seed, 4), size);
+    on_air(Stream::new(Rng::new(seed, 4), size))
+}
+
+pub(crate) fn plain_ip_air(seed: u64, size: usize) -> Vec<u8> {
+    on_air(Stream {
+        plain_ip: true,
+        ..Stream::new(Rng::new(seed, 13), size)
+    })
+}
+
+fn on_air(mut stream: Stream) -> Vec<u8> {
     while !stream.full() {
         stream.burst();
         for _ in 0..BURST_EACH {
@@ -121,7 +153,8 @@ pub(crate) fn air(seed: u64, size: usize) -> Vec<u8> {
             let nth = stream
                 .rng
                 .weighted(&[(30, 0), (4, 1), (4, 2), (1, 3), (4, 4), (1, 5)]);
-            let payload = stream.rng.bytes(AIR_PACKET - HEADERS);
+            let length = AIR_PACKET - stream.headers();
+            let payload = stream.rng.bytes(length);
             stream.send(asset_identifier(service, nth), MEDIA, &payload);
         }
     }
@@ -200,4 +233,22 @@ fn thirds(rng: &mut Rng) -> Vec<Vec<u8>> {
 
 pub(crate) fn garbage(seed: u64, size: usize) -> Vec<u8> {
     Rng::new(seed, 8).bytes(size)
+}
+
+/// The kinds of entries that stay without captions and carousels.
+const STAYING: [&[u8; 4]; 4] = [b"hvc1", b"mp4a", b"asgd", b"hvc1"];
+
+pub(crate) fn plain_ip_uncut(seed: u64, entries: usize, packets: usize) -> Vec<Vec<u8>> {
+    let mut stream = Stream {
+        plain_ip: true,
+        ..Stream::new(Rng::new(seed, 14), 0)
+    };
+    let assets = (0..entries).map(|nth| {
+        let nth = nth % STAYING.len();
+        Asset::plain(STAYING[nth], asset_identifier(0, nth))
+    });
+    let message = Pa::of(vec![Mpt::of(assets.collect()).write()]).write();
+    let payload = messages::whole(0, &message);
+    let packet = |_| stream.packet(mpt_identifier(0), SIGNALLING, &payload);
+    (0..packets).map(packet).collect()
 }

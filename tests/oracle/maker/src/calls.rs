@@ -1,9 +1,9 @@
-//! Series of calls, about the four wishes: each push has an output of its own length, and between pushes the filter is
-//! asked how many identifiers it drops. Broadcasts, limits and cuts are those of whole cases.
+//! Series of calls, about the four wishes and the modes: each push has an output of its own length, and between pushes the
+//! filter is asked how many identifiers it drops. Broadcasts, limits and cuts are those of whole cases.
 
 use std::collections::BTreeSet;
 
-use face::{Limits, Options};
+use face::{Limits, Modes, Options};
 
 use crate::broadcast::Broadcast;
 use crate::cases::{join, lengthen};
@@ -48,7 +48,14 @@ const PROFILES: [(usize, Profile); 9] = [
 ];
 
 pub(crate) fn tagged_calls(seed: u64) -> (Calls, BTreeSet<Tag>) {
-    let mut rng = Rng::new(seed, 9);
+    tagged(Rng::new(seed, 9), Modes::OFF)
+}
+
+pub(crate) fn tagged_plain_ip_calls(seed: u64) -> (Calls, BTreeSet<Tag>) {
+    tagged(Rng::new(seed, 11), Modes::PLAIN_IP)
+}
+
+fn tagged(mut rng: Rng, modes: Modes) -> (Calls, BTreeSet<Tag>) {
     let profile = rng.weighted(&PROFILES);
     let services = rng.within(1..=4);
     let broadcast = match profile {
@@ -65,11 +72,16 @@ pub(crate) fn tagged_calls(seed: u64) -> (Calls, BTreeSet<Tag>) {
         broadcast.note_kinds(&mut rng);
     }
     let mut stage = Stage::new(rng, broadcast);
+    if modes.plain_ip && profile != Profile::Empty {
+        stage.plain_ip = true;
+        scenes::foreseen(&mut stage, &options);
+    }
     perform(&mut stage, profile);
     let operations = operations(&mut stage, &limits, &options);
     let calls = Calls {
         limits,
         options,
+        modes,
         operations,
     };
     (calls, stage.rng.into_tags())

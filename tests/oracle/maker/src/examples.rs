@@ -3,7 +3,7 @@
 
 use std::collections::BTreeSet;
 
-use face::{Kind, Limits, Options};
+use face::{Kind, Limits, Modes, Options};
 
 use crate::limits;
 use crate::rng::Rng;
@@ -65,6 +65,7 @@ fn input(flags: u8, service: u16, bytes: Vec<u8>) -> Input {
     Input {
         kind: Kind::Table,
         options: Options::from_flags(flags, service),
+        modes: Modes::OFF,
         identifier: 0,
         room: bytes.len(),
         bytes,

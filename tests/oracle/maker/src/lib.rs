@@ -1,5 +1,6 @@
 //! Makes test streams for filters of MMT/TLV recordings: whole cases with limits, options and cuts, series of
-//! calls, inputs for narrowing alone, and clean streams for benchmarks. Each follows from its seed alone.
+//! calls, inputs for narrowing alone, and clean streams for benchmarks. Each follows from its seed alone. Beside them
+//! stand the checksums that packets of plain IP have.
 
 mod bench;
 mod broadcast;
@@ -9,7 +10,9 @@ mod cuts;
 mod damage;
 mod edges;
 mod examples;
+mod foreseen;
 mod fragments;
+mod ip;
 mod limits;
 mod messages;
 mod mmtp;
@@ -18,13 +21,14 @@ mod rng;
 mod scenes;
 mod signalling;
 mod stage;
+pub mod sums;
 mod tables;
 mod tags;
 #[cfg(test)]
 mod tests;
 mod tlv;
 
-use face::{Kind, Limits, Options, Part};
+use face::{Kind, Limits, Modes, Options, Part};
 
 /// A stream, how it is cut into chunks, and what the filter is told at its start.
 #[derive(Debug, Clone, PartialEq, Eq)]
@@ -43,6 +47,7 @@ pub struct Case {
 pub struct Calls {
     pub limits: Limits,
     pub options: Options,
+    pub modes: Modes,
     pub operations: Vec<Operation>,
 }
 
@@ -59,6 +64,7 @@ pub enum Operation {
 pub struct Input {
     pub kind: Kind,
     pub options: Options,
+    pub modes: Modes,
     pub identifier: u16,
     /// The length of the output that is lent.
     pub room: usize,
@@ -90,6 +96,16 @@ pub fn wished_inputs(seed: u64) -> Vec<Input> {
     narrowing::tagged_wished_inputs(seed).0
 }
 
+/// Calls with any of the four wishes and the mode of plain IP, which carries most of their packets.
+pub fn plain_ip_calls(seed: u64) -> Calls {
+    calls::tagged_plain_ip_calls(seed).0
+}
+
+/// Inputs with any of the four wishes and the mode of plain IP, most of them packets of it.
+pub fn plain_ip_inputs(seed: u64) -> Vec<Input> {
+    narrowing::tagged_plain_ip_inputs(seed).0
+}
+
 /// 01's examples 1 to 10, tables to narrow.
 pub fn examples() -> Vec<Input> {
     examples::inputs()
@@ -104,6 +120,17 @@ pub fn damaged(seed: u64) -> Input {
 /// packets of 1,400 bytes, and a burst of tables each 60 of them.
 pub fn air(seed: u64, size: usize) -> Vec<u8> {
     bench::air(seed, size)
+}
+
+/// The same in plain IPv4, with right lengths and checksums: its tables are narrowed in the mode of plain IP alone.
+pub fn plain_ip_air(seed: u64, size: usize) -> Vec<u8> {
+    bench::plain_ip_air(seed, size)
+}
+
+/// So many packets of one length in plain IPv4, each with an MPT of so many entries (255 at most), none of them a caption or
+/// a carousel.
+pub fn plain_ip_uncut(seed: u64, entries: usize, packets: usize) -> Vec<Vec<u8>> {
+    bench::plain_ip_uncut(seed, entries, packets)
 }
 
 /// A clean stream of `size` bytes (none where that is under four), most of it tables.

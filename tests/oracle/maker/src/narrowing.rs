@@ -3,7 +3,7 @@
 
 use std::collections::BTreeSet;
 
-use face::{Kind, Options};
+use face::{Kind, Modes, Options};
 
 use crate::Input;
 use crate::broadcast::Broadcast;
@@ -12,7 +12,7 @@ use crate::rng::Rng;
 use crate::signalling::{self, ODD};
 use crate::tables;
 use crate::tags::Tag;
-use crate::{damage, examples, limits, messages, mmtp, tlv};
+use crate::{damage, examples, foreseen, ip, limits, messages, mmtp, tlv};
 
 /// The longest input that narrowing takes.
 const TAKEN_MOST: usize = 65_539;
@@ -32,22 +32,85 @@ pub(crate) fn tagged_inputs(seed: u64) -> (Vec<Input>, BTreeSet<Tag>) {
         rng.note(Tag::Example);
         return (examples::inputs(), rng.into_tags());
     }
-    tagged(rng, limits::options)
+    let manner = Manner {
+        options: limits::options,
+        ..WISHED
+    };
+    tagged(rng, |rng| input(rng, &manner))
 }
 
 pub(crate) fn tagged_wished_inputs(seed: u64) -> (Vec<Input>, BTreeSet<Tag>) {
-    tagged(Rng::new(seed, 10), limits::wishes)
+    tagged(Rng::new(seed, 10), |rng| input(rng, &WISHED))
 }
 
-/// Chooses options for a broadcast with these services.
-type Choose = fn(&mut Rng, &[u16]) -> Options;
+pub(crate) fn tagged_plain_ip_inputs(seed: u64) -> (Vec<Input>, BTreeSet<Tag>) {
+    tagged(Rng::new(seed, 12), |rng| {
+        if rng.chance(40) {
+            foreseen_input(rng)
+        } else {
+            input(rng, &PLAIN_IP)
+        }
+    })
+}
 
-fn tagged(mut rng: Rng, options: Choose) -> (Vec<Input>, BTreeSet<Tag>) {
-    let inputs = (0..INPUTS).map(|_| input(&mut rng, options)).collect();
+/// How inputs are made.
+struct Manner {
+    /// Chooses options for a broadcast with these services.
+    options: fn(&mut Rng, &[u16]) -> Options,
+    modes: Modes,
+    kinds: &'static [Kind],
+    /// How many in a hundred are damaged.
+    damaged: usize,
+}
+
+const WISHED: Manner = Manner {
+    options: limits::wishes,
+    modes: Modes::OFF,
+    kinds: &KINDS,
+    damaged: 25,
+};
+
+/// The mode of plain IP is about packets.
+const PLAIN_IP: Manner = Manner {
+    modes: Modes::PLAIN_IP,
+    kinds: &[
+        Kind::Table,
+        Kind::Payload,
+        Kind::Packet,
+        Kind::Packet,
+        Kind::Packet,
+        Kind::Packet,
+        Kind::Packet,
+        Kind::Packet,
+    ],
+    damaged: 8,
+    ..WISHED
+};
+
+fn tagged(mut rng: Rng, input: impl Fn(&mut Rng) -> Input) -> (Vec<Input>, BTreeSet<Tag>) {
+    let inputs = (0..INPUTS).map(|_| input(&mut rng)).collect();
     (inputs, rng.into_tags())
 }
 
-fn input(rng: &mut Rng, options: Choose) -> Input {
+/// How long a table's filling can be in a packet of the longest.
+const FILLING_MOST: usize = 65_000;
+
+/// A packet of plain IP of which it is foreseen what its options leave.
+fn foreseen_input(rng: &mut Rng) -> Input {
+    let options = limits::wishes(rng, &[0x0400, 0x0401]);
+    let most = rng.pick(&[30, 30, 1_500, 1_500, FILLING_MOST]);
+    let bytes = foreseen::packet(rng, &options, most);
+    Input {
+        kind: Kind::Packet,
+        options,
+        modes: Modes::PLAIN_IP,
+        identifier: identifier(rng),
+        room: room(rng, bytes.len()),
+        bytes,
+    }
+}
+
+fn input(rng: &mut Rng, manner: &Manner) -> Input {
     let services = rng.below(6);
     let mut broadcast = Broadcast::new(rng, services);
     for _ in 0..rng.below(5) {
@@ -58,21 +121,22 @@ fn input(rng: &mut Rng, options: Choose) -> Input {
         1 => broadcast.fill_packages(rng),
         _ => {}
     }
-    let kind = rng.pick(&KINDS);
+    let kind = rng.pick(manner.kinds);
     let identifier = identifier(rng);
     let mut bytes = if rng.chance(4) {
         rng.note(Tag::RandomInput);
         rng.some_bytes(0..=300)
     } else {
-        made(rng, kind, &broadcast)
+        made(rng, kind, &broadcast, &manner.modes)
     };
-    if rng.chance(25) {
+    if rng.chance(manner.damaged) {
         damage::bytes(rng, &mut bytes);
     }
     resize(rng, &mut bytes);
     Input {
         kind,
-        options: options(rng, &broadcast.numbers()),
+        options: (manner.options)(rng, &broadcast.numbers()),
+        modes: manner.modes,
         identifier,
         room: room(rng, bytes.len()),
         bytes,
@@ -90,6 +154,7 @@ pub(crate) fn damaged(seed: u64) -> Input {
     Input {
         kind,
         options: Options::from_flags(rng.pick(&LEAVE_OUT), service),
+        modes: Modes::OFF,
         identifier: identifier(&mut rng),
         room: bytes.len(),
         bytes,
@@ -101,7 +166,7 @@ fn small(rng: &mut Rng, kind: Kind) -> (Broadcast, Vec<u8>) {
     loop {
         let services = rng.within(1..=4);
         let broadcast = Broadcast::new(rng, services);
-        let bytes = made(rng, kind, &broadcast);
+        let bytes = made(rng, kind, &broadcast, &Modes::OFF);
         if bytes.len() <= SMALL && !broadcast.numbers().is_empty() {
             return (broadcast, bytes);
         }
@@ -112,13 +177,13 @@ fn identifier(rng: &mut Rng) -> u16 {
     rng.pick(&[0, 0, 0xf000])
 }
 
-fn made(rng: &mut Rng, kind: Kind, broadcast: &Broadcast) -> Vec<u8> {
+fn made(rng: &mut Rng, kind: Kind, broadcast: &Broadcast, modes: &Modes) -> Vec<u8> {
     match kind {
         Kind::Table => table(rng, broadcast),
         Kind::Payload => payload(rng, broadcast),
         Kind::Packet => {
             let payload = payload(rng, broadcast);
-            packet(rng, &payload)
+            packet(rng, &payload, modes)
         }
     }
 }
@@ -148,7 +213,7 @@ fn payload(rng: &mut Rng, broadcast: &Broadcast) -> Vec<u8> {
 }
 
 /// Its identifier is its own, whatever the input says beside it.
-fn packet(rng: &mut Rng, payload: &[u8]) -> Vec<u8> {
+fn packet(rng: &mut Rng, payload: &[u8], modes: &Modes) -> Vec<u8> {
     let kind = if rng.chance(90) { mmtp::SIGNALLING } else { 0 };
     let identifier = identifier(rng);
     let mmtp = if rng.chance(5) {
@@ -156,12 +221,11 @@ fn packet(rng: &mut Rng, payload: &[u8]) -> Vec<u8> {
     } else {
         mmtp::packet(rng, identifier, kind, payload)
     };
-    let carrier = if rng.chance(5) {
-        tlv::unread_carrier(rng)
+    let mut packet = if modes.plain_ip && rng.chance(85) {
+        ip::packet(rng, &mmtp)
     } else {
-        tlv::carrier(rng)
+        carried(rng, &mmtp)
     };
-    let mut packet = tlv::carry(rng, carrier, &mmtp);
     if rng.chance(15) {
         rng.note(Tag::HeaderUnread);
         packet[0] = rng.byte();
@@ -169,6 +233,15 @@ fn packet(rng: &mut Rng, payload: &[u8]) -> Vec<u8> {
         packet[3] = rng.byte();
     }
     packet
+}
+
+fn carried(rng: &mut Rng, mmtp: &[u8]) -> Vec<u8> {
+    let carrier = if rng.chance(5) {
+        tlv::unread_carrier(rng)
+    } else {
+        tlv::carrier(rng)
+    };
+    tlv::carry(rng, carrier, mmtp)
 }
 
 /// Sometimes cuts the input, or brings it to a length around the longest that is taken.

@@ -1,8 +1,11 @@
-//! Scenes about situations rather than limits: identifiers that become data carousels,
+//! Scenes about situations rather than limits: identifiers that become data carousels, tables in plain IP,
 //! packets that belong to nothing, and noise.
+
+use face::Options;
 
 use crate::broadcast::UNNAMED;
 use crate::damage;
+use crate::foreseen;
 use crate::messages::{self, DATA, Pa};
 use crate::rng::Rng;
 use crate::signalling;
@@ -39,6 +42,17 @@ pub(crate) fn wishes(stage: &mut Stage) {
         stage.play(steps);
     }
     stage.probe();
+}
+
+/// How long a table's filling can be in a packet that fits in the smallest work room.
+const FILLING_MOST: usize = 1_500;
+
+/// Tables in plain IP, of which it is foreseen what these options leave.
+pub(crate) fn foreseen(stage: &mut Stage, options: &Options) {
+    for _ in 0..stage.rng.within(3..=10) {
+        let packet = foreseen::packet(&mut stage.rng, options, FILLING_MOST);
+        stage.packets.push(packet);
+    }
 }
 
 fn data_message(stage: &mut Stage) {

@@ -4,6 +4,7 @@
 use std::collections::VecDeque;
 
 use crate::broadcast::Broadcast;
+use crate::ip;
 use crate::messages::{self, Pa, Place};
 use crate::mmtp::{self, MEDIA, SIGNALLING};
 use crate::rng::Rng;
@@ -11,10 +12,15 @@ use crate::signalling::{self, ODD};
 use crate::tags::Tag;
 use crate::tlv::{self, Carrier};
 
+/// How often, in percent, a stage of plain IP sends a packet in it.
+const PLAIN_IP: usize = 75;
+
 pub(crate) struct Stage {
     pub(crate) rng: Rng,
     pub(crate) broadcast: Broadcast,
     pub(crate) packets: Vec<Vec<u8>>,
+    /// Most packets are carried in plain IP.
+    pub(crate) plain_ip: bool,
     /// Fragments not sent yet, by identifier.
     pending: Vec<(u16, VecDeque<Vec<u8>>)>,
 }
@@ -25,6 +31,7 @@ impl Stage {
             rng,
             broadcast,
             packets: Vec::new(),
+            plain_ip: false,
             pending: Vec::new(),
         }
     }
@@ -35,8 +42,22 @@ impl Stage {
 
     fn send(&mut self, identifier: u16, kind: u8, payload: &[u8]) {
         let mmtp = mmtp::packet(&mut self.rng, identifier, kind, payload);
+        self.carry(&mmtp);
+    }
+
+    /// In some carrier that is read, or in one of plain IP that may be odd.
+    fn carry(&mut self, mmtp: &[u8]) {
+        if self.in_plain_ip() {
+            self.packets.push(ip::packet(&mut self.rng, mmtp));
+            return;
+        }
         let carrier = tlv::carrier(&mut self.rng);
-        self.push(carrier, &mmtp);
+        self.push(carrier, mmtp);
+    }
+
+    /// Whether the next packet is carried in plain IP; where none is, nothing is drawn.
+    fn in_plain_ip(&mut self) -> bool {
+        self.plain_ip && self.rng.chance(PLAIN_IP)
     }
 
     pub(crate) fn signal(&mut self, identifier: u16, payload: &[u8]) {
@@ -47,7 +68,11 @@ impl Stage {
     pub(crate) fn signal_plainly(&mut self, identifier: u16, message: &[u8]) {
         let payload = messages::whole(0, message);
         let mmtp = mmtp::packet(&mut self.rng, identifier, SIGNALLING, &payload);
-        self.push(Carrier::Compressed(0x61), &mmtp);
+        if self.in_plain_ip() {
+            self.packets.push(ip::usual(&mut self.rng, &mmtp));
+        } else {
+            self.push(Carrier::Compressed(0x61), &mmtp);
+        }
     }
 
     pub(crate) fn media(&mut self, identifier: u16) {
@@ -207,8 +232,7 @@ impl Stage {
             1 => {
                 let kind = self.rng.pick(&[MEDIA, SIGNALLING, SIGNALLING]);
                 let mmtp = mmtp::bare(&mut self.rng, identifier, kind);
-                let carrier = tlv::carrier(&mut self.rng);
-                self.push(carrier, &mmtp);
+                self.carry(&mmtp);
             }
             2 => self.cut_carrier(identifier),
             3 => {

@@ -1,9 +1,9 @@
 //! The situations that the streams are to reach, each with how many of 2,000 seeds must reach it: in whole cases and
 //! in narrowing inputs, and where two more numbers follow, in calls and in narrowing inputs with any of the four
-//! wishes. A floor of 0 asks for none there.
+//! wishes; where two more follow, in those with the mode of plain IP. A floor of 0 asks for none there.
 
 macro_rules! tags {
-    ($($name:ident $cases:literal $inputs:literal $($calls:literal $wished:literal)?,)*) => {
+    ($($name:ident $($floor:literal)*,)*) => {
         #[derive(Debug, Clone, Copy, PartialEq, Eq, PartialOrd, Ord)]
         pub(crate) enum Tag {
             $($name,)*
@@ -11,21 +11,22 @@ macro_rules! tags {
 
         #[cfg(test)]
         pub(crate) const FLOORS: &[(Tag, Floors)] =
-            &[$((Tag::$name, floors(&[$cases, $inputs $(, $calls, $wished)?])),)*];
+            &[$((Tag::$name, floors(&[$($floor),*])),)*];
     };
 }
 
-/// Floors in cases, inputs, calls and inputs with any wishes.
+/// Floors in cases, inputs, calls and inputs with any wishes, and calls and inputs of plain IP.
 #[cfg(test)]
-pub(crate) type Floors = [usize; 4];
+pub(crate) type Floors = [usize; 6];
 
 /// Those that are not given are 0.
 #[cfg(test)]
 const fn floors(given: &[usize]) -> Floors {
     match *given {
-        [cases, inputs, calls, wished] => [cases, inputs, calls, wished],
-        [cases, inputs] => [cases, inputs, 0, 0],
-        _ => panic!("a tag has two floors or four"),
+        [a, b, c, d, e, f] => [a, b, c, d, e, f],
+        [a, b, c, d] => [a, b, c, d, 0, 0],
+        [a, b] => [a, b, 0, 0, 0, 0],
+        _ => panic!("a tag has two, four or six floors"),
     }
 }
 
@@ -36,22 +37,22 @@ tags! {
     TypeControl 500 0 300 0,
     TypeNull 500 0 300 0,
     TypeUnknown 500 0,
-    Header20 1000 200 1000 200,
-    Header21 1000 500 1000 300,
-    Header60 1000 200 1000 200,
-    Header61 1000 1000 1000 1000,
+    Header20 1000 200 1000 200 700 40,
+    Header21 1000 500 1000 300 1000 80,
+    Header60 1000 200 1000 200 700 40,
+    Header61 1000 1000 1000 1000 1500 400,
     HeaderUnknown 500 100,
     CompressedShort 500 0,
     V4HeaderZero 1000 40,
     V4HeaderPlain 1000 100,
     V4HeaderOther 1000 100,
-    V4Clock 200 60 100 40,
+    V4Clock 200 60 100 40 120 8,
     V6Clock 200 60 100 40,
     CarrierCut 500 0,
-    HeaderUnread 0 500,
+    HeaderUnread 0 500 0 0 0 600,
     // MMTP headers
-    Counter 1000 500,
-    Extension 1000 500,
+    Counter 1000 500 0 0 1500 900,
+    Extension 1000 500 0 0 1500 900,
     ExtensionPastEnd 200 60,
     HeaderAtEnd 200 40,
     HeaderOneShort 200 60,
@@ -79,7 +80,7 @@ tags! {
     MessageDamaged 500 500 300 400,
     // payloads
     Whole 1000 1000,
-    Aggregate16 1000 200 700 200,
+    Aggregate16 1000 200 700 200 800 140,
     Aggregate32 1000 200 700 200,
     AggregateCa 500 100,
     AggregateEmpty 500 100,
@@ -88,7 +89,7 @@ tags! {
     AggregateLastPast 200 40,
     AggregateRest 200 40,
     AggregateMislabelled 200 20,
-    Fragmented 1000 500 1000 300,
+    Fragmented 1000 500 1000 300 1200 300,
     Interleaved 1000 0,
     EmptyBody 500 60,
     EmptyPayload 500 0,
@@ -107,7 +108,7 @@ tags! {
     Number7000 500 60,
     NumberF000 500 100,
     NumberOther 1000 200,
-    DataWhole 60 0 180 0,
+    DataWhole 60 0 180 0 180 0,
     DataInFragments 40 0 90 0,
     DataBeforePa 60 0 180 0,
     DataOnZero 60 0,
@@ -135,7 +136,7 @@ tags! {
     InsideMpt 500 500,
     MptNoAsset 500 200 160 250,
     NumberBeside 500 200,
-    ManyAssets 40 500 0 350,
+    ManyAssets 40 500 0 350 0 250,
     ManyPackages 40 500,
     LongestTable 40 500 0 350,
     // the broadcast
@@ -198,21 +199,21 @@ tags! {
     CutsLongest 200 0 300 0,
     CutsAny 200 0,
     CutsShort 200 0 200 0,
-    CutsAtEnds 200 0,
+    CutsAtEnds 200 0 0 0 150 0,
     CutsNearEnds 100 0,
-    CutsSingle 100 0 110 0,
+    CutsSingle 100 0 110 0 110 0,
     CutsPast 100 0 80 0,
     ChunkEmpty 500 0 250 0,
     ChunkLongest 200 0,
     ChunkPastByOne 100 0 45 0,
     RoomExact 200 0,
     RoomMost 100 0,
-    RoomOneShort 200 1000 0 700,
+    RoomOneShort 200 1000 0 700 0 800,
     RoomNone 40 200 0 180,
     // options
-    CopyAll 60 500 15 200,
-    NoService 500 1000 500 1000,
-    ServiceThere 500 1000 500 1000,
+    CopyAll 60 500 15 200 20 300,
+    NoService 500 1000 500 1000 600 1500,
+    ServiceThere 500 1000 500 1000 700 1500,
     ServiceMissing 100 1000 60 700,
     Wishes0 200 1000 35 500,
     Wishes1 200 1000 35 500,
@@ -228,8 +229,8 @@ tags! {
     InputTiny 0 200 0 160,
     InputCut 0 500,
     InputLonger 0 500,
-    InputLongest 0 200 0 180,
-    InputPast 0 200 0 180,
+    InputLongest 0 200 0 180 0 150,
+    InputPast 0 200 0 180 0 60,
     Example 40 40,
     // request 1: wishes, starts and calls
     CaptionsOfOne 0 0 140 0,
@@ -247,17 +248,44 @@ tags! {
     StartWork 0 0 15 0,
     StartFragments 0 0 20 0,
     StartMaps 0 0 10 0,
-    StartWishes 0 0 35 0,
+    StartWishes 0 0 35 0 35 0,
     StartWorkWishes 0 0 30 0,
     StartFragmentsWishes 0 0 40 0,
     StartMapsWishes 0 0 15 0,
     NoOperations 0 0 30 0,
     PushExact 0 0 600 0,
-    PushShort 0 0 120 0,
+    PushShort 0 0 120 0 150 0,
     PushRoomy 0 0 600 0,
     PushPast 0 0 45 0,
     OneRoom 0 0 300 0,
     DroppedFirst 0 0 220 0,
     DroppedBetween 0 0 350 0,
     DroppedLast 0 0 220 0,
+    // request 2: plain IP
+    IpV4 0 0 0 0 1500 1200,
+    IpV6 0 0 0 0 1500 1000,
+    IpOptions 0 0 0 0 1500 700,
+    IpLongestHeader 0 0 0 0 500 70,
+    IpFlags 0 0 0 0 1000 300,
+    IpOddLength 0 0 0 0 1500 1100,
+    IpEvenLength 0 0 0 0 1500 1000,
+    UdpZeroV4 0 0 0 0 1500 700,
+    UdpZeroV6 0 0 0 0 1400 500,
+    WrongSums 0 0 0 0 1500 1500,
+    UdpSumZero 0 0 0 0 1500 1000,
+    HeaderSumZero 0 0 0 0 1000 800,
+    SameBytes 0 0 0 0 400 400,
+    IpMoreFragments 0 0 0 0 200 20,
+    IpOffset 0 0 0 0 200 20,
+    IpMoreAndOffset 0 0 0 0 200 20,
+    IpProtocol 0 0 0 0 200 20,
+    IpNextHeader 0 0 0 0 400 50,
+    IpLengthWrong 0 0 0 0 400 50,
+    UdpLengthWrong 0 0 0 0 500 100,
+    UdpLengthUnder8 0 0 0 0 200 40,
+    IpPadding 0 0 0 0 500 80,
+    IpCut 0 0 0 0 500 80,
+    IpClock 0 0 0 0 500 80,
+    IpVersion 0 0 0 0 500 80,
+    IpHeaderShort 0 0 0 0 400 60,
 }

@@ -3,17 +3,19 @@
 
 use std::collections::{BTreeMap, BTreeSet};
 
-use face::{Limits, Options, Part};
+use face::{Limits, Modes, Options, Part};
 
 use crate::calls::OPERATIONS_MOST;
 use crate::cuts::{CUT_MOST, CUTS_MOST, ROOM_MOST};
 use crate::limits::{ORIGINAL, TOTAL_MOST};
 use crate::mmtp::SIGNALLING;
+use crate::sums;
 use crate::tags::{FLOORS, Tag};
 use crate::tlv::{self, SYNC};
 use crate::{
     Case, Operation, air, calls, case, cases, cuts, dense, examples, fragmented, inputs, media,
-    narrowing, nulls, plain_case, wished_inputs,
+    narrowing, nulls, plain_case, plain_ip_air, plain_ip_calls, plain_ip_inputs, plain_ip_uncut,
+    wished_inputs,
 };
 
 const SEEDS: u64 = 2_000;
@@ -29,7 +31,7 @@ fn count<T>(tagged: impl Fn(u64) -> (T, BTreeSet<Tag>)) -> BTreeMap<Tag, usize> 
     counts
 }
 
-/// `of` is the place of the floors: cases, inputs, calls, or inputs with any wishes.
+/// `of` is the place of the floors: cases, inputs, calls or inputs with any wishes, calls or inputs of plain IP.
 fn assert_floors(counts: &BTreeMap<Tag, usize>, of: usize) {
     let reached = |tag| counts.get(&tag).copied().unwrap_or(0);
     let mut short = Vec::new();
@@ -63,6 +65,16 @@ fn wished_inputs_reach_every_situation() {
 }
 
 #[test]
+fn calls_of_plain_ip_reach_every_situation() {
+    assert_floors(&count(calls::tagged_plain_ip_calls), 4);
+}
+
+#[test]
+fn inputs_of_plain_ip_reach_every_situation() {
+    assert_floors(&count(narrowing::tagged_plain_ip_inputs), 5);
+}
+
+#[test]
 fn a_seed_is_all_there_is() {
     for seed in 0..200 {
         assert_eq!(case(seed), case(seed));
@@ -70,6 +82,8 @@ fn a_seed_is_all_there_is() {
         assert_eq!(inputs(seed), inputs(seed));
         assert_eq!(calls(seed), calls(seed));
         assert_eq!(wished_inputs(seed), wished_inputs(seed));
+        assert_eq!(plain_ip_calls(seed), plain_ip_calls(seed));
+        assert_eq!(plain_ip_inputs(seed), plain_ip_inputs(seed));
         assert_ne!(case(seed).bytes, plain_case(seed).bytes);
     }
     assert_eq!(air(1, 20_000), air(1, 20_000));
@@ -120,19 +134,24 @@ fn inputs_keep_their_bounds() {
 #[test]
 fn calls_keep_their_bounds() {
     for seed in 0..SEEDS {
-        let calls = calls(seed);
-        assert!(calls.limits.work <= WORK_MOST && calls.limits.maps <= MAPS_MOST);
-        assert!(calls.limits.total <= TOTAL_MOST);
-        assert!(calls.operations.len() <= OPERATIONS_MOST, "seed {seed}");
-        for operation in calls.operations {
-            if let Operation::Push { room, chunk } = operation {
-                assert!(room <= ROOM_MOST && chunk.len() <= CUT_MOST, "seed {seed}");
-            }
+        for calls in [calls(seed), plain_ip_calls(seed)] {
+            assert!(calls.limits.work <= WORK_MOST && calls.limits.maps <= MAPS_MOST);
+            assert!(calls.limits.total <= TOTAL_MOST);
+            assert!(calls.operations.len() <= OPERATIONS_MOST, "seed {seed}");
+            assert!(calls.operations.iter().all(fits), "seed {seed}");
         }
     }
-    for input in (0..SEEDS).flat_map(wished_inputs) {
+    let inputs = |seed| [wished_inputs(seed), plain_ip_inputs(seed)].concat();
+    for input in (0..SEEDS).flat_map(inputs) {
         assert!(input.bytes.len() <= narrowing::INPUT_MOST);
         assert!(input.room <= ROOM_MOST);
+    }
+}
+
+fn fits(operation: &Operation) -> bool {
+    match operation {
+        Operation::Push { room, chunk } => *room <= ROOM_MOST && chunk.len() <= CUT_MOST,
+        Operation::Dropped => true,
     }
 }
 
@@ -243,17 +262,18 @@ fn the_output_needed_is_what_is_held_and_the_chunk() {
 #[test]
 fn benchmark_streams_are_clean_and_as_long_as_asked() {
     for size in [4, 5, 300, 1_399, 20_000, 1_000_003] {
-        for stream in [air(7, size), dense(7, size)] {
+        for stream in [air(7, size), plain_ip_air(7, size), dense(7, size)] {
             assert_eq!(stream.len(), size);
             assert!(!packets(&stream).is_empty());
         }
     }
     assert!(air(7, 3).is_empty());
-    let air = air(7, 1_000_000);
-    let long = packets(&air)
-        .into_iter()
-        .filter(|packet| packet.len() == 1_400);
-    assert!(long.count() > 600);
+    for air in [air(7, 1_000_000), plain_ip_air(7, 1_000_000)] {
+        let long = packets(&air)
+            .into_iter()
+            .filter(|packet| packet.len() == 1_400);
+        assert!(long.count() > 600);
+    }
     let dense = dense(7, 1_000_000);
     let tables = packets(&dense)
         .into_iter()
@@ -307,4 +327,45 @@ fn examples_are_the_written_ones() {
     assert_eq!(example(8), "800100080102040100f00100");
     assert_eq!(example(10), "8001000e0202040000f00002040000f00100");
     assert_eq!(inputs(50), examples::inputs());
+}
+
+/// The modes that a seed's cases have, and that those of plain IP are mostly in it.
+#[test]
+fn plain_ip_carries_most_packets_of_its_mode() {
+    let (mut plain, mut all) = (0, 0);
+    for seed in 0..200 {
+        assert_eq!(calls(seed).modes, Modes::OFF);
+        assert_eq!(plain_ip_calls(seed).modes, Modes::PLAIN_IP);
+        for input in plain_ip_inputs(seed) {
+            assert_eq!(input.modes, Modes::PLAIN_IP);
+            let kind = input.bytes.get(1);
+            all += 1;
+            plain += usize::from(kind == Some(&tlv::IPV4) || kind == Some(&tlv::IPV6));
+        }
+    }
+    assert!(4 * plain > 3 * all, "{plain} of {all}");
+}
+
+/// A usual packet of plain IPv4: its lengths agree and its checksums are right.
+fn assert_usual(packet: &[u8]) {
+    let (head, udp) = packet[tlv::HEADER..].split_at(20);
+    let number = |bytes: &[u8], at: usize| u16::from_be_bytes([bytes[at], bytes[at + 1]]);
+    assert_eq!(head[0], 0x45);
+    assert_eq!(usize::from(number(head, 2)), packet.len() - tlv::HEADER);
+    assert_eq!(usize::from(number(udp, 4)), udp.len());
+    assert_eq!(number(head, 10), sums::ipv4_checksum(head));
+    assert_eq!(number(udp, 6), sums::udp_checksum(&head[12..], udp));
+}
+
+#[test]
+fn plain_ip_of_benchmarks_is_right() {
+    let stream = plain_ip_air(7, 300_000);
+    let (nulls, all): (Vec<_>, Vec<_>) = packets(&stream)
+        .into_iter()
+        .partition(|packet| packet[1] == tlv::NULL);
+    assert!(nulls.len() == 1 && all.len() > 200);
+    all.into_iter().for_each(assert_usual);
+    let uncut = plain_ip_uncut(7, 8, 64);
+    assert!(uncut.len() == 64 && uncut.iter().all(|packet| packet.len() == uncut[0].len()));
+    uncut.iter().for_each(|packet| assert_usual(packet));
 }

@@ -13,8 +13,10 @@ pub(crate) const COMPRESSED: u8 = 0x03;
 pub(crate) const CONTROL: u8 = 0xfe;
 pub(crate) const NULL: u8 = 0xff;
 pub(crate) const CLOCK_PORT: u16 = 123;
-const IPV6_HEADER: usize = 40;
-const UDP_HEADER: usize = 8;
+/// The shortest, which has no options.
+pub(crate) const IPV4_HEADER: usize = 20;
+pub(crate) const IPV6_HEADER: usize = 40;
+pub(crate) const UDP_HEADER: usize = 8;
 
 #[derive(Clone, Copy)]
 pub(crate) enum Carrier {

@@ -6,7 +6,7 @@
 //! a call of a stream, dropped by a refusal 1, which is 0, and the dropped identifiers 4. A narrowing's answer is:
 //! refusal 1, changed 1, length 4, stayed 3 x 4, went 3 x 4, the bytes. All numbers are big-endian.
 
-use face::{Call, Counts, Engine, Limits, Narrowed, Options};
+use face::{Call, Counts, Engine, Limits, Modes, Narrowed, Options};
 
 use crate::cases::{Calls, Case, Narrowing, Operation, Reader, Stream};
 
@@ -23,10 +23,10 @@ pub fn answers<E: Engine>(cases: &[u8]) -> Vec<u8> {
     writer.told
 }
 
-/// The answer to a stream without the dropped identifiers, each of its numbers and bytes as one number.
-pub fn stream_numbers<E: Engine>(case: &Stream) -> Vec<u32> {
+/// The answer to a stream in these modes, without the dropped identifiers, each of its numbers and bytes as one number.
+pub fn stream_numbers<E: Engine>(case: &Stream, modes: Modes) -> Vec<u32> {
     let mut writer = Writer::default();
-    writer.calls::<E>(case);
+    writer.calls::<E>(case, modes);
     writer.told
 }
 
@@ -61,7 +61,7 @@ struct Writer<U> {
 
 impl<U: Unit> Writer<U> {
     fn stream<E: Engine>(&mut self, case: &Stream) {
-        if let Some(engine) = self.calls::<E>(case)
+        if let Some(engine) = self.calls::<E>(case, Modes::OFF)
             && !case.cut
         {
             self.long(engine.dropped());
@@ -69,8 +69,8 @@ impl<U: Unit> Writer<U> {
     }
 
     /// The start and all calls. Gives the filter after them, unless its start was refused.
-    fn calls<E: Engine>(&mut self, case: &Stream) -> Option<E> {
-        let mut engine = self.start::<E>(case.limits, case.options)?;
+    fn calls<E: Engine>(&mut self, case: &Stream, modes: Modes) -> Option<E> {
+        let mut engine = self.start::<E>(case.limits, case.options, modes)?;
         for chunk in &case.chunks {
             self.push(&mut engine, chunk, case.room);
         }
@@ -78,7 +78,7 @@ impl<U: Unit> Writer<U> {
     }
 
     fn operations<E: Engine>(&mut self, case: &Calls) {
-        let Some(mut engine) = self.start::<E>(case.limits, case.options) else {
+        let Some(mut engine) = self.start::<E>(case.limits, case.options, case.modes) else {
             return;
         };
         for operation in &case.operations {
@@ -92,8 +92,8 @@ impl<U: Unit> Writer<U> {
         }
     }
 
-    fn start<E: Engine>(&mut self, limits: Limits, options: Options) -> Option<E> {
-        let started = E::start(limits, options);
+    fn start<E: Engine>(&mut self, limits: Limits, options: Options, modes: Modes) -> Option<E> {
+        let started = E::start(limits, options, modes);
         self.bytes(&[started.as_ref().err().copied().unwrap_or(0)]);
         started.ok()
     }
@@ -126,12 +126,13 @@ impl<U: Unit> Writer<U> {
         let Narrowing {
             kind,
             options,
+            modes,
             identifier,
             room,
             input,
             ..
         } = *case;
-        match E::narrow(kind, options, identifier, input, room) {
+        match E::narrow(kind, options, modes, identifier, input, room) {
             Narrowed::Refused(number) => self.narrowed([number, 0], &[], [[0; 3]; 2]),
             Narrowed::Unchanged => self.narrowed([0, 0], &[], [[0; 3]; 2]),
             Narrowed::Changed { out, stayed, went } => self.narrowed([0, 1], &out, [stayed, went]),

@@ -4,7 +4,7 @@
 use std::collections::BTreeMap;
 use std::ops::Range;
 
-use face::Options;
+use face::{Modes, Options};
 
 pub struct Arguments {
     plain: Vec<String>,
@@ -98,6 +98,15 @@ impl Arguments {
             return Err("--flags sets a bit above bit 4".to_owned());
         }
         Ok(Options::from_flags(flags, service))
+    }
+
+    /// `--modes plain-ip`; all off if not given.
+    pub fn modes(&self) -> Result<Modes, String> {
+        match self.text("modes") {
+            None => Ok(Modes::OFF),
+            Some("plain-ip") => Ok(Modes::PLAIN_IP),
+            Some(other) => Err(format!("--modes {other} is not plain-ip")),
+        }
     }
 
     /// `--NAME on` or `--NAME off`; `None` if not given.

@@ -7,10 +7,10 @@
 //!
 //! Calls are: kind 4, wishes 1 byte (flag bits 0 to 4), modes 1, service 2, W 4, T 4, M 4, map room 4, number of
 //! operations 2, then the operations: 0 (push), output 4, chunk length 4, the chunk; or 1 (dropped). A narrowing
-//! with modes is: kind 7 (table), 8 (payload) or 9 (packet), wishes 1, modes 1, and then as without. There is no
-//! mode yet, so that byte is 0.
+//! with modes is: kind 7 (table), 8 (payload) or 9 (packet), wishes 1, modes 1, and then as without. Bit 0 of the modes is
+//! plain IP, the others have no meaning yet.
 
-use face::{Kind, Limits, Options};
+use face::{Kind, Limits, Modes, Options};
 
 use crate::named::{self, Requested};
 
@@ -41,6 +41,15 @@ impl Case<'_> {
             Self::Narrowing(narrowing) => &narrowing.options,
         }
     }
+
+    /// A stream has none.
+    pub fn modes(&self) -> &Modes {
+        match self {
+            Self::Stream(_) => &Modes::OFF,
+            Self::Calls(calls) => &calls.modes,
+            Self::Narrowing(narrowing) => &narrowing.modes,
+        }
+    }
 }
 
 /// A filter that is started and pushed to.
@@ -60,6 +69,7 @@ pub struct Stream<'a> {
 pub struct Calls<'a> {
     pub limits: Limits,
     pub options: Options,
+    pub modes: Modes,
     pub operations: Vec<Operation<'a>>,
     /// The operation that would come next is cut or none: no answer follows those of `operations`.
     pub cut: bool,
@@ -94,6 +104,7 @@ pub struct Narrowing<'a> {
     pub with_modes: bool,
     pub kind: Kind,
     pub options: Options,
+    pub modes: Modes,
     pub identifier: u16,
     pub room: usize,
     pub input: &'a [u8],
@@ -126,6 +137,7 @@ impl<'a> From<&'a maker::Calls> for Calls<'a> {
         Self {
             limits: made.limits,
             options: made.options,
+            modes: made.modes,
             operations: made.operations.iter().map(operation).collect(),
             cut: false,
         }
@@ -138,6 +150,7 @@ impl<'a> From<&'a maker::Input> for Narrowing<'a> {
             with_modes: false,
             kind: made.kind,
             options: made.options,
+            modes: made.modes,
             identifier: made.identifier,
             room: made.room,
             input: &made.bytes,
@@ -175,23 +188,44 @@ pub fn of_seed(seed: u64, selection: Selection) -> Vec<u8> {
     writer.bytes
 }
 
-/// A seed's cases with any of the four wishes as bytes: its calls, then its narrowings with modes. `other` leaves those
-/// with that wish on, or off.
-pub fn wished_of_seed(seed: u64, selection: Selection, other: Option<bool>) -> Vec<u8> {
+/// A seed's cases with any of the four wishes as bytes: its calls, then its narrowings, all in these modes. `other` leaves
+/// those with that wish on, or off.
+pub fn wished_of_seed(
+    seed: u64,
+    selection: Selection,
+    modes: Modes,
+    other: Option<bool>,
+) -> Vec<u8> {
     let left = |options: &Options| other.is_none_or(|other| options.other == other);
     let mut writer = Writer::default();
     if selection.series {
-        let calls = maker::calls(seed);
+        let calls = calls_of_seed(seed, modes);
         if left(&calls.options) {
             writer.calls(&Calls::from(&calls));
         }
     }
-    let inputs = maker::wished_inputs(seed);
+    let inputs = inputs_of_seed(seed, modes);
     let inputs = inputs.iter().filter(|input| left(&input.options));
     for input in inputs.take(selection.narrowings) {
         writer.narrowing(&Narrowing::with_modes(input));
     }
     writer.bytes
+}
+
+fn calls_of_seed(seed: u64, modes: Modes) -> maker::Calls {
+    if modes.plain_ip {
+        maker::plain_ip_calls(seed)
+    } else {
+        maker::calls(seed)
+    }
+}
+
+fn inputs_of_seed(seed: u64, modes: Modes) -> Vec<maker::Input> {
+    if modes.plain_ip {
+        maker::plain_ip_inputs(seed)
+    } else {
+        maker::wished_inputs(seed)
+    }
 }
 
 /// The named cases as bytes: narrowings, then streams, then those of the requests.
@@ -217,7 +251,6 @@ const PUSH: u8 = 0;
 const DROPPED: u8 = 1;
 /// How far the kinds of narrowings with modes lie behind those without.
 const WITH_MODES: u8 = 6;
-const NO_MODE: u8 = 0;
 
 /// Cases as bytes.
 #[derive(Debug, Default)]
@@ -240,7 +273,7 @@ impl Writer {
 
     pub fn calls(&mut self, case: &Calls) {
         self.bytes.push(4);
-        self.wishes(&case.options);
+        self.wishes(&case.options, &case.modes);
         self.limits(&case.limits);
         self.short(case.operations.len());
         for operation in &case.operations {
@@ -264,8 +297,9 @@ impl Writer {
         };
         if case.with_modes {
             self.bytes.push(kind + WITH_MODES);
-            self.wishes(&case.options);
+            self.wishes(&case.options, &case.modes);
         } else {
+            assert!(case.modes.all_off(), "this kind has no place for modes");
             self.bytes.push(kind);
             self.options(&case.options);
         }
@@ -285,9 +319,9 @@ impl Writer {
         self.service(options);
     }
 
-    /// All wishes, and no mode.
-    fn wishes(&mut self, options: &Options) {
-        self.bytes.extend([options.flags(), NO_MODE]);
+    /// All wishes, and the modes.
+    fn wishes(&mut self, options: &Options, modes: &Modes) {
+        self.bytes.extend([options.flags(), modes.bits()]);
         self.service(options);
     }
 
@@ -380,7 +414,7 @@ impl<'a> Reader<'a> {
     }
 
     fn calls(&mut self) -> Option<Calls<'a>> {
-        let options = self.wishes()?;
+        let (options, modes) = self.wishes()?;
         let limits = self.limits()?;
         let count = usize::from(self.number()?);
         if count > OPERATIONS {
@@ -390,6 +424,7 @@ impl<'a> Reader<'a> {
         Some(Calls {
             limits,
             options,
+            modes,
             cut: operations.len() < count,
             operations,
         })
@@ -410,12 +445,12 @@ impl<'a> Reader<'a> {
 
     fn narrowing(&mut self, kind: u8) -> Option<Narrowing<'a>> {
         let with_modes = kind > WITH_MODES;
-        let (kind, options) = if with_modes {
-            (kind - WITH_MODES, self.wishes()?)
+        let (options, modes) = if with_modes {
+            self.wishes()?
         } else {
-            (kind, self.options()?)
+            (self.options()?, Modes::OFF)
         };
-        let kind = match kind {
+        let kind = match kind % WITH_MODES {
             1 => Kind::Table,
             2 => Kind::Payload,
             _ => Kind::Packet,
@@ -427,6 +462,7 @@ impl<'a> Reader<'a> {
             with_modes,
             kind,
             options,
+            modes,
             identifier,
             room,
             input: self.bytes(length)?,
@@ -439,12 +475,13 @@ impl<'a> Reader<'a> {
         (flags <= MOST_FLAGS).then(|| Options::from_flags(flags, service))
     }
 
-    fn wishes(&mut self) -> Option<Options> {
+    fn wishes(&mut self) -> Option<(Options, Modes)> {
         let flags = self.byte()?;
         let modes = self.byte()?;
         let service = self.number()?;
-        let known = flags <= Options::MOST_FLAGS && modes == NO_MODE;
-        known.then(|| Options::from_flags(flags, service))
+        let known = flags <= Options::MOST_FLAGS;
+        let options = known.then(|| Options::from_flags(flags, service))?;
+        Some((options, Modes::from_bits(modes)?))
     }
 
     fn limits(&mut self) -> Option<Limits> {

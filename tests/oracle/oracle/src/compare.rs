@@ -4,7 +4,7 @@
 use std::fmt::Debug;
 use std::ops::Range;
 
-use face::{Call, Engine};
+use face::{Call, Engine, Modes};
 use original::{Original, Untouched};
 use plain::Plain;
 
@@ -53,8 +53,8 @@ pub fn compare(seeds: Range<u64>) -> Outcome {
 /// The start, then all calls one by one, each filter going on with its own state.
 fn streams(case: &Stream, outcome: &mut Outcome) -> Result<(), String> {
     outcome.streams += 1;
-    let original = Original::start(case.limits, case.options);
-    let plain = Plain::start(case.limits, case.options);
+    let original = Original::start(case.limits, case.options, Modes::OFF);
+    let plain = Plain::start(case.limits, case.options, Modes::OFF);
     let (mut original, mut plain) = match (original, plain) {
         (Ok(original), Ok(plain)) => (original, plain),
         (original, plain) => return equal("start", &original.err(), &plain.err()),
@@ -83,6 +83,7 @@ fn narrowings(case: &Narrowing) -> Result<(), String> {
     let &Narrowing {
         kind,
         options,
+        modes,
         identifier,
         room,
         input,
@@ -90,8 +91,8 @@ fn narrowings(case: &Narrowing) -> Result<(), String> {
     } = case;
     equal(
         &format!("{kind:?}"),
-        &Original::narrow(kind, options, identifier, input, room),
-        &Plain::narrow(kind, options, identifier, input, room),
+        &Original::narrow(kind, options, modes, identifier, input, room),
+        &Plain::narrow(kind, options, modes, identifier, input, room),
     )
 }
 
@@ -109,7 +110,7 @@ pub fn same(seeds: Range<u64>) -> Outcome {
 fn untouched(case: &Stream, outcome: &mut Outcome) -> Result<(), String> {
     outcome.streams += 1;
     let mut untouched = Untouched::new(case.options);
-    let mut original = Original::start(original::OWN_LIMITS, case.options)
+    let mut original = Original::start(original::OWN_LIMITS, case.options, Modes::OFF)
         .map_err(|number| format!("start: refused {number}"))?;
     for (nth, chunk) in case.chunks.iter().enumerate() {
         outcome.calls += 1;

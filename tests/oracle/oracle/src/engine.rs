@@ -1,7 +1,7 @@
 //! Who answers: the original, the second filter, or the oracle, which is the original wherever that can be asked and
 //! the second filter elsewhere.
 
-use face::{Call, Engine, Kind, Limits, Narrowed, Options};
+use face::{Call, Engine, Kind, Limits, Modes, Narrowed, Options};
 use original::Original;
 use plain::Plain;
 
@@ -24,27 +24,34 @@ impl By {
         }
     }
 
-    /// An error where the filter does not know these options.
-    pub fn must_know(self, options: &Options) -> Result<(), String> {
-        if self != Self::Original || Original::knows(options) {
+    /// An error where the filter does not know these options or modes.
+    pub fn must_know(self, options: &Options, modes: &Modes) -> Result<(), String> {
+        if self != Self::Original || Original::knows(options, modes) {
             return Ok(());
         }
-        Err("the original can't be asked where other assets are not wanted".to_owned())
+        let why = if modes.all_off() {
+            "where other assets are not wanted"
+        } else {
+            "with a mode on"
+        };
+        Err(format!("the original can't be asked {why}"))
     }
 }
 
-/// The original if it knows the options, else the second filter.
+/// The original if it knows the options and modes, else the second filter.
 pub enum Oracle {
     Original(Box<Original>),
     Plain(Box<Plain>),
 }
 
 impl Engine for Oracle {
-    fn start(limits: Limits, options: Options) -> Result<Self, u8> {
-        if Original::knows(&options) {
-            Original::start(limits, options).map(|filter| Self::Original(Box::new(filter)))
+    fn start(limits: Limits, options: Options, modes: Modes) -> Result<Self, u8> {
+        if Original::knows(&options, &modes) {
+            let filter = Original::start(limits, options, modes)?;
+            Ok(Self::Original(Box::new(filter)))
         } else {
-            Plain::start(limits, options).map(|filter| Self::Plain(Box::new(filter)))
+            let filter = Plain::start(limits, options, modes)?;
+            Ok(Self::Plain(Box::new(filter)))
         }
     }
 
@@ -72,15 +79,16 @@ impl Engine for Oracle {
     fn narrow(
         kind: Kind,
         options: Options,
+        modes: Modes,
         identifier: u16,
         input: &[u8],
         room: usize,
     ) -> Narrowed {
-        let narrow = if Original::knows(&options) {
+        let narrow = if Original::knows(&options, &modes) {
             Original::narrow
         } else {
             Plain::narrow
         };
-        narrow(kind, options, identifier, input, room)
+        narrow(kind, options, modes, identifier, input, room)
     }
 }

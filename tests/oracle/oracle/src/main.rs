@@ -1,6 +1,6 @@
 //! The command `oracle`: picks the command that its first word names and connects it with standard input
-//! and output. Ends with 1 where a comparison finds a difference, with 2 where the words can't be read or the filter
-//! that they name can't be asked.
+//! and output. Ends with 1 where a comparison finds a difference or a recount a wrong packet, with 2 where the words can't be
+//! read or the filter that they name can't be asked.
 
 use std::io::{self, Read, Write};
 use std::ops::Range;
@@ -14,7 +14,7 @@ use oracle::compare::{self, Outcome};
 use oracle::engine::{By, Oracle};
 use oracle::run::Told;
 use oracle::theorems::{self, Bounds};
-use oracle::{answers, cases, narrow, programs, run};
+use oracle::{answers, cases, checksums, narrow, programs, run};
 use original::Original;
 use plain::Plain;
 
@@ -23,24 +23,28 @@ const USAGE: &str = "usage: oracle COMMAND
   sums                        its line of sums
   input [--seed N]            an input of these two: seed 0 is the example, from 24 on other assets
                               are not wanted
-  run [WISHES] [--work W] [--total T] [--most M] [--maps N] [--room N] [--cuts A,B,C]
+  run [WISHES] [MODES] [--work W] [--total T] [--most M] [--maps N] [--room N] [--cuts A,B,C]
       [--by FILTER] [--out FILE]
                               a line for each call of the stream on standard input; W, T and M are
                               65536 and the output is W if not given, and what is left after the
                               cuts goes in chunks of W-P
-  narrow table|payload|packet [WISHES] [--id N] [--room N] [--hex] [--by FILTER] [--out FILE]
+  narrow table|payload|packet [WISHES] [MODES] [--id N] [--room N] [--hex] [--by FILTER]
+      [--out FILE]
                               one narrowing of standard input
   cases --seeds A..B [--narrowing N] [--streams 0]
                               the seeds' cases, each with at most N narrowings and its stream, or none
-  cases --seeds A..B --calls [--narrowing N] [--streams 0] [--other on|off]
+  cases --seeds A..B --calls [MODES] [--narrowing N] [--streams 0] [--other on|off]
                               the seeds' cases with any of the four wishes: calls in the stream's
                               place, and narrowings with modes; with --other those that want other
                               assets alone, or those that do not
   cases --named               the named cases: what the port's program answers stores
   answers [--by FILTER]       the answers to the cases on standard input
+  checksums CASES ANSWERS     recounts lengths and checksums of the plain IP packets that answers to
+                              these cases have rewritten; both are files
   theorems --seeds A..B [--narrowing N] [--longest N] [--most N]
                               the seeds' cases with the oracle's answers, as theorems on the
-                              definitions, then those of --calls --other off: at most N of them
+                              definitions, then those of --calls --other off and --modes
+                              plain-ip: of each sort at most N
                               (400), each of at most N bytes (2000)
   compare --seeds A..B        the original and the plain filter
   same --seeds A..B           the original at its own limits and the untouched one
@@ -52,9 +56,12 @@ WISHES
                               with its tables (which list captions alone), control and clock packets,
                               captions, and media that no list names; drops other assets, carousels
                               and EIT
+MODES
+  --modes plain-ip            tables in plain IPv4 and IPv6 packets are narrowed too; all modes are off
+                              if not given
 FILTER
   oracle                      the original where it can be asked, else plain; if not given
-  original                    the original, which can't be asked without other assets
+  original                    the original, which can't be asked without other assets or with a mode
   plain                       the second filter";
 
 type Answer = Result<ExitCode, String>;
@@ -78,6 +85,7 @@ fn dispatch(command: &str, words: impl Iterator<Item = String>) -> Answer {
         "narrow" => narrow_command(&read(NARROW, &["hex"])?),
         "cases" => cases_command(&read(CASES, &["named", "calls"])?),
         "answers" => answers_command(&read(&["by"], &[])?),
+        "checksums" => checksums_command(&read(&[], &[])?),
         "theorems" => theorems_command(&read(THEOREMS, &[])?),
         "compare" => compare_command("compared", compare::compare, &read(&["seeds"], &[])?),
         "same" => compare_command("same", compare::same, &read(&["seeds"], &[])?),
@@ -86,10 +94,13 @@ fn dispatch(command: &str, words: impl Iterator<Item = String>) -> Answer {
 }
 
 const RUN: &[&str] = &[
-    "flags", "profile", "service", "work", "total", "most", "maps", "room", "cuts", "by", "out",
+    "flags", "profile", "service", "modes", "work", "total", "most", "maps", "room", "cuts", "by",
+    "out",
 ];
-const NARROW: &[&str] = &["flags", "profile", "service", "id", "room", "by", "out"];
-const CASES: &[&str] = &["seeds", "narrowing", "streams", "other"];
+const NARROW: &[&str] = &[
+    "flags", "profile", "service", "modes", "id", "room", "by", "out",
+];
+const CASES: &[&str] = &["seeds", "modes", "narrowing", "streams", "other"];
 const THEOREMS: &[&str] = &["seeds", "narrowing", "longest", "most"];
 
 fn program(
@@ -115,15 +126,15 @@ fn run_command(arguments: &Arguments) -> Answer {
         maps: arguments.number("maps", 32_768)?,
     };
     let room = arguments.number("room", work)?;
-    let (by, options) = (by(arguments)?, arguments.options()?);
-    by.must_know(&options)?;
+    let (by, options, modes) = (by(arguments)?, arguments.options()?, arguments.modes()?);
+    by.must_know(&options, &modes)?;
     let run = match by {
         By::Original => run::run::<Original>,
         By::Plain => run::run::<Plain>,
         By::Oracle => run::run::<Oracle>,
     };
     let cuts = arguments.numbers("cuts")?;
-    let told = run(limits, options, room, &cuts, &input()?);
+    let told = run(limits, options, modes, room, &cuts, &input()?);
     tell(arguments, &told)
 }
 
@@ -135,8 +146,8 @@ fn narrow_command(arguments: &Arguments) -> Answer {
     if arguments.has("hex") {
         input = narrow::from_hex(&String::from_utf8_lossy(&input))?;
     }
-    let (by, options) = (by(arguments)?, arguments.options()?);
-    by.must_know(&options)?;
+    let (by, options, modes) = (by(arguments)?, arguments.options()?, arguments.modes()?);
+    by.must_know(&options, &modes)?;
     let narrow = match by {
         By::Original => Original::narrow,
         By::Plain => Plain::narrow,
@@ -145,6 +156,7 @@ fn narrow_command(arguments: &Arguments) -> Answer {
     let answer = narrow(
         narrow::kind(name)?,
         options,
+        modes,
         arguments.number("id", 0)?,
         &input,
         arguments.number("room", input.len())?,
@@ -163,12 +175,16 @@ fn cases_command(arguments: &Arguments) -> Answer {
         narrowings: arguments.number("narrowing", usize::MAX)?,
     };
     let (calls, other) = (arguments.has("calls"), arguments.on_or_off("other")?);
+    let modes = arguments.modes()?;
     if other.is_some() && !calls {
         return Err("--other is of --calls: all other cases want other assets".to_owned());
     }
+    if !modes.all_off() && !calls {
+        return Err("--modes is of --calls: all other cases are without modes".to_owned());
+    }
     for seed in arguments.seeds()? {
         let bytes = if calls {
-            cases::wished_of_seed(seed, selection, other)
+            cases::wished_of_seed(seed, selection, modes, other)
         } else {
             cases::of_seed(seed, selection)
         };
@@ -180,7 +196,7 @@ fn cases_command(arguments: &Arguments) -> Answer {
 fn answers_command(arguments: &Arguments) -> Answer {
     let (by, input) = (by(arguments)?, input()?);
     for (nth, case) in cases::Reader::new(&input).enumerate() {
-        by.must_know(case.options())
+        by.must_know(case.options(), case.modes())
             .map_err(|message| format!("case {nth}: {message}"))?;
     }
     let answers = match by {
@@ -190,6 +206,23 @@ fn answers_command(arguments: &Arguments) -> Answer {
     };
     io::stdout().write_all(&answers(&input)).map_err(text)?;
     Ok(ExitCode::SUCCESS)
+}
+
+fn checksums_command(arguments: &Arguments) -> Answer {
+    let [cases, answers] = arguments.plain()[..] else {
+        return Err("name a file of cases and a file of answers".to_owned());
+    };
+    let read = |path: &str| fs::read(path).map_err(|error| format!("{path}: {error}"));
+    let recount = checksums::recount(&read(cases)?, &read(answers)?)?;
+    if let Some(first) = &recount.first {
+        println!("{first}");
+    }
+    println!(
+        "checksums: {} plain IP packets rewritten, {} wrong",
+        recount.verified, recount.wrong
+    );
+    let bad = recount.wrong > 0 || recount.verified == 0;
+    Ok(ExitCode::from(u8::from(bad)))
 }
 
 fn theorems_command(arguments: &Arguments) -> Answer {

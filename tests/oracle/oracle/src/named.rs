@@ -3,7 +3,7 @@
 //! the cases of 02's requests, one request after the other. Beside each that was built by hand stands its answer; the
 //! others are the original's to judge.
 
-use face::{Kind, Narrowed, Options};
+use face::{Kind, Modes, Narrowed, Options};
 use maker::Input;
 
 mod calls;
@@ -11,10 +11,13 @@ mod captions;
 mod damaged;
 mod examples;
 mod packets;
+mod plain_ip;
 mod readings;
+mod relay;
 mod sizes;
 mod streams;
 mod wishes;
+mod worked_out;
 
 pub use calls::{NamedCalls, Reply};
 pub use streams::{Answer, NamedStream, streams};
@@ -48,12 +51,20 @@ pub enum Requested {
 
 /// The cases of the requests, in the order in which they are written.
 pub fn requested() -> Vec<Requested> {
-    let narrowings = wishes::wishes().into_iter();
-    let series = captions::captions().into_iter();
-    narrowings
-        .map(Requested::Narrowing)
-        .chain(series.map(Requested::Calls))
-        .collect()
+    [
+        of_request(wishes::wishes(), captions::captions()),
+        of_request(
+            [plain_ip::plain_ip(), worked_out::worked_out()].concat(),
+            relay::relay(),
+        ),
+    ]
+    .concat()
+}
+
+fn of_request(narrowings: Vec<Named>, series: Vec<NamedCalls>) -> Vec<Requested> {
+    let narrowings = narrowings.into_iter().map(Requested::Narrowing);
+    let series = series.into_iter().map(Requested::Calls);
+    narrowings.chain(series).collect()
 }
 
 /// A table; the output is as long as it.
@@ -88,6 +99,7 @@ fn built(
     let input = Input {
         kind,
         options,
+        modes: Modes::OFF,
         identifier,
         room: bytes.len(),
         bytes,

@@ -3,7 +3,7 @@
 
 use std::io::{self, Read, Write};
 
-use face::{Call, Counts, Engine, Limits, Options};
+use face::{Call, Counts, Engine, Limits, Modes, Options};
 
 const CHUNK: usize = 32_768;
 const LIMITS: Limits = Limits {
@@ -85,7 +85,7 @@ fn stream<E: Engine>(
     let Some(options) = options(&filled(&mut input, 3)?) else {
         return Ok(Err(8));
     };
-    let mut engine = match E::start(LIMITS, options) {
+    let mut engine = match E::start(LIMITS, options, Modes::OFF) {
         Ok(engine) => engine,
         Err(number) => return Ok(Err(number)),
     };

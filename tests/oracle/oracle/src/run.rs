@@ -2,7 +2,7 @@
 
 use std::fmt::Write;
 
-use face::{Call, Engine, Limits, Options};
+use face::{Call, Engine, Limits, Modes, Options};
 
 /// The text that tells the run, and the bytes that were written.
 #[derive(Debug, Default, PartialEq, Eq)]
@@ -16,12 +16,13 @@ pub struct Told {
 pub fn run<E: Engine>(
     limits: Limits,
     options: Options,
+    modes: Modes,
     room: usize,
     cuts: &[usize],
     bytes: &[u8],
 ) -> Told {
     let mut told = Told::default();
-    let mut engine = match E::start(limits, options) {
+    let mut engine = match E::start(limits, options, modes) {
         Ok(engine) => engine,
         Err(number) => {
             told.line(&refused(number));

@@ -4,7 +4,7 @@
 use std::iter;
 use std::ops::Range;
 
-use face::Kind;
+use face::{Kind, Modes};
 
 use crate::answers::{narrowing_numbers, stream_numbers};
 use crate::cases::{Calls, Case, Narrowing, Stream};
@@ -17,16 +17,19 @@ pub struct Bounds {
     pub narrowing: usize,
     /// The most bytes of a stream or of a narrowing's input.
     pub longest: usize,
-    /// The most theorems.
+    /// The most theorems of each sort of cases.
     pub most: usize,
 }
 
-/// The whole file: what an answer is by the definitions, then a theorem for each case of the seeds, and then for each
-/// of their cases without other assets.
+/// The whole file: what an answer is by the definitions, then a theorem for each case of the seeds, for each of their
+/// cases without other assets, and for each of those with plain IP.
 pub fn theorems(seeds: Range<u64>, bounds: Bounds) -> String {
-    let usual = seeds.clone().flat_map(|seed| of_seed(seed, bounds));
-    let wished = seeds.flat_map(|seed| wished_of_seed(seed, bounds));
-    let theorems = usual.chain(wished).take(bounds.most);
+    let sort = |of_seed: fn(u64, Bounds) -> Vec<String>| {
+        let theorems = seeds.clone().flat_map(move |seed| of_seed(seed, bounds));
+        theorems.take(bounds.most)
+    };
+    let theorems = [of_seed, wished_of_seed, plain_ip_of_seed].map(sort);
+    let theorems = theorems.into_iter().flatten();
     let parts = iter::once(DEFINITIONS.to_owned()).chain(theorems);
     parts.collect::<Vec<_>>().join("\n")
 }
@@ -50,6 +53,15 @@ fn wished_of_seed(seed: u64, bounds: Bounds) -> Vec<String> {
     let narrowings = narrowings.map(|input| Case::Narrowing(Narrowing::with_modes(input)));
     let cases = calls.into_iter().chain(narrowings);
     of_cases(&format!("wished-seed-{seed}"), cases, bounds)
+}
+
+/// A seed's calls and narrowings with plain IP.
+fn plain_ip_of_seed(seed: u64, bounds: Bounds) -> Vec<String> {
+    let (made, inputs) = (maker::plain_ip_calls(seed), maker::plain_ip_inputs(seed));
+    let narrowings = inputs.iter().take(bounds.narrowing);
+    let narrowings = narrowings.map(|input| Case::Narrowing(Narrowing::with_modes(input)));
+    let cases = iter::once(Case::Calls(Calls::from(&made))).chain(narrowings);
+    of_cases(&format!("plain-ip-seed-{seed}"), cases, bounds)
 }
 
 /// The theorems of a seed's cases, which are counted as `cases` writes them: those that are short enough.
@@ -77,8 +89,8 @@ pub fn theorem(name: &str, case: &Case) -> Option<String> {
         arguments,
         answer,
     } = match case {
-        Case::Stream(stream) => of_stream(stream),
-        Case::Calls(calls) => of_stream(&as_stream(calls)?),
+        Case::Stream(stream) => of_stream(stream, Modes::OFF),
+        Case::Calls(calls) => of_stream(&as_stream(calls)?, calls.modes),
         Case::Narrowing(narrowing) => of_narrowing(narrowing),
     };
     let answer = list(answer);
@@ -115,16 +127,17 @@ struct Statement {
     answer: Vec<u32>,
 }
 
-fn of_stream(case: &Stream) -> Statement {
+fn of_stream(case: &Stream, modes: Modes) -> Statement {
     let limits = case.limits;
     let chunks = case
         .chunks
         .iter()
         .map(|chunk| format!("({})", list(*chunk)));
     let arguments = format!(
-        "{} {} {} {} {} {} {} ({})",
+        "{} {} {} {} {} {} {} {} ({})",
         case.options.flags(),
         case.options.service.unwrap_or(0),
+        modes.bits(),
         limits.work,
         limits.total,
         limits.most,
@@ -135,18 +148,19 @@ fn of_stream(case: &Stream) -> Statement {
     Statement {
         definition: "stream",
         arguments,
-        answer: stream_numbers::<Oracle>(case),
+        answer: stream_numbers::<Oracle>(case, modes),
     }
 }
 
 fn of_narrowing(case: &Narrowing) -> Statement {
-    let (definition, identifier) = match case.kind {
+    // The identifier is read for a payload alone, the modes for a packet alone.
+    let (definition, third) = match case.kind {
         Kind::Table => ("table", String::new()),
         Kind::Payload => ("payload", format!("{} ", case.identifier)),
-        Kind::Packet => ("packet", String::new()),
+        Kind::Packet => ("packet", format!("{} ", case.modes.bits())),
     };
     let arguments = format!(
-        "{} {} {identifier}{} ({})",
+        "{} {} {third}{} ({})",
         case.options.flags(),
         case.options.service.unwrap_or(0),
         case.room,
@@ -170,11 +184,12 @@ fn list<T: ToString>(members: impl IntoIterator<Item = T>) -> String {
 /// The answers by the definitions, as `answers::numbers` tells those of a filter.
 const DEFINITIONS: &str = "\
 -- The oracle's answers, each a theorem that holds by computing the definitions.
-use Prim.Native.Nat.{ℕ, zero, suc}
+use Prim.Native.Nat.{ℕ, zero, suc, _%_}
 use mathlib.Core.Path.{_≡_, refl}
 use mathlib.Core.List.{List, [], _∷_, _++_, flatten}
 use mathlib.Core.Option.{Option, none, some}
 use lib.ListN.{length, replicate}
+use lib.Dec.{eqb}
 use Rattle.meaning.specs.Bytes.{Bytes}
 use Rattle.meaning.specs.Narrow.{Change, changeTable, changePayload, changePacket, narrowRefusal}
 use Rattle.meaning.specs.Record.{State}
@@ -184,6 +199,11 @@ use Rattle.meaning.specs.Series.{callRefusal}
 use Rattle.meaning.specs.Programs.{optionsOf}
 use Rattle.meaning.specs.declared.Limits.{Limits}
 use Rattle.meaning.specs.declared.Options.{Options}
+use Rattle.meaning.specs.declared.Modes.{Modes}
+
+-- Of their bits.
+abbrev modesOf : ℕ → Modes
+modesOf n = record { «plain_ip» = eqb (n % 2) 1 }
 
 -- ---- narrowing: refusal, changed, length, three that stayed, three that went, the bytes
 
@@ -210,9 +230,10 @@ unfoldable payload : ℕ → ℕ → ℕ → ℕ → Bytes → List ℕ
 unfolding narrowRefusal changePayload optionsOf
 payload flags service p out-length s = narrowed (narrowRefusal (length s) out-length) (changePayload (optionsOf flags service) p s)
 
-unfoldable packet : ℕ → ℕ → ℕ → Bytes → List ℕ
+-- With the modes as the third.
+unfoldable packet : ℕ → ℕ → ℕ → ℕ → Bytes → List ℕ
 unfolding narrowRefusal changePacket optionsOf
-packet flags service out-length s = narrowed (narrowRefusal (length s) out-length) (changePacket (optionsOf flags service) s)
+packet flags service modes out-length s = narrowed (narrowRefusal (length s) out-length) (changePacket (modesOf modes) (optionsOf flags service) s)
 
 -- ---- a stream: the start's refusal, then each call's refusal, bytes, accepted, written, rewritten, skipped, held, lost and its bytes
 
@@ -231,23 +252,23 @@ callOn zero st p more = callNumbers p ++ more (p .state)
 callOn (suc n) st p more = refusedCall (suc n) st ++ more st
 
 -- One length of the output for all calls.
-unfoldable calls : Limits → Options → ℕ → State → List Bytes → List ℕ
+unfoldable calls : Limits → Modes → Options → ℕ → State → List Bytes → List ℕ
 unfolding callRefusal push flatten
-calls L o out-length st [] = []
-calls L o out-length st (chunk ∷ chunks) =
-    callOn (callRefusal L st (chunk, out-length)) st (push L o st chunk) (λ after. calls L o out-length after chunks)
+calls L M o out-length st [] = []
+calls L M o out-length st (chunk ∷ chunks) =
+    callOn (callRefusal L st (chunk, out-length)) st (push L M o st chunk) (λ after. calls L M o out-length after chunks)
 
 -- After a refused start nothing follows.
 abbrev startOn : ℕ → List ℕ → List ℕ
 startOn zero more = 0 ∷ more
 startOn (suc n) more = suc n ∷ []
 
--- Of flags, service, W, T, M, the lengths of map room and output, and the chunks.
-unfoldable stream : ℕ → ℕ → ℕ → ℕ → ℕ → ℕ → ℕ → List Bytes → List ℕ
+-- Of flags, service, modes, W, T, M, the lengths of map room and output, and the chunks.
+unfoldable stream : ℕ → ℕ → ℕ → ℕ → ℕ → ℕ → ℕ → ℕ → List Bytes → List ℕ
 unfolding startRefusal calls optionsOf fresh
-stream flags service W T M map-length out-length chunks =
+stream flags service modes W T M map-length out-length chunks =
     startOn (startRefusal W T M map-length (optionsOf flags service))
-    (calls (record { work = W; total = T; most = M }) (optionsOf flags service) out-length (fresh (replicate map-length 0)) chunks)
+    (calls (record { work = W; total = T; most = M }) (modesOf modes) (optionsOf flags service) out-length (fresh (replicate map-length 0)) chunks)
 
 -- ---- the cases
 ";

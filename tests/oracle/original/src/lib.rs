@@ -2,7 +2,7 @@
 //! `Parts`, each of its parts alone. The build puts 000 in (see `build.rs`); the readers that it calls are the
 //! stand-ins beside this crate.
 
-use face::{Call, Engine, Kind, Limits, Narrowed};
+use face::{Call, Engine, Kind, Limits, Modes, Narrowed};
 // What 000 takes from the module above it.
 use face::{Options, Part};
 
@@ -31,24 +31,34 @@ pub struct Original {
 }
 
 impl Original {
-    /// Whether it can be asked with these options: 000 has no wish of other assets, it wants them all.
-    pub fn knows(options: &Options) -> bool {
-        options.other
+    /// Whether it can be asked with these options and modes: 000 has no wish of other assets, it wants them all, and it has
+    /// no modes.
+    pub fn knows(options: &Options, modes: &Modes) -> bool {
+        options.other && modes.all_off()
     }
 }
 
 /// A wish that 000 does not know would be passed over in silence.
 fn must_know(options: &Options) {
     assert!(
-        Original::knows(options),
+        Original::knows(options, &Modes::OFF),
         "the original wants all other assets, and can't be asked without them: {options:?}"
     );
 }
 
-/// It panics where it is asked with options that it does not know.
+/// So would a mode.
+fn must_have_no_mode(modes: &Modes) {
+    assert!(
+        modes.all_off(),
+        "the original has no modes, and can't be asked with one: {modes:?}"
+    );
+}
+
+/// It panics where it is asked with options or modes that it does not know.
 impl Engine for Original {
-    fn start(limits: Limits, options: Options) -> Result<Self, u8> {
+    fn start(limits: Limits, options: Options, modes: Modes) -> Result<Self, u8> {
         must_know(&options);
+        must_have_no_mode(&modes);
         refuse_if(1, !(4_096..=131_078).contains(&limits.work))?;
         refuse_if(2, !(1..=16_777_216).contains(&limits.total))?;
         refuse_if(2, !(1..=limits.total).contains(&limits.most))?;
@@ -74,11 +84,13 @@ impl Engine for Original {
     fn narrow(
         kind: Kind,
         options: Options,
+        modes: Modes,
         identifier: u16,
         input: &[u8],
         room: usize,
     ) -> Narrowed {
         must_know(&options);
+        must_have_no_mode(&modes);
         let refusal =
             refuse_if(5, input.len() > NARROWED).and_then(|()| refuse_if(6, room < input.len()));
         match refusal {

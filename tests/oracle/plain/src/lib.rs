@@ -4,6 +4,7 @@
 //! the other files follow 01's sections.
 
 mod finding;
+mod ip;
 mod learning;
 mod narrowing;
 mod payload;
@@ -11,7 +12,7 @@ mod reader;
 mod rules;
 mod tables;
 
-use face::{Call, Counts, Engine, Kind, Limits, Narrowed, Options};
+use face::{Call, Counts, Engine, Kind, Limits, Modes, Narrowed, Options};
 use finding::Found;
 use learning::Learned;
 use narrowing::{Changed, narrow_packet, narrow_payload, narrow_table};
@@ -23,12 +24,13 @@ const MOST_NARROWED: usize = 65_539;
 pub struct Plain {
     limits: Limits,
     options: Options,
+    modes: Modes,
     held: Vec<u8>,
     learned: Learned,
 }
 
 impl Engine for Plain {
-    fn start(limits: Limits, options: Options) -> Result<Self, u8> {
+    fn start(limits: Limits, options: Options, modes: Modes) -> Result<Self, u8> {
         if !(4_096..=131_078).contains(&limits.work) {
             return Err(1);
         }
@@ -44,6 +46,7 @@ impl Engine for Plain {
         Ok(Self {
             limits,
             options,
+            modes,
             held: Vec::new(),
             learned: Learned::default(),
         })
@@ -83,6 +86,7 @@ impl Engine for Plain {
     fn narrow(
         kind: Kind,
         options: Options,
+        modes: Modes,
         identifier: u16,
         input: &[u8],
         room: usize,
@@ -96,7 +100,7 @@ impl Engine for Plain {
         let changed = match kind {
             Kind::Table => narrow_table(&options, input),
             Kind::Payload => narrow_payload(&options, identifier, input),
-            Kind::Packet => narrow_packet(&options, input),
+            Kind::Packet => narrow_packet(&options, &modes, input),
         };
         match changed {
             None => Narrowed::Unchanged,
@@ -149,7 +153,7 @@ impl Plain {
             }
         }
         call.counts.written += 1;
-        match narrow_packet(&self.options, packet) {
+        match narrow_packet(&self.options, &self.modes, packet) {
             None => call.out.extend_from_slice(packet),
             Some(changed) => {
                 call.counts.rewritten += 1;

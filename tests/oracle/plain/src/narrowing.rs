@@ -2,11 +2,12 @@
 //! means unchanged. Nothing learned is looked at (DECISIONS R9).
 
 use crate::finding::HEAD;
-use crate::payload::mmtp;
+use crate::ip;
+use crate::payload::{Mmtp, mmtp};
 use crate::reader::Reader;
 use crate::rules::wants;
 use crate::tables::{self, AssetEntry, Mpt, Pa, Plt, Table};
-use face::{Options, Part};
+use face::{Modes, Options, Part};
 
 /// Counts of captions, carousels and others, in this order (DECISIONS R26).
 type Kinds = [u32; 3];
@@ -18,13 +19,20 @@ pub struct Changed {
 }
 
 /// A packet by its type; of the other bytes of its head the mark stays and the length is put right.
-pub fn narrow_packet(options: &Options, packet: &[u8]) -> Option<Changed> {
-    let mmtp = mmtp(packet).filter(|mmtp| mmtp.rewritable && mmtp.is_signalling())?;
+pub fn narrow_packet(options: &Options, modes: &Modes, packet: &[u8]) -> Option<Changed> {
+    let mmtp = mmtp(packet).filter(Mmtp::is_signalling)?;
+    let datagram = ip::datagram(packet).filter(|_| modes.plain_ip);
+    if !mmtp.rewritable && datagram.is_none() {
+        return None;
+    }
     let changed = narrow_payload(options, mmtp.identifier, mmtp.payload)?;
     let mut out = packet[..packet.len() - mmtp.payload.len()].to_vec();
     out.extend(changed.out);
     let length = be16(out.len() - HEAD);
     out[2..HEAD].copy_from_slice(&length);
+    if let Some(datagram) = datagram {
+        datagram.work_out(&mut out[HEAD..]);
+    }
     Some(Changed { out, ..changed })
 }
 
@@ -149,7 +157,7 @@ fn count(kinds: &mut Kinds, entries: &[&AssetEntry]) {
     }
 }
 
-fn be16(length: usize) -> [u8; 2] {
+pub fn be16(length: usize) -> [u8; 2] {
     let length = u16::try_from(length).expect("no longer than it was");
     length.to_be_bytes()
 }

@@ -21,8 +21,8 @@ array-read-if2 c = search needs
 returns-2 : tie.Need-returns-2
 returns-2 c = search needs
 
-array-read-if3 : tie.Need-array-read-if3
-array-read-if3 c = search needs
+array-read-modes : tie.Need-array-read-modes
+array-read-modes c = search needs
 
 returns-3 : tie.Need-returns-3
 returns-3 c = search needs
@@ -102,7 +102,7 @@ one-run-spec =
     returns
     array-read-if2
     returns-2
-    array-read-if3
+    array-read-modes
     returns-3
     slice-aggregate-asked-at
     slice-aggregate-be16

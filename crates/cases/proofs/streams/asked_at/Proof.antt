@@ -12,6 +12,9 @@ id16-requires c κs = search needs
 options-of-requires : tie.Need-options-of-requires
 options-of-requires c κs = search needs
 
+modes-of-requires : tie.Need-modes-of-requires
+modes-of-requires c κs = search needs
+
 add-be32 : tie.Need-add-be32
 add-be32 c = search needs
 
@@ -37,7 +40,9 @@ be32-requires-4 : tie.Need-be32-requires-4
 be32-requires-4 c κs = search needs
 
 returns : tie.Need-returns
-returns c = let a = c .before .before .before .before .before .before .before .before .args in asked-is (a .head .now) (a .at) (c .before .before .before .before .before .id16 .ensures) (c .before .before .before .before .options-of .ensures) (c .before .before .before .be32 .ensures .0) (c .before .before .be322 .ensures .0) (c .before .be323 .ensures .0) (c .be324 .ensures .0)
+returns c =
+    let a = c .before .before .before .before .before .before .before .before .before .args in
+    asked-is (a .head .now) (a .at) (a .modes) (c .before .before .before .before .before .before .id16 .ensures) (c .before .before .before .before .before .options-of .ensures) (c .before .before .before .before .modes-of .ensures) (c .before .before .before .be32 .ensures .0) (c .before .before .be322 .ensures .0) (c .before .be323 .ensures .0) (c .be324 .ensures .0)
 
 pub asked-at-spec : {M : Type 1} → statement M
 asked-at-spec =
@@ -46,6 +51,7 @@ asked-at-spec =
     shared-slice-read-options-of
     id16-requires
     options-of-requires
+    modes-of-requires
     add-be32
     be32-requires
     add-be32-2

@@ -4,7 +4,6 @@ use mathlib.Core.List.{_++_}
 use native.Mathlib.Omega.{arith}
 use lib.ListN.{length, take, drop, length-append, length-drop}
 use lib.Seq.{length-take-le, take-all}
-use Rattle.meaning.specs.declared.Options.{Options}
 use Rattle.meaning.specs.Push.{filtered}
 use Rattle.passing.specs.declared.Terms.{Terms}
 use Rattle.recorder.proofs.FrontLaws.{run-end, run-front, run-is, run-length, front-holds, front-reads}
@@ -35,7 +34,7 @@ same-length c = search needs
 returns : tie.Need-returns
 returns c L k em ew h =
     let all = sym (c .before .before .before .before .before .copies-all .ensures) ∙ c .before .before .before .before .if1 .taken in
-    all-copied L _ k _ _ _ _ _ _ _ _ _ _ _ _ _ all (c .before .before .before .before .before .before .before .before .before .before .before .before .before .pre .1 all) (c .before .before .copied .ensures .0) (c .before .before .copied .ensures .1) h
+    all-copied L _ _ k _ _ _ _ _ _ _ _ _ _ _ _ _ all (c .before .before .before .before .before .before .before .before .before .before .before .before .before .pre .1 all) (c .before .before .copied .ensures .0) (c .before .before .copied .ensures .1) h
 
 terms-of-requires : tie.Need-terms-of-requires
 terms-of-requires c κs = search needs
@@ -63,8 +62,8 @@ returns-2 c L k em ew h =
     let terms = c .before .before .before .before .before .before .before .before .terms-of in
     let held = take (a .b .«held_count») (a .work .now) in
     let len : length (held ++ a .chunk .now) ≡ a .b .«held_count» + length (a .chunk .now) = omega (arith, length-append held (a .chunk .now), length-take-le (a .b .«held_count») (a .work .now) (omega (arith, z .pre .0 .work-room))) in
-    ran-as (not-all L _ _ _ (sym (c .before .before .before .before .before .before .before .before .before .before .copies-all .ensures) ∙ c .before .before .before .before .before .before .before .before .before .if1 .left))
-    (held-ends L (a .b .options) k held (a .chunk .now) (a .out .now) _ (length (a .work .now)) (terms .result .limit) (a .b .extent) (c .before .before .all-held .result) _ _ _ _ _ _ (ap (λ (t : Terms). t .limit) (terms .ensures)) ew
+    ran-as (not-all L _ _ _ _ (sym (c .before .before .before .before .before .before .before .before .before .before .copies-all .ensures) ∙ c .before .before .before .before .before .before .before .before .before .if1 .left))
+    (held-ends L (a .b .modes) (a .b .options) k held (a .chunk .now) (a .out .now) _ (length (a .work .now)) (terms .result .limit) (a .b .extent) (c .before .before .all-held .result) _ _ _ _ _ _ (ap (λ (t : Terms). t .limit) (terms .ensures)) ew
     (front-holds (terms .result .limit) (a .b .«held_count») (a .chunk .now) (a .work .now) (omega (arith, z .pre .0 .work-room)) _ (c .before .before .before .before .before .before .front-of .ensures) (c .before .before .before .before .enum-told .given .1))
     (rw (← len) at (e .0)) (ap (λ (n : ℕ). take n (c .before .before .all-held .last .1 .1 .1 .0)) len ∙ e .1 .front) h)
 
@@ -181,7 +180,7 @@ returns-3 c L known em ew h =
     let passed = rw (run-is (a .b .«held_count») k (a .chunk .now) (a .work .now) _ (c .before .before .before .before .before .before .before .before .before .before .before .before .before .before .before .before .before .before .before .before .before .before .before .before .copy .result) (f .0) (omega (arith, f .0, z .pre .0 .work-room)) (c .before .before .before .before .before .before .before .before .before .before .before .before .before .before .before .before .before .before .before .before .before .before .before .before .copy .ensures), second) at (c .before .before .before .before .before .before .before .before .before .before .before .in-parts .ensures) in
     let on = rw second at (c .before .before .held-on .ensures) in
     ran-as
-    (ap (λ (o : Options). filtered L o (record { held = held; known = known }) (a .chunk .now)) (ap (λ (t : Terms). t .options) (terms .ensures)) ∙ not-all L _ _ _ (sym (c .before .before .before .before .before .before .before .before .before .before .before .before .before .before .before .before .before .before .before .before .before .before .before .before .before .before .before .before .before .before .before .before .before .before .copies-all .ensures) ∙ c .before .before .before .before .before .before .before .before .before .before .before .before .before .before .before .before .before .before .before .before .before .before .before .before .before .before .before .before .before .before .before .before .before .if1 .left))
+    (ap (λ (t : Terms). filtered L (t .modes) (t .options) (record { held = held; known = known }) (a .chunk .now)) (terms .ensures) ∙ not-all L _ _ _ _ (sym (c .before .before .before .before .before .before .before .before .before .before .before .before .before .before .before .before .before .before .before .before .before .before .before .before .before .before .before .before .before .before .before .before .before .before .copies-all .ensures) ∙ c .before .before .before .before .before .before .before .before .before .before .before .before .before .before .before .before .before .before .before .before .before .before .before .before .before .before .before .before .before .before .before .before .before .if1 .left))
     (parts-carried L (terms .result) known held (a .chunk .now) (held ++ take k (a .chunk .now)) (drop k (a .chunk .now)) (a .out .now) _ _ _ (length (a .work .now)) (c .before .before .before .before .before .before .before .before .before .before .before .before .before .before .before .before .before .before .before .before .before .before .before .before .copy .result) (a .b .extent) _ _ _ _ _ _ _ _ _ _ _ _ (c .before .before .before .before .before .before .before .before .before .before .before .in-parts .result) (c .before .before .held-on .result)
     (ap (λ (t : Terms). t .limit) (terms .ensures)) ew (em ∙ sym (ap (λ (t : Terms). t .most) (terms .ensures))) (run-parts held (a .chunk .now) k) (f .1) (run-front (a .b .«held_count») k (a .chunk .now) (a .work .now) _ (c .before .before .before .before .before .before .before .before .before .before .before .before .before .before .before .before .before .before .before .before .before .before .before .before .copy .result) (f .0) (omega (arith, f .0, z .pre .0 .work-room)) (c .before .before .before .before .before .before .before .before .before .before .before .before .before .before .before .before .before .before .before .before .before .before .before .before .copy .ensures)) h passed on)
 

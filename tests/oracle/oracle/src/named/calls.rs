@@ -1,6 +1,6 @@
 //! What named calls are made of: operations, each with its answer beside it.
 
-use face::{Call, Limits, Options};
+use face::{Call, Limits, Modes, Options};
 use maker::{Calls, Operation};
 
 use super::streams::{LIMITS, Sent, bytes, packets, short};
@@ -30,6 +30,7 @@ pub(super) fn calls(name: impl Into<String>, options: Options, steps: Vec<Step>)
         case: Calls {
             limits: LIMITS,
             options,
+            modes: Modes::OFF,
             operations,
         },
         answer: Ok(answer),

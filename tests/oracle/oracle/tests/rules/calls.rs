@@ -1,7 +1,7 @@
 //! The format of calls and of narrowings with modes (case kinds 4 and 7 to 9): what stands where, what ends the run and
 //! after which answers, and the answers byte by byte.
 
-use face::{Engine, Kind, Limits, Options};
+use face::{Engine, Kind, Limits, Modes, Options};
 use oracle::answers::answers;
 use oracle::cases::{Calls, Case, Narrowing, Operation};
 use oracle::engine::Oracle;
@@ -17,6 +17,7 @@ fn calls<'a>(operations: &[Operation<'a>]) -> Calls<'a> {
     Calls {
         limits: LIMITS,
         options: NO_OTHERS,
+        modes: Modes::OFF,
         operations: operations.to_vec(),
         cut: false,
     }
@@ -43,7 +44,7 @@ fn answered(cases: &[u8]) -> Vec<u8> {
     assert_eq!(answer, answers::<Plain>(cases));
     if read(cases)
         .iter()
-        .all(|case| Original::knows(case.options()))
+        .all(|case| Original::knows(case.options(), case.modes()))
     {
         assert_eq!(answer, answers::<Original>(cases));
     }
@@ -110,6 +111,34 @@ fn cases_stand_byte_by_byte() {
     }
 }
 
+/// The modes byte, in calls and in narrowings.
+#[test]
+fn modes_stand_behind_the_wishes() {
+    let series = Calls {
+        modes: Modes::PLAIN_IP,
+        ..calls(&[])
+    };
+    let packet = Narrowing {
+        modes: Modes::PLAIN_IP,
+        ..with_modes(Kind::Packet, &[0xaa])
+    };
+    let cases = [Case::Calls(series), Case::Narrowing(packet)];
+    let bytes = written(&cases);
+    assert_eq!(bytes[..5], hex("04 17 01 0000"));
+    assert_eq!(bytes[23..], hex("09 1F 01 0401 1234 00000064 00000001 AA"));
+    assert_eq!(read(&bytes), cases);
+}
+
+#[test]
+#[should_panic(expected = "no place")]
+fn kinds_0_to_3_have_no_place_for_modes() {
+    let case = Narrowing {
+        modes: Modes::PLAIN_IP,
+        ..narrowing(Kind::Table, &[])
+    };
+    written(&[Case::Narrowing(case)]);
+}
+
 #[test]
 #[should_panic(expected = "no place")]
 fn kinds_0_to_3_have_no_place_for_the_fourth_wish() {
@@ -121,7 +150,7 @@ fn kinds_0_to_3_have_no_place_for_the_fourth_wish() {
 }
 
 #[test]
-fn wishes_above_31_or_a_mode_end_the_run() {
+fn wishes_above_31_or_modes_above_1_end_the_run() {
     for case in [
         Case::Calls(calls(&[])),
         Case::Narrowing(with_modes(Kind::Table, &[])),
@@ -132,7 +161,7 @@ fn wishes_above_31_or_a_mode_end_the_run() {
             assert_eq!(read_with(case.clone(), 1, &[wishes]), cases);
         }
         for modes in 0..=255 {
-            let cases = if modes == 0 { 2 } else { 0 };
+            let cases = if modes < 2 { 2 } else { 0 };
             assert_eq!(read_with(case.clone(), 2, &[modes]), cases);
         }
     }
@@ -363,6 +392,8 @@ fn the_filters_agree_on_the_calls_of_the_first_seeds() {
         for input in &inputs {
             answered(&written(&[Case::Narrowing(Narrowing::with_modes(input))]));
         }
+        let relay = maker::plain_ip_calls(seed);
+        answered(&written(&[Case::Calls(Calls::from(&relay))]));
     }
 }
 
@@ -374,7 +405,7 @@ fn the_makers_calls_are_refused_in_every_way() {
     let mut exact = 0;
     for seed in 0..400 {
         let made = maker::calls(seed);
-        let mut filter = match Plain::start(made.limits, made.options) {
+        let mut filter = match Plain::start(made.limits, made.options, made.modes) {
             Ok(filter) => filter,
             Err(number) => {
                 starts[usize::from(number)] += 1;

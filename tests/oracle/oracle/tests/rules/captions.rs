@@ -1,7 +1,7 @@
 //! Request 1, the wish of other assets: what is listed and is neither caption nor carousel. The named cases say more of
 //! it; here is that nothing else depends on the wish.
 
-use face::{Kind, Narrowed, Options};
+use face::{Kind, Modes, Narrowed, Options};
 
 use crate::subject::{Subject, changed, each_knowing};
 use oracle::builders::*;
@@ -48,7 +48,7 @@ fn narrowing_takes_out_what_is_not_wanted() {
         each_knowing(options, |filter| {
             for kind in [Kind::Table, Kind::Payload, Kind::Packet] {
                 let before = around(kind, &entries);
-                let answer = (filter.narrow)(kind, options, 1, &before, before.len());
+                let answer = (filter.narrow)(kind, options, Modes::OFF, 1, &before, before.len());
                 let after = after.as_ref().map(|left| around(kind, left));
                 assert_eq!(changed(answer), after, "{options:?}");
             }
@@ -60,8 +60,9 @@ fn narrowing_takes_out_what_is_not_wanted() {
 fn narrowing_is_refused_for_nothing_but_lengths() {
     for options in all() {
         each_knowing(options, |filter| {
-            let narrow =
-                |length, room| (filter.narrow)(Kind::Table, options, 0, &vec![0; length], room);
+            let narrow = |length, room| {
+                (filter.narrow)(Kind::Table, options, Modes::OFF, 0, &vec![0; length], room)
+            };
             assert_eq!(narrow(65_540, 65_540), Narrowed::Refused(5));
             assert_eq!(narrow(2, 1), Narrowed::Refused(6));
             assert_eq!(narrow(2, 2), Narrowed::Unchanged);

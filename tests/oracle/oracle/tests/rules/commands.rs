@@ -3,7 +3,7 @@
 use std::io::Write;
 use std::process::{Command, Output, Stdio};
 
-use face::{Limits, Narrowed, Options};
+use face::{Limits, Modes, Narrowed, Options};
 use oracle::arguments::Arguments;
 use oracle::cases::{Selection, wished_of_seed};
 use oracle::{compare, narrow, run};
@@ -11,10 +11,11 @@ use original::Original;
 
 use crate::subject::LIMITS;
 use oracle::builders::*;
+use oracle::datagrams::Heads;
 
 fn told(limits: Limits, room: usize, cuts: &[usize]) -> String {
     let bytes = hex("7F FF 00 01 AA 00");
-    run::run::<Original>(limits, NO_CAPTIONS, room, cuts, &bytes).text
+    run::run::<Original>(limits, NO_CAPTIONS, Modes::OFF, room, cuts, &bytes).text
 }
 
 #[test]
@@ -115,7 +116,7 @@ fn wishes_are_told_by_flags_or_by_a_profile() {
 }
 
 /// What the command writes to a run of cases or a table, and how it ends.
-fn command(words: &[&str], input: &[u8]) -> Output {
+pub fn command(words: &[&str], input: &[u8]) -> Output {
     let mut child = Command::new(env!("CARGO_BIN_EXE_oracle"))
         .args(words)
         .stdin(Stdio::piped())
@@ -137,7 +138,7 @@ fn the_original_is_not_asked_without_other_assets() {
             series: true,
             narrowings: 2,
         };
-        (0..9).flat_map(move |seed| wished_of_seed(seed, selection, Some(other)))
+        (0..9).flat_map(move |seed| wished_of_seed(seed, selection, Modes::OFF, Some(other)))
     };
     let (on, off): (Vec<u8>, Vec<u8>) = (wished(true).collect(), wished(false).collect());
     let table = mpt(&[video(1), caption(2)]);
@@ -169,6 +170,10 @@ fn words_that_do_not_go_together_are_refused() {
     for words in [
         &["cases", "--seeds", "0..1", "--other", "off"][..],
         &["cases", "--seeds", "0..1", "--calls", "--other", "none"],
+        &["cases", "--seeds", "0..1", "--modes", "plain-ip"],
+        &["cases", "--seeds", "0..1", "--calls", "--modes", "fast"],
+        &["checksums", "one-file"],
+        &["checksums", "no-such-file", "none-such"],
         &["answers", "--by", "nobody"],
         &["run", "--flags", "0x20"],
     ] {
@@ -176,6 +181,35 @@ fn words_that_do_not_go_together_are_refused() {
         assert_eq!(output.status.code(), Some(2), "{words:?}");
         assert!(output.stdout.is_empty() && !output.stderr.is_empty());
     }
+}
+
+#[test]
+fn the_original_is_not_asked_with_a_mode_on() {
+    let words = ["cases", "--seeds", "0..9", "--calls", "--modes", "plain-ip"];
+    let cases = command(&words, &[]).stdout;
+    let refused = command(&["answers", "--by", "original"], &cases);
+    assert_eq!(refused.status.code(), Some(2));
+    let message = String::from_utf8(refused.stderr).expect("text");
+    assert!(message.contains("with a mode on"), "{message}");
+    let plain = command(&["answers", "--by", "plain"], &cases).stdout;
+    assert_eq!(plain, command(&["answers"], &cases).stdout);
+}
+
+#[test]
+fn packets_are_narrowed_by_hand_in_the_mode() {
+    let message = |entries: &[Vec<u8>]| mmtp(2, 1, &whole(&pa(&[mpt(entries)])));
+    let packet = Heads::v4().around(&message(&[video(1), caption(2)]));
+    let narrowed = |words: &[&str]| {
+        let output = command(
+            &[&["narrow", "packet", "--flags", "6"], words].concat(),
+            &packet,
+        );
+        String::from_utf8(output.stdout).expect("text")
+    };
+    let length = packet.len() - 18;
+    let line = format!("changed {length} stayed 0,0,1 went 1,0,0\n");
+    assert_eq!(narrowed(&["--modes", "plain-ip"]), line);
+    assert_eq!(narrowed(&[]), "unchanged\n");
 }
 
 /// A short run of what the commands `compare` and `same` do at length.

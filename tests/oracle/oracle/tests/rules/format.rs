@@ -1,7 +1,7 @@
 //! The formats of cases and answers: what is written is read again, what can't be read ends the run, and
 //! the answers stand byte by byte as the format says.
 
-use face::{Kind, Limits};
+use face::{Kind, Limits, Modes};
 use oracle::answers::answers;
 use oracle::cases::{Calls, Case, Narrowing, Reader, Stream, Writer};
 use original::Original;
@@ -25,6 +25,7 @@ pub fn narrowing(kind: Kind, input: &[u8]) -> Narrowing<'_> {
         with_modes: false,
         kind,
         options: only(0x0401),
+        modes: Modes::OFF,
         identifier: 0x1234,
         room: 100,
         input,
@@ -72,9 +73,11 @@ fn what_the_maker_makes_fits_the_format() {
         let (made, inputs) = (maker::case(seed), maker::inputs(seed));
         let (calls, wished) = (maker::calls(seed), maker::wished_inputs(seed));
         let narrowings = inputs.iter().map(Narrowing::from);
-        let narrowings = narrowings.chain(wished.iter().map(Narrowing::with_modes));
+        let (relay, packets) = (maker::plain_ip_calls(seed), maker::plain_ip_inputs(seed));
+        let with_modes = wished.iter().chain(&packets);
+        let narrowings = narrowings.chain(with_modes.map(Narrowing::with_modes));
         let mut cases = vec![Case::Stream(Stream::from(&made))];
-        cases.push(Case::Calls(Calls::from(&calls)));
+        cases.extend([&calls, &relay].map(|made| Case::Calls(Calls::from(made))));
         cases.extend(narrowings.map(Case::Narrowing));
         assert_eq!(read(&written(&cases)), cases, "seed {seed}");
     }

@@ -3,6 +3,7 @@
 
 mod calls;
 mod captions;
+mod checksums;
 mod commands;
 mod examples;
 mod format;
@@ -12,6 +13,7 @@ mod messages;
 mod named;
 mod narrowing;
 mod packets;
+mod plain_ip;
 mod programs;
 mod refusals;
 mod subject;

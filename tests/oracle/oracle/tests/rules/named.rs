@@ -4,13 +4,13 @@
 use std::collections::BTreeSet;
 use std::process::Command;
 
-use face::{Kind, Narrowed, Options};
+use face::{Kind, Modes, Narrowed, Options};
 use maker::Operation;
 use oracle::cases::{Calls, Case, Narrowing, Reader, Stream};
 use oracle::named::{Answer, Named, NamedCalls, NamedStream, Reply, Requested};
 use oracle::named::{named, requested, streams};
 
-use crate::subject::{Subject, each_knowing};
+use crate::subject::{Subject, each_knowing_both};
 
 fn damaged() -> Vec<Named> {
     let cases = named().into_iter();
@@ -52,7 +52,7 @@ fn answers_are_those_that_stand_beside_the_cases() {
 /// What a filter answers to a stream. After a refused call as much is held as before it.
 fn ran(filter: &Subject, stream: &NamedStream) -> Answer {
     let case = &stream.case;
-    let mut run = match (filter.start)(case.limits, case.options) {
+    let mut run = match (filter.start)(case.limits, case.options, Modes::OFF) {
         Ok(run) => run,
         Err(number) => return Answer::Refused(number),
     };
@@ -82,7 +82,7 @@ fn answers_are_those_that_stand_beside_the_streams() {
 /// What a filter answers to calls. After a refused push as much is held as before it.
 fn asked(filter: &Subject, calls: &NamedCalls) -> Result<Vec<Reply>, u8> {
     let case = &calls.case;
-    let mut run = (filter.start)(case.limits, case.options)?;
+    let mut run = (filter.start)(case.limits, case.options, case.modes)?;
     let answer = |operation: &Operation| match operation {
         Operation::Push { room, chunk } => {
             let held = run.held();
@@ -95,7 +95,7 @@ fn asked(filter: &Subject, calls: &NamedCalls) -> Result<Vec<Reply>, u8> {
     Ok(case.operations.iter().map(answer).collect())
 }
 
-/// Every filter that knows the options answers as is stated.
+/// Every filter that knows the options and modes answers as is stated.
 #[test]
 fn answers_are_those_that_stand_beside_the_cases_of_requests() {
     for case in requested() {
@@ -106,13 +106,15 @@ fn answers_are_those_that_stand_beside_the_cases_of_requests() {
                 answer,
             }) => {
                 let answer = answer.expect("its answer stands beside it");
-                each_knowing(input.options, |filter| {
+                each_knowing_both(input.options, input.modes, |filter| {
                     assert_eq!(filter.answer(&input), answer, "{name}");
                 });
             }
-            Requested::Calls(calls) => each_knowing(calls.case.options, |filter| {
-                assert_eq!(asked(filter, &calls), calls.answer, "{}", calls.name);
-            }),
+            Requested::Calls(calls) => {
+                each_knowing_both(calls.case.options, calls.case.modes, |filter| {
+                    assert_eq!(asked(filter, &calls), calls.answer, "{}", calls.name);
+                })
+            }
         }
     }
 }

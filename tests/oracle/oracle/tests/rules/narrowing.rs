@@ -1,7 +1,7 @@
 //! The readings that concern narrowing. Their inputs and answers are named cases (`named/readings.rs`); what a
 //! stream shows of them stands here.
 
-use face::{Kind, Narrowed, Options};
+use face::{Kind, Modes, Narrowed, Options};
 use oracle::builders::*;
 use oracle::named::{Named, named};
 
@@ -178,7 +178,14 @@ fn a_packet_that_narrowing_leaves_goes_out_as_it_is() {
         let (mut left, mut changed) = (0, 0);
         for Named { name, input, .. } in &packets {
             let packet = &input.bytes;
-            let out = match (filter.narrow)(Kind::Packet, NO_CAPTIONS, 0, packet, packet.len()) {
+            let out = match (filter.narrow)(
+                Kind::Packet,
+                NO_CAPTIONS,
+                Modes::OFF,
+                0,
+                packet,
+                packet.len(),
+            ) {
                 Narrowed::Changed { out, .. } => out,
                 _ => packet.clone(),
             };

@@ -1,12 +1,18 @@
 //! 01's refusal numbers: each limit from both sides, the lowest number first, and nothing changed.
 
-use face::{Call, Counts, Kind, Limits, Narrowed, Options};
+use face::{Call, Counts, Kind, Limits, Modes, Narrowed, Options};
 
 use crate::subject::{LIMITS, each, each_knowing};
 use oracle::builders::*;
 
 fn start(limits: Limits, expected: Option<u8>) {
-    each(|filter| assert_eq!((filter.start)(limits, ALL).err(), expected, "{limits:?}"));
+    each(|filter| {
+        assert_eq!(
+            (filter.start)(limits, ALL, Modes::OFF).err(),
+            expected,
+            "{limits:?}"
+        )
+    });
 }
 
 #[test]
@@ -69,7 +75,7 @@ fn the_lowest_number_is_given() {
     each(|filter| {
         let mut run = filter.started(NO_CAPTIONS);
         assert_eq!(run.push(&[0; 65_540], 0), Err(5));
-        let narrowed = (filter.narrow)(Kind::Table, ALL, 0, &[0; 65_540], 0);
+        let narrowed = (filter.narrow)(Kind::Table, ALL, Modes::OFF, 0, &[0; 65_540], 0);
         assert_eq!(narrowed, Narrowed::Refused(5));
     });
 }
@@ -81,7 +87,7 @@ fn wishes() {
         let options = Options::from_flags(flags, 0x0401);
         let refusal = (flags & 0x11 == 0x10).then_some(9);
         each_knowing(options, |filter| {
-            let start = |limits| (filter.start)(limits, options).err();
+            let start = |limits| (filter.start)(limits, options, Modes::OFF).err();
             assert_eq!(start(LIMITS), refusal, "{flags:#x}");
             assert_eq!(start(Limits { maps: 0, ..LIMITS }), Some(3), "{flags:#x}");
             assert_eq!(start(Limits { most: 0, ..LIMITS }), Some(2), "{flags:#x}");
@@ -136,7 +142,8 @@ fn narrowings() {
     table.resize(65_539, 0);
     each(|filter| {
         for kind in [Kind::Table, Kind::Payload, Kind::Packet] {
-            let narrow = |input, room| (filter.narrow)(kind, NO_CAPTIONS, 0, input, room);
+            let narrow =
+                |input, room| (filter.narrow)(kind, NO_CAPTIONS, Modes::OFF, 0, input, room);
             assert_eq!(narrow(&[0; 65_540], 70_000), Narrowed::Refused(5));
             assert_eq!(narrow(&[0; 65_539], 65_538), Narrowed::Refused(6));
             assert_eq!(narrow(&[0; 65_539], 65_539), Narrowed::Unchanged);

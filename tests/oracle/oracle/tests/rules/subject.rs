@@ -1,6 +1,6 @@
 //! The filters that are asked, behind one face, and the words that the tests use for asking.
 
-use face::{Call, Engine, Kind, Limits, Narrowed, Options};
+use face::{Call, Engine, Kind, Limits, Modes, Narrowed, Options};
 use maker::Input;
 use oracle::engine::Oracle;
 use original::Original;
@@ -21,10 +21,15 @@ pub fn each(test: impl Fn(&Subject)) {
     }
 }
 
-/// Runs a test with each filter that knows these options: the second one, the oracle, and where it can be asked the
-/// original.
+/// Runs a test with each filter that knows these options, all modes off: the second one, the oracle, and where it can be
+/// asked the original.
 pub fn each_knowing(options: Options, test: impl Fn(&Subject)) {
-    let original = Original::knows(&options).then(Subject::original);
+    each_knowing_both(options, Modes::OFF, test);
+}
+
+/// The same in these modes.
+pub fn each_knowing_both(options: Options, modes: Modes, test: impl Fn(&Subject)) {
+    let original = Original::knows(&options, &modes).then(Subject::original);
     let others = [Subject::plain(), Subject::oracle()];
     for subject in others.into_iter().chain(original) {
         subject.run(&test);
@@ -34,8 +39,8 @@ pub fn each_knowing(options: Options, test: impl Fn(&Subject)) {
 /// `Engine`'s functions, and `Running` its methods, as values.
 pub struct Subject {
     name: &'static str,
-    pub start: fn(Limits, Options) -> Result<Run, u8>,
-    pub narrow: fn(Kind, Options, u16, &[u8], usize) -> Narrowed,
+    pub start: fn(Limits, Options, Modes) -> Result<Run, u8>,
+    pub narrow: fn(Kind, Options, Modes, u16, &[u8], usize) -> Narrowed,
 }
 
 impl Subject {
@@ -60,8 +65,8 @@ impl Subject {
     fn of<E: Engine + 'static>(name: &'static str) -> Self {
         Self {
             name,
-            start: |limits, options| {
-                E::start(limits, options).map(|engine| Box::new(engine) as Run)
+            start: |limits, options, modes| {
+                E::start(limits, options, modes).map(|engine| Box::new(engine) as Run)
             },
             narrow: E::narrow,
         }
@@ -73,7 +78,8 @@ impl Subject {
     }
 
     pub fn started_with(&self, limits: Limits, options: Options) -> Run {
-        (self.start)(limits, options).unwrap_or_else(|number| panic!("start refused: {number}"))
+        (self.start)(limits, options, Modes::OFF)
+            .unwrap_or_else(|number| panic!("start refused: {number}"))
     }
 
     /// The answer to a named case.
@@ -81,6 +87,7 @@ impl Subject {
         (self.narrow)(
             input.kind,
             input.options,
+            input.modes,
             input.identifier,
             &input.bytes,
             input.room,
@@ -89,7 +96,14 @@ impl Subject {
 
     /// A table narrowed by itself; `None` is unchanged.
     pub fn table(&self, options: Options, input: &[u8]) -> Option<Vec<u8>> {
-        changed((self.narrow)(Kind::Table, options, 0, input, input.len()))
+        changed((self.narrow)(
+            Kind::Table,
+            options,
+            Modes::OFF,
+            0,
+            input,
+            input.len(),
+        ))
     }
 }
 

@@ -2,7 +2,7 @@
 
 use std::collections::BTreeSet;
 
-use face::{Kind, Limits, Options};
+use face::{Kind, Limits, Modes, Options};
 use oracle::cases::{Calls, Case, Narrowing, Operation, Stream};
 use oracle::theorems::{Bounds, theorem, theorems};
 
@@ -17,6 +17,7 @@ fn a_narrowing_stands_word_by_word() {
         with_modes: false,
         kind: Kind::Table,
         options: NO_CAPTIONS,
+        modes: Modes::OFF,
         identifier: 0x1234,
         room: 50,
         input: &input,
@@ -50,6 +51,7 @@ fn refusals_and_identifiers_are_told() {
             with_modes: false,
             kind,
             options: only(0x0401),
+            modes: Modes::OFF,
             identifier: 0x1234,
             room: 1,
             input: &[1, 2],
@@ -62,7 +64,7 @@ fn refusals_and_identifiers_are_told() {
     );
     assert_eq!(
         narrowing(Kind::Packet),
-        format!("seed-1-case-0 : packet 15 1025 1 (1 ∷ 2 ∷ []) ≡ {refused}")
+        format!("seed-1-case-0 : packet 15 1025 0 1 (1 ∷ 2 ∷ []) ≡ {refused}")
     );
 }
 
@@ -84,7 +86,7 @@ fn a_stream_is_told_call_by_call_without_the_dropped() {
     assert_eq!(
         signature(&Case::Stream(stream.clone())),
         format!(
-            "seed-1-case-0 : stream 6 0 131078 65536 65536 32768 7 ({chunks}) \
+            "seed-1-case-0 : stream 6 0 0 131078 65536 65536 32768 7 ({chunks}) \
              ≡ 0 ∷ {first} ∷ {second} ∷ {third} ∷ []"
         )
     );
@@ -95,7 +97,7 @@ fn a_stream_is_told_call_by_call_without_the_dropped() {
     };
     assert_eq!(
         signature(&Case::Stream(refused)),
-        "seed-1-case-0 : stream 6 0 131078 65536 65536 5 7 ([]) ≡ 3 ∷ []"
+        "seed-1-case-0 : stream 6 0 0 131078 65536 65536 5 7 ([]) ≡ 3 ∷ []"
     );
 }
 
@@ -103,6 +105,7 @@ fn calls<'a>(operations: &[Operation<'a>]) -> Case<'a> {
     Case::Calls(Calls {
         limits: LIMITS,
         options: NO_OTHERS,
+        modes: Modes::OFF,
         operations: operations.to_vec(),
         cut: false,
     })
@@ -120,16 +123,46 @@ fn calls_with_outputs_of_one_length_are_told_as_a_stream() {
     assert_eq!(
         signature(&calls(&two)),
         format!(
-            "seed-1-case-0 : stream 23 0 131078 65536 65536 32768 2 \
+            "seed-1-case-0 : stream 23 0 0 131078 65536 65536 32768 2 \
              ((1 ∷ []) ∷ (1 ∷ 2 ∷ []) ∷ []) ≡ {answer}"
         )
     );
     assert_eq!(
         signature(&calls(&[Operation::Dropped])),
-        "seed-1-case-0 : stream 23 0 131078 65536 65536 32768 0 ([]) ≡ 0 ∷ []"
+        "seed-1-case-0 : stream 23 0 0 131078 65536 65536 32768 0 ([]) ≡ 0 ∷ []"
     );
     let different = calls(&[push(2, &[1]), push(3, &[])]);
     assert_eq!(theorem("seed-1-case-0", &different), None);
+}
+
+/// Of a packet and of calls, the modes are the third number.
+#[test]
+fn modes_are_told_by_their_bits() {
+    let narrowing = Narrowing {
+        with_modes: true,
+        kind: Kind::Packet,
+        options: NO_CAPTIONS,
+        modes: Modes::PLAIN_IP,
+        identifier: 0,
+        room: 0,
+        input: &[],
+    };
+    let unchanged = "0 ∷ 0 ∷ 0 ∷ 0 ∷ 0 ∷ 0 ∷ 0 ∷ 0 ∷ 0 ∷ []";
+    assert_eq!(
+        signature(&Case::Narrowing(narrowing)),
+        format!("seed-1-case-0 : packet 6 0 1 0 ([]) ≡ {unchanged}")
+    );
+    let Case::Calls(calls) = calls(&[]) else {
+        unreachable!("calls are calls")
+    };
+    let calls = Calls {
+        modes: Modes::PLAIN_IP,
+        ..calls
+    };
+    assert_eq!(
+        signature(&Case::Calls(calls)),
+        "seed-1-case-0 : stream 23 0 1 131078 65536 65536 32768 0 ([]) ≡ 0 ∷ []"
+    );
 }
 
 #[test]
@@ -140,12 +173,13 @@ fn a_start_without_captions_and_other_assets_is_refused() {
             caption: false,
             ..NO_OTHERS
         },
+        modes: Modes::OFF,
         operations: vec![],
         cut: false,
     });
     assert_eq!(
         signature(&refused),
-        "seed-1-case-0 : stream 22 0 131078 65536 65536 32768 0 ([]) ≡ 9 ∷ []"
+        "seed-1-case-0 : stream 22 0 0 131078 65536 65536 32768 0 ([]) ≡ 9 ∷ []"
     );
 }
 
@@ -183,7 +217,7 @@ fn bounds_are_kept() {
     };
     let count = |bounds| theorems(0..20, bounds).matches(" = refl\n").count();
     assert!(count(bounds) > 100);
-    assert_eq!(count(Bounds { most: 9, ..bounds }), 9);
+    assert_eq!(count(Bounds { most: 9, ..bounds }), 27, "nine of each sort");
     let bounds = Bounds {
         narrowing: 0,
         ..bounds

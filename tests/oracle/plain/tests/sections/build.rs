@@ -1,7 +1,7 @@
 //! What the tests are built from: bytes from hex, tables, messages and packets in 01's words, and short ways
 //! to feed a filter and to narrow.
 
-use face::{Call, Engine, Kind, Limits, Narrowed, Options};
+use face::{Call, Engine, Kind, Limits, Modes, Narrowed, Options};
 use plain::Plain;
 
 pub const LIMITS: Limits = Limits {
@@ -191,7 +191,7 @@ pub fn filter(options: Options) -> Plain {
 }
 
 pub fn filter_within(limits: Limits, options: Options) -> Plain {
-    Plain::start(limits, options).expect("limits in range")
+    Plain::start(limits, options, Modes::OFF).expect("limits in range")
 }
 
 /// Feeds packets as one chunk.
@@ -209,7 +209,7 @@ pub fn passes(filter: &mut Plain, packet: &[u8]) -> bool {
 }
 
 pub fn narrow(kind: Kind, options: Options, identifier: u16, input: &[u8]) -> Narrowed {
-    Plain::narrow(kind, options, identifier, input, input.len())
+    Plain::narrow(kind, options, Modes::OFF, identifier, input, input.len())
 }
 
 /// The bytes that narrowing a table alone gives.

@@ -1,7 +1,7 @@
 //! 02 [1], a recording of captions and tables: the wish of other assets.
 
 use crate::build::*;
-use face::{Engine, Kind, Limits, Narrowed, Options};
+use face::{Engine, Kind, Limits, Modes, Narrowed, Options};
 use plain::Plain;
 
 const NEITHER: Options = Options {
@@ -10,7 +10,7 @@ const NEITHER: Options = Options {
 };
 
 fn start(limits: Limits, options: Options) -> Option<u8> {
-    Plain::start(limits, options).err()
+    Plain::start(limits, options, Modes::OFF).err()
 }
 
 #[test]
@@ -61,7 +61,7 @@ fn narrowing_alone_refuses_nothing_and_takes_everything_out() {
         went,
     };
     assert_eq!(answer, expected);
-    let short = Plain::narrow(Kind::Table, NEITHER, 0, &m(), m().len() - 1);
+    let short = Plain::narrow(Kind::Table, NEITHER, Modes::OFF, 0, &m(), m().len() - 1);
     assert_eq!(short, Narrowed::Refused(6));
 }
 

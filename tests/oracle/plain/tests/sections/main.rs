@@ -7,5 +7,6 @@ mod finding;
 mod learning;
 mod narrowing;
 mod payload;
+mod plain_ip;
 mod refusals;
 mod rules;

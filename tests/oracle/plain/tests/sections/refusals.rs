@@ -1,13 +1,13 @@
 //! 01 "Rooms and their ends" and "Refusal numbers".
 
 use crate::build::*;
-use face::{Engine, Kind, Limits, Narrowed};
+use face::{Engine, Kind, Limits, Modes, Narrowed};
 use plain::Plain;
 
 fn start(change: impl FnOnce(&mut Limits)) -> Option<u8> {
     let mut limits = LIMITS;
     change(&mut limits);
-    Plain::start(limits, NO_CAPTIONS).err()
+    Plain::start(limits, NO_CAPTIONS, Modes::OFF).err()
 }
 
 #[test]
@@ -98,7 +98,8 @@ fn a_refused_push_changes_nothing() {
 #[test]
 fn narrowing_refuses_long_input_and_short_output() {
     for kind in [Kind::Table, Kind::Payload, Kind::Packet] {
-        let narrow = |length, room| Plain::narrow(kind, NO_CAPTIONS, 0, &vec![0; length], room);
+        let narrow =
+            |length, room| Plain::narrow(kind, NO_CAPTIONS, Modes::OFF, 0, &vec![0; length], room);
         assert_eq!(narrow(65_540, 65_540), Narrowed::Refused(5));
         assert_eq!(narrow(65_540, 0), Narrowed::Refused(5));
         assert_eq!(narrow(65_539, 65_538), Narrowed::Refused(6));

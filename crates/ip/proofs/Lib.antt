@@ -1,0 +1,2 @@
+-- Where the code of plain IP meets the definitions.
+pub mod CodeLaws

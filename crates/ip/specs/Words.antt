@@ -1,0 +1,13 @@
+-- UDP's checksum by the words of a pseudo header added up beforehand.
+use Prim.Native.Nat.{ℕ, _+_, _-_}
+use lib.ListN.{drop}
+use Rattle.meaning.specs.Bytes.{Bytes, with16}
+use Rattle.meaning.specs.Checksums.{nonZero}
+use Rattle.meaning.specs.Ip.{udpLengthAfresh}
+use Rattle.meaning.proofs.ChecksumLaws.{words, folded}
+
+unfoldable pub udpBy : ℕ → ℕ → Bytes → Bytes
+unfolding udpLengthAfresh with16 words folded nonZero
+udpBy pseudo h s =
+    let t = with16 (h + 6) 0 (udpLengthAfresh h s) in
+    with16 (h + 6) (nonZero (65535 - folded (pseudo + words (drop h t)))) t
