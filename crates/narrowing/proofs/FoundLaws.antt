@@ -244,9 +244,14 @@ module _ (M : Modes) (o : Options) (pid : ℕ) (w : Bool) (p payload : Bytes) wh
   unfolding mayRewrite
   may-not e = rw e
 
-  pub may-be : may ≡ true → Option·map (packetBytes p (signalOf pid w payload)) (narrowPayload o pid payload) ≡ packetFor M o p (some (signalOf pid w payload))
+  may-be : may ≡ true → Option·map (packetBytes p (signalOf pid w payload)) (narrowPayload o pid payload) ≡ packetFor M o p (some (signalOf pid w payload))
   unfolding mayRewrite
   may-be e = rw e
+
+  pub may-rewritten : may ≡ true → (d : Bytes) (to : ℕ) (d′ : Bytes) (r : End)
+      → RewroteAs (Option·map (packetBytes p (signalOf pid w payload)) (narrowPayload o pid payload)) d to d′ r
+      → RewroteAs (packetFor M o p (some (signalOf pid w payload))) d to d′ r
+  may-rewritten e d to d′ r h = subst (λ (n : Option Bytes). RewroteAs n d to d′ r) (may-be e) h
 
   pub framed : may ≡ true → mmtpOf p ≡ some (signalOf pid w payload) → Framed p payload
   unfolding mayRewrite

@@ -2,7 +2,7 @@ use mathlib.Core.Path.{refl, sym, _∙_}
 use borrow.Author.Tests.{not-true, not-false}
 use Rattle.narrowing.proofs.PayloadLaws.{no-start, no-pa-stays}
 use Rattle.narrowing.proofs.FrameLaws.{four-read}
-use Rattle.narrowing.proofs.FoundLaws.{packet-stays, may-not, may-be, framed}
+use Rattle.narrowing.proofs.FoundLaws.{packet-stays, may-not, may-rewritten, framed}
 use borrow.Author.Needs.{needs}
 use Rattle.narrowing.proofs.narrow.rewrite.Statement.{statement}
 use Rattle.narrowing.proofs.narrow.rewrite.Tie as tie
@@ -36,8 +36,8 @@ same-length c = search needs
 returns-3 : tie.Need-returns-3
 returns-3 c =
     let a = c .before .before .before .before .before .before .before .before .before .before .before .args in
-    rw (may-be (a .modes) (a .o) (a .pid) (a .rewritable) (a .p .now) (a .payload .now) (sym (c .before .before .before .before .before .may-rewrite .ensures) ∙ not-false _ (c .before .before .before .before .if2 .left)))
-    at (c .before .before .narrowed-to .ensures (a .rewritable))
+    may-rewritten (a .modes) (a .o) (a .pid) (a .rewritable) (a .p .now) (a .payload .now) (sym (c .before .before .before .before .before .may-rewrite .ensures) ∙ not-false _ (c .before .before .before .before .if2 .left))
+    (a .out .now) (a .to) (c .before .before .narrowed-to .last .1 .1 .1 .1 .0) (c .before .before .narrowed-to .result) (c .before .before .narrowed-to .ensures (a .rewritable))
 
 pub rewrite-spec : {M : Type 1} → statement M
 rewrite-spec =
