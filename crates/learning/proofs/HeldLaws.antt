@@ -2,7 +2,7 @@
 -- changes by it. Rests on MapLaws and on PairLaws.
 use Prim.Native.Nat.{ℕ, zero, suc, _+_, _-_, _*_, _%_, _≤_, _<_}
 use mathlib.Core.Path.{_≡_, refl, sym, ap, ap₂, _∙_}
-use mathlib.Core.Bool.{Bool, true, false, cond, _&&_, _||_}
+use mathlib.Core.Bool.{Bool, true, false, cond, _&&_}
 use mathlib.Core.List.{List, [], _∷_, _++_}
 use mathlib.Core.Option.{Option, none, some, Option·some-injective}
 use native.Mathlib.Numerals.{add-one, add-two}
@@ -27,8 +27,10 @@ use Rattle.tables.specs.declared.fields.End.{End}
 use Rattle.tables.specs.declared.locations.Carrier.{Carrier}
 use Rattle.learning.specs.Kept.{pairsIn, KeptMaps}
 use Rattle.learning.specs.News.{sameNumbers, countAt, sameList, listNew}
-use Rattle.learning.specs.Learnt.{mptHeld, MptLearnt}
+use Rattle.learning.specs.Learnt.{withNews, mptHeld, withKinds, HeldIs, MptLearnt}
 use Rattle.learning.specs.declared.Extent.{Extent}
+use Rattle.learning.specs.declared.News.{News}
+use Rattle.learning.specs.declared.lists.Held.{Held}
 use Rattle.learning.proofs.PairLaws.{same-true}
 use Rattle.learning.proofs.MapLaws.{mpt-many, held-is}
 
@@ -228,19 +230,17 @@ held-within (suc i) (m ∷ ms) as′ ns h = let k : i < length ms = held-within 
 
 -- ---- an MPT that says what is held
 
-or-false : (a : Bool) → (a || false) ≡ a
-or-false true = refl
-or-false false = refl
-
 module _ (p i : ℕ) (e : Extent) (map-heads map-room : List ℕ) (at : i ≡ placeFor p (pairsIn (e .«map_count») map-heads))
     (ms : List (ℕ × ℕ)) (k : KeptMaps ms (e .«map_count») map-heads) where
-  pub list-held : (b : Bytes) → mptHeld (mpt b) (countAt i (pairsIn (e .«map_count») map-heads)) (drop (512 * i) map-room) ≡ true → MptLearnt p (mpt b) ms e map-room e map-heads map-room
+  pub list-held : (b : Bytes) (news : News) → HeldIs (mpt b) (countAt i (pairsIn (e .«map_count») map-heads)) (drop (512 * i) map-room) (e .news) (Held.With news)
+      → MptLearnt p (mpt b) ms e map-room (withNews e news) map-heads map-room
   unfolding listNew
-  list-held b h = go (mpt b) (sym (held-is p i e map-heads map-room at ms k (mpt b)) ∙ h)
+  list-held b news h = go (mpt b) (sym (held-is p i e map-heads map-room at ms k (mpt b)) ∙ h .0) (h .1)
     where
-      go : (o : Out Mpt) → mptHeld o (countAt (placeFor p ms) ms) (drop (512 * placeFor p ms) map-room) ≡ true → MptLearnt p o ms e map-room e map-heads map-room
-      go none z = clash (cc)
-      go (some (m, more)) z =
+      go : (o : Out Mpt) → mptHeld o (countAt (placeFor p ms) ms) (drop (512 * placeFor p ms) map-room) ≡ true → news ≡ withKinds (e .news) o
+          → MptLearnt p o ms e map-room (withNews e news) map-heads map-room
+      go none z q = clash (cc)
+      go (some (m, more)) z q =
           let t = list-there p (listed (m .entries)) ms map-room z in
           let l : placeFor p ms < 64 = omega (arith, held-within (placeFor p ms) ms (listed (m .entries)) (drop (512 * placeFor p ms) map-room) z, k .pairs .few) in
-          rw (lt-ltb (placeFor p ms) 64 l) (rw (t .0) k, sym (t .1), rw (lt-ltb (placeFor p ms) 64 l, z, or-false (e .changed)))
+          rw (lt-ltb (placeFor p ms) 64 l) (rw (t .0) k, sym (t .1), rw (lt-ltb (placeFor p ms) 64 l, z) (ap (withNews e) q))

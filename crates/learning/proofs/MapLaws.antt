@@ -16,6 +16,7 @@ use Rattle.meaning.specs.Readers.{Out, bind, give, many, raw}
 use Rattle.meaning.specs.Tables.{Entry, Mpt, entry, mptFront, mpt, kindNumber}
 use Rattle.meaning.specs.Learn.{Listed, assetNumbers, over, placeFor, listAsset, listed}
 use Rattle.meaning.specs.declared.Part.{Part}
+use Rattle.meaning.proofs.ListLaws.{clash}
 use Rattle.meaning.proofs.SpareLaws.{numbers-length}
 use Rattle.meaning.proofs.TableLaws.{mpt-split}
 use Rattle.meaning.proofs.Reading.{past, u8-none, many-none, many-next, behind, behind-nothing, behind-one}
@@ -24,10 +25,14 @@ use Rattle.tables.specs.Answers.{Ends, AssetIs, carrierOf}
 use Rattle.tables.specs.declared.assets.Asset.{Asset}
 use Rattle.tables.specs.declared.fields.End.{End}
 use Rattle.tables.specs.declared.locations.Carrier.{Carrier}
-use Rattle.learning.specs.News.{countAt, sameList, listNew}
-use Rattle.learning.specs.Learnt.{numbersOf, AssetsAre, mptHeld, HeadsAre, lostOne, ListLearnt, MptLearnt}
+use Rattle.learning.specs.News.{also, changeNews, kindsIn, countAt, sameList, listNew, listNews}
+use Rattle.learning.specs.Learnt.{withNews, numbersOf, AssetsAre, mptHeld, withKinds, HeadsAre, lostOne, ListLearnt, MptLearnt}
 use Rattle.learning.specs.Kept.{pairsIn, KeptMaps}
 use Rattle.learning.specs.declared.Extent.{Extent}
+use Rattle.learning.specs.declared.News.{News}
+use Rattle.learning.specs.declared.lists.Assets.{Assets}
+use Rattle.learning.proofs.AlsoLaws.{or-true, nowChanged}
+use Rattle.learning.proofs.KindLaws.{metAll, Met, met-end, met-these}
 use Rattle.learning.proofs.PairLaws.{pairs-in}
 use Rattle.learning.proofs.MapPairLaws.{maps-after}
 
@@ -142,30 +147,57 @@ module _ (b : Bytes) where
       pub entries-none : (fresh : List ℕ) (from left m : ℕ) → Listing b (h + 1) n fresh from left m → 0 < left → entry (drop from b) ≡ none → mpt b ≡ none
       entries-none fresh from left m i l q = rw (mpt-many, list-cut b (h + 1) n fresh from left m i l q)
 
-      pub assets-are : (fresh : List ℕ) (from left m : ℕ) → Listing b (h + 1) n fresh from left m → left ≡ 0 → AssetsAre (mpt b) (End.At m) fresh
-      assets-are fresh from left m i z =
-          (omega (arith, i .few), (record { front = take h b; entries = i .pre }, drop from b, rw (mpt-many, list-all b (h + 1) n fresh from left m i z), list-count b (h + 1) n fresh from left m i, i .numbers))
+      pub assets-are : (fresh : List ℕ) (from left m : ℕ) → Listing b (h + 1) n fresh from left m → left ≡ 0
+          → (known news : News) → Met b (h + 1) n known from left news → AssetsAre (mpt b) known (Assets.Listed m news) fresh
+      assets-are fresh from left m i z known news j =
+          let all = list-all b (h + 1) n fresh from left m i z in (
+            omega (arith, i .few),
+            (
+              record { front = take h b; entries = i .pre },
+              drop from b,
+              rw (mpt-many, all),
+              list-count b (h + 1) n fresh from left m i,
+              i .numbers,
+              met-these b (h + 1) n known from left news j z (i .pre) (drop from b) all,
+            ),
+          )
+
+      -- the kinds of its entries, all met
+      pub met-mpt : (known : News) (from left : ℕ) (news : News) → Met b (h + 1) n known from left news → left ≡ 0 → news ≡ withKinds known (mpt b)
+      met-mpt known from left news i z = go (many n entry (drop (h + 1) b)) refl (met-end b (h + 1) n known from left news i z)
+        where
+          go : (o : Out (List Entry)) → many n entry (drop (h + 1) b) ≡ o → metAll known (many n entry (drop (h + 1) b)) ≡ some news → news ≡ withKinds known (mpt b)
+          go none e q = clash (cc (q, e))
+          go (some (es, rest)) e q = rw (mpt-many, e) (met-these b (h + 1) n known from left news i z es rest e)
 
 -- ---- an MPT's list at its place
 
--- an extent with another count of maps, that is new or not
-abbrev after : Extent → ℕ → Bool → Extent
-after e m b = record { seen = e .seen; «package_count» = e .«package_count»; «map_count» = m; «fragment_count» = e .«fragment_count»; lost = e .lost; changed = b }
+-- an extent with another count of maps, and other news
+abbrev after : Extent → ℕ → News → Extent
+after e m n = record { seen = e .seen; «package_count» = e .«package_count»; «map_count» = m; «fragment_count» = e .«fragment_count»; lost = e .lost; news = n }
 
-or-true : (a : Bool) → (a || true) ≡ true
-or-true true = refl
-or-true false = refl
+-- the kinds are met before the change is told
+met-changed : (n kinds : News) → nowChanged (also n kinds) ≡ also n (also (changeNews true) kinds)
+met-changed n kinds i = record {
+  changed = or-true (n .changed) i;
+  caption = n .caption || kinds .caption;
+  carousel = n .carousel || kinds .carousel;
+  other = n .other || kinds .other;
+  plt = n .plt || kinds .plt;
+}
 
 -- written there
 kept-list : (p : ℕ) (es : List Entry) (fresh : List ℕ) (e : Extent) (map-heads map-room : List ℕ) (ms : List (ℕ × ℕ)) → length es < 256 → placeFor p ms < 64 → KeptMaps ms (e .«map_count») map-heads
     → take (2 * length (listed es)) fresh ≡ assetNumbers (listed es) → sameList (countAt (placeFor p ms) ms) (listed es) (drop (512 * placeFor p ms) map-room) ≡ false
     → (r : Extent) (map-heads′ map-room′ : List ℕ)
-    → HeadsAre (placeFor p ms) p (length (listed es)) fresh e map-heads map-room r map-heads′ map-room′ → ListLearnt true p (listed es) ms e map-room r map-heads′ map-room′
+    → HeadsAre (placeFor p ms) p (length (listed es)) fresh (withNews e (also (e .news) (kindsIn es))) map-heads map-room r map-heads′ map-room′ → ListLearnt true p es ms e map-room r map-heads′ map-room′
 unfolding listNew
 kept-list p es fresh e map-heads map-room ms l h k t other r map-heads′ map-room′ x =
     let i : ℕ = placeFor p ms in
     let m : r .«map_count» ≡ max (e .«map_count») (i + 1) = ap (λ (z : Extent). z .«map_count») (x .extent-is) in
-    let new : true ≡ (e .changed || listNew p (listed es) ms map-room) = rw (lt-ltb i 64 h, other, or-true (e .changed)) in
+    let told : true ≡ listNew p (listed es) ms map-room = rw (lt-ltb i 64 h, other) in
+    let new : nowChanged (also (e .news) (kindsIn es)) ≡ also (e .news) (listNews p es ms map-room) =
+    met-changed (e .news) (kindsIn es) ∙ ap (λ (a : Bool). also (e .news) (also (changeNews a) (kindsIn es))) told in
     (rw (m, x .map-heads-are) (maps-after p es ms (e .«map_count») map-heads l h k), x .map-room-is ∙ ap (over map-room (512 * i)) t, x .extent-is ∙ ap₂ (after e) (sym m) new)
 
 module _ (p i : ℕ) (e : Extent) (map-heads map-room : List ℕ) (at : i ≡ placeFor p (pairsIn (e .«map_count») map-heads))
@@ -177,15 +209,15 @@ module _ (p i : ℕ) (e : Extent) (map-heads map-room : List ℕ) (at : i ≡ pl
   pub held-is : (o : Out Mpt) → mptHeld o (countAt i (pairsIn (e .«map_count») map-heads)) (drop (512 * i) map-room) ≡ mptHeld o (countAt (placeFor p ms) ms) (drop (512 * placeFor p ms) map-room)
   held-is o = rw (place, pairs-in (k .pairs))
 
-  module _ (b : Bytes) (n : ℕ) (fresh : List ℕ) (a : AssetsAre (mpt b) (End.At n) fresh) where
-    pub list-lost : 64 ≤ i → MptLearnt p (mpt b) ms e map-room (lostOne e) map-heads map-room
-    list-lost h = rw (a .1 .2, ← place, le-ltb i 64 h) (k, refl, refl)
+  module _ (b : Bytes) (n : ℕ) (news : News) (fresh : List ℕ) (a : AssetsAre (mpt b) (e .news) (Assets.Listed n news) fresh) where
+    pub list-lost : 64 ≤ i → MptLearnt p (mpt b) ms e map-room (lostOne (withNews e news)) map-heads map-room
+    list-lost h = rw (a .1 .2, ← place, le-ltb i 64 h) (k, refl, ap (λ (z : News). lostOne (withNews e z)) (a .1 .5))
 
     pub list-kept : i < 64 → mptHeld (mpt b) (countAt i (pairsIn (e .«map_count») map-heads)) (drop (512 * i) map-room) ≡ false
-        → (r : Extent) (map-heads′ map-room′ : List ℕ) → HeadsAre i p n fresh e map-heads map-room r map-heads′ map-room′ → MptLearnt p (mpt b) ms e map-room r map-heads′ map-room′
+        → (r : Extent) (map-heads′ map-room′ : List ℕ) → HeadsAre i p n fresh (withNews e news) map-heads map-room r map-heads′ map-room′ → MptLearnt p (mpt b) ms e map-room r map-heads′ map-room′
     list-kept h other r map-heads′ map-room′ x =
         let g : placeFor p ms < 64 = omega (arith, place) in
         let few = mpt-split b (a .1 .0) (a .1 .1) (a .1 .2) .few in
         let new = rw (a .1 .2) at (sym (held-is (mpt b)) ∙ other) in
         rw (a .1 .2, lt-ltb (placeFor p ms) 64 g)
-        (kept-list p (a .1 .0 .entries) fresh e map-heads map-room ms few g k (rw (a .1 .3) at (a .1 .4)) new r map-heads′ map-room′ (rw (place, a .1 .3) at x))
+        (kept-list p (a .1 .0 .entries) fresh e map-heads map-room ms few g k (rw (a .1 .3) at (a .1 .4)) new r map-heads′ map-room′ (rw (place, a .1 .3, a .1 .5) at x))

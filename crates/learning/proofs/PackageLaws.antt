@@ -27,9 +27,11 @@ use Rattle.tables.specs.declared.packages.Package as read
 use Rattle.meaning.proofs.ListLaws.{clash, and-both, and-true, or-right}
 use Rattle.meaning.proofs.SoundnessKept.{plt-holds}
 use Rattle.learning.specs.Kept.{pairsIn, Pairs, KeptPackages}
-use Rattle.learning.specs.News.{sameNumbers, samePairs}
+use Rattle.learning.specs.News.{also, changeNews, sameNumbers, samePairs}
 use Rattle.learning.specs.Learnt.{before, taken, PackagesAre, PltLearnt}
 use Rattle.learning.specs.declared.Extent.{Extent}
+use Rattle.learning.specs.declared.News.{News}
+use Rattle.learning.proofs.AlsoLaws.{also-none, nowChanged, also-changed}
 use Rattle.learning.proofs.PairLaws.{same-refl, same-true, pairs-refl, pairs-true, pairs-as, pairs-in, first-in, in-length, first-at, pairs-put, pairs-insert}
 
 -- ---- the slot of a service, searched from the front
@@ -199,13 +201,9 @@ module _ (b : Bytes) where
 
 -- ---- what a PLT makes of what is known
 
-or-nothing : (a : Bool) → a ≡ (a || false)
-or-nothing true = refl
-or-nothing false = refl
-
-extent-is : (e : Extent) (s : Bool) (n : ℕ) (c : Bool) → e .seen ≡ s → e .«package_count» ≡ n → e .changed ≡ c
-    → e ≡ record { seen = s; «package_count» = n; «map_count» = e .«map_count»; «fragment_count» = e .«fragment_count»; lost = e .lost; changed = c }
-extent-is e s n c p q r = λ i. record { seen = p i; «package_count» = q i; «map_count» = e .«map_count»; «fragment_count» = e .«fragment_count»; lost = e .lost; changed = r i }
+extent-is : (e : Extent) (s : Bool) (n : ℕ) (c : News) → e .seen ≡ s → e .«package_count» ≡ n → e .news ≡ c
+    → e ≡ record { seen = s; «package_count» = n; «map_count» = e .«map_count»; «fragment_count» = e .«fragment_count»; lost = e .lost; news = c }
+extent-is e s n c p q r = λ i. record { seen = p i; «package_count» = q i; «map_count» = e .«map_count»; «fragment_count» = e .«fragment_count»; lost = e .lost; news = r i }
 
 module _ (b : Bytes) (e : Extent) (ps : List (ℕ × ℕ)) (xs : List ℕ) (k : KeptPackages ps (e .«package_count») xs) where
   -- it cannot be read
@@ -228,8 +226,8 @@ module _ (b : Bytes) (e : Extent) (ps : List (ℕ × ℕ)) (xs : List ℕ) (k : 
         let same : ps ≡ found =
         sym (pairs-in (k .pairs)) ∙ ap (λ (m : ℕ). pairsIn m xs) count ∙ ap (map pairOf) (sym (same-true (take n fresh) (take n xs) (v .1))) ∙ pairs-in (r .3) in
         let kept : KeptPackages found (e .«package_count») xs = rw same at k in
-        let told : e .changed ≡ (e .changed || not (e .seen && samePairs ps found)) = rw (u .0, same, pairs-refl found) (or-nothing (e .changed)) in
-        rw (r .2) (kept, extent-is e true (length found) (e .changed || not (e .seen && samePairs ps found)) (u .0) (kept .pairs .count) told)
+        let old : not (e .seen && samePairs ps found) ≡ false = rw (u .0, same, pairs-refl found) in
+        rw (r .2) (kept, extent-is e true (length found) _ (u .0) (kept .pairs .count) (also-none (e .news) ∙ ap (λ (a : Bool). also (e .news) (changeNews a)) (sym old)))
 
     -- the same packages would be known
     new : known ≡ false → (e .seen && samePairs ps found) ≡ false
@@ -247,11 +245,11 @@ module _ (b : Bytes) (e : Extent) (ps : List (ℕ × ℕ)) (xs : List ℕ) (k : 
             clash (cc (z, h))
 
     -- they are not
-    pub plt-new : known ≡ false → PltLearnt (plt b) ps e (record { seen = true; «package_count» = n; «map_count» = e .«map_count»; «fragment_count» = e .«fragment_count»; lost = e .lost; changed = true }) fresh
+    pub plt-new : known ≡ false → PltLearnt (plt b) ps e (record { seen = true; «package_count» = n; «map_count» = e .«map_count»; «fragment_count» = e .«fragment_count»; lost = e .lost; news = nowChanged (e .news) }) fresh
     plt-new h =
-        let told : true ≡ (e .changed || not (e .seen && samePairs ps found)) = sym (or-right (e .changed) (not (e .seen && samePairs ps found)) (rw (new h))) in
+        let told : not (e .seen && samePairs ps found) ≡ true = rw (new h) in
         rw (r .2) (
           record { pairs = r .3; hold = plt-holds b (r .0) (r .1) (r .2) },
-          extent-is (record { seen = true; «package_count» = n; «map_count» = e .«map_count»; «fragment_count» = e .«fragment_count»; lost = e .lost; changed = true }) true (length found)
-              (e .changed || not (e .seen && samePairs ps found)) refl (r .3 .count) told,
+          extent-is (record { seen = true; «package_count» = n; «map_count» = e .«map_count»; «fragment_count» = e .«fragment_count»; lost = e .lost; news = nowChanged (e .news) }) true (length found)
+              _ refl (r .3 .count) (also-changed (e .news) ∙ ap (λ (a : Bool). also (e .news) (changeNews a)) (sym told)),
         )

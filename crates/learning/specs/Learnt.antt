@@ -1,22 +1,28 @@
 -- What the functions that read a PLT or an MPT promise, in the terms of the definitions: what the arrays hold afterwards, whatever they held.
 use Prim.Native.Nat.{ℕ, suc, max, _+_, _*_, _≤_}
 use mathlib.Core.Path.{_≡_}
-use mathlib.Core.Bool.{Bool, true, false, cond, _||_}
+use mathlib.Core.Bool.{Bool, true, false, cond}
 use mathlib.Core.List.{List, [], _∷_, _++_}
 use mathlib.Core.Option.{Option, none, some}
 use lib.ListN.{length, take, drop, set}
 use lib.Dec.{ltb}
 use Rattle.meaning.specs.Bytes.{Bytes}
 use Rattle.meaning.specs.Readers.{Out}
-use Rattle.meaning.specs.Tables.{Mpt, Package, kindNumber}
-use Rattle.meaning.specs.Learn.{Listed, assetNumbers, over, placeFor, listed, insertPackage, packagesIn}
+use Rattle.meaning.specs.Tables.{Entry, Mpt, Package, kindNumber}
+use Rattle.meaning.specs.Learn.{assetNumbers, over, placeFor, listed, insertPackage, packagesIn}
 use Rattle.meaning.specs.declared.Part.{Part}
 use Rattle.tables.specs.declared.fields.End.{End}
 use Rattle.tables.specs.declared.locations.Carrier.{Carrier}
 use Rattle.tables.specs.declared.packages.Named.{Named}
 use Rattle.learning.specs.Kept.{Pairs, KeptPackages, KeptMaps}
-use Rattle.learning.specs.News.{sameList, packagesNew, listNew}
+use Rattle.learning.specs.News.{also, changeNews, kindsIn, sameList, packagesNew, listNews}
 use Rattle.learning.specs.declared.Extent.{Extent}
+use Rattle.learning.specs.declared.News.{News}
+use Rattle.learning.specs.declared.lists.Assets.{Assets}
+use Rattle.learning.specs.declared.lists.Held.{Held}
+
+abbrev pub withNews : Extent → News → Extent
+withNews e n = record { seen = e .seen; «package_count» = e .«package_count»; «map_count» = e .«map_count»; «fragment_count» = e .«fragment_count»; lost = e .lost; news = n }
 
 -- ---- a PLT
 
@@ -47,16 +53,17 @@ PltLearnt (some (ys, more)) ps e r xs =
       «map_count» = e .«map_count»;
       «fragment_count» = e .«fragment_count»;
       lost = e .lost;
-      changed = e .changed || packagesNew (some (ys, more)) (e .seen) ps;
+      news = also (e .news) (changeNews (packagesNew (some (ys, more)) (e .seen) ps));
     })
 
 -- ---- an MPT
 
--- The listed assets of an MPT's body, as numbers at the front of an array of their own.
-abbrev pub AssetsAre : Out Mpt → End → List ℕ → Type 0
-AssetsAre o (End.At n) xs =
-    (n ≤ 255) × ((m : Mpt) × (more : Bytes) × (o ≡ some (m, more)) × (n ≡ length (listed (m .entries))) × (take (2 * n) xs ≡ assetNumbers (listed (m .entries))))
-AssetsAre o End.Nothing xs = o ≡ none
+-- The listed assets of an MPT's body, as numbers at the front of an array of their own, and what is new with the kinds of all.
+abbrev pub AssetsAre : Out Mpt → News → Assets → List ℕ → Type 0
+AssetsAre o known (Assets.Listed n news) xs =
+    (n ≤ 255)
+    × ((m : Mpt) × (more : Bytes) × (o ≡ some (m, more)) × (n ≡ length (listed (m .entries))) × (take (2 * n) xs ≡ assetNumbers (listed (m .entries))) × (news ≡ also known (kindsIn (m .entries))))
+AssetsAre o known Assets.Nothing xs = o ≡ none
 
 -- The two numbers of an asset, if it has an identifier.
 abbrev pub numbersOf : Carrier → Part → List ℕ
@@ -68,6 +75,15 @@ abbrev pub mptHeld : Out Mpt → Option ℕ → List ℕ → Bool
 mptHeld none o ns = false
 mptHeld (some (m, more)) o ns = sameList o (listed (m .entries)) ns
 
+-- What is new with the kinds of an MPT's entries.
+abbrev pub withKinds : News → Out Mpt → News
+withKinds known none = known
+withKinds known (some (m, more)) = also known (kindsIn (m .entries))
+
+abbrev pub HeldIs : Out Mpt → Option ℕ → List ℕ → News → Held → Type 0
+HeldIs x o ns known (Held.With news) = (mptHeld x o ns ≡ true) × (news ≡ withKinds known x)
+HeldIs x o ns known Held.No = mptHeld x o ns ≡ false
+
 -- A list of n assets written at place i: its head, its numbers, and how many lists there are then. It is a change.
 pub record HeadsAre (i p n : ℕ) (fresh : List ℕ) (e : Extent) (map-heads map-room : List ℕ) (r : Extent) (map-heads′ map-room′ : List ℕ) : Type 0 where
   pub map-heads-are : map-heads′ ≡ set map-heads i (p * 65536 + n)
@@ -78,27 +94,28 @@ pub record HeadsAre (i p n : ℕ) (fresh : List ℕ) (e : Extent) (map-heads map
     «map_count» = max (e .«map_count») (i + 1);
     «fragment_count» = e .«fragment_count»;
     lost = e .lost;
-    changed = true;
+    news = record { changed = true; caption = e .news .caption; carousel = e .news .carousel; other = e .news .other; plt = e .news .plt };
   }
 
 abbrev pub lostOne : Extent → Extent
-lostOne e = record { seen = e .seen; «package_count» = e .«package_count»; «map_count» = e .«map_count»; «fragment_count» = e .«fragment_count»; lost = e .lost + 1; changed = e .changed }
+lostOne e = record { seen = e .seen; «package_count» = e .«package_count»; «map_count» = e .«map_count»; «fragment_count» = e .«fragment_count»; lost = e .lost + 1; news = e .news }
 
 -- Whether there is a place for it: its list takes the place, or it is lost.
-abbrev pub ListLearnt : Bool → ℕ → Listed → List (ℕ × ℕ) → Extent → List ℕ → Extent → List ℕ → List ℕ → Type 0
-ListLearnt true p as′ ms e map-room r xs map-room′ =
-    KeptMaps (take (placeFor p ms) ms ++ ((p, length as′) ∷ drop (suc (placeFor p ms)) ms)) (r .«map_count») xs
-    × (map-room′ ≡ over map-room (512 * placeFor p ms) (assetNumbers as′))
+abbrev pub ListLearnt : Bool → ℕ → List Entry → List (ℕ × ℕ) → Extent → List ℕ → Extent → List ℕ → List ℕ → Type 0
+ListLearnt true p es ms e map-room r xs map-room′ =
+    KeptMaps (take (placeFor p ms) ms ++ ((p, length (listed es)) ∷ drop (suc (placeFor p ms)) ms)) (r .«map_count») xs
+    × (map-room′ ≡ over map-room (512 * placeFor p ms) (assetNumbers (listed es)))
     × (r ≡ record {
       seen = e .seen;
       «package_count» = e .«package_count»;
       «map_count» = r .«map_count»;
       «fragment_count» = e .«fragment_count»;
       lost = e .lost;
-      changed = e .changed || listNew p as′ ms map-room;
+      news = also (e .news) (listNews p es ms map-room);
     })
-ListLearnt false p as′ ms e map-room r xs map-room′ = KeptMaps ms (e .«map_count») xs × (map-room′ ≡ map-room) × (r ≡ lostOne e)
+ListLearnt false p es ms e map-room r xs map-room′ =
+    KeptMaps ms (e .«map_count») xs × (map-room′ ≡ map-room) × (r ≡ lostOne (withNews e (also (e .news) (kindsIn es))))
 
 abbrev pub MptLearnt : ℕ → Out Mpt → List (ℕ × ℕ) → Extent → List ℕ → Extent → List ℕ → List ℕ → Type 0
 MptLearnt p none ms e map-room r xs map-room′ = KeptMaps ms (e .«map_count») xs × (map-room′ ≡ map-room) × (r ≡ e)
-MptLearnt p (some (m, more)) ms e map-room r xs map-room′ = ListLearnt (ltb (placeFor p ms) 64) p (listed (m .entries)) ms e map-room r xs map-room′
+MptLearnt p (some (m, more)) ms e map-room r xs map-room′ = ListLearnt (ltb (placeFor p ms) 64) p (m .entries) ms e map-room r xs map-room′

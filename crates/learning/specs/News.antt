@@ -1,13 +1,46 @@
--- Whether a PLT or an MPT changes what is known, as 000's `changed`.
+-- What a table brings: whether it changes what is known, as 000's `changed`, and what stands in it.
 use Prim.Native.Nat.{ℕ, zero, suc, _*_}
-use mathlib.Core.Bool.{Bool, true, false, not, _&&_}
+use mathlib.Core.Bool.{Bool, true, false, not, _&&_, _||_}
 use mathlib.Core.List.{List, [], _∷_}
 use mathlib.Core.Option.{Option, none, some}
 use lib.ListN.{length, take, drop}
 use lib.Dec.{ltb, eqb}
 use Rattle.meaning.specs.Readers.{Out}
-use Rattle.meaning.specs.Tables.{Package}
-use Rattle.meaning.specs.Learn.{Listed, assetNumbers, placeFor, packagesIn}
+use Rattle.meaning.specs.Tables.{Entry, Package}
+use Rattle.meaning.specs.Learn.{Listed, assetNumbers, placeFor, listed, packagesIn}
+use Rattle.meaning.specs.declared.Part.{Part}
+use Rattle.learning.specs.declared.News.{News}
+
+-- ---- one news after the other
+
+abbrev pub noNews : News
+noNews = record { changed = false; caption = false; carousel = false; other = false; plt = false }
+
+abbrev pub also : News → News → News
+also a b = record {
+  changed = a .changed || b .changed;
+  caption = a .caption || b .caption;
+  carousel = a .carousel || b .carousel;
+  other = a .other || b .other;
+  plt = a .plt || b .plt;
+}
+
+-- Whether what is known changed.
+abbrev pub changeNews : Bool → News
+changeNews b = record { changed = b; caption = false; carousel = false; other = false; plt = false }
+
+-- An asset of this kind stands there.
+abbrev pub kindNews : Part → News
+kindNews Part.Caption = record { changed = false; caption = true; carousel = false; other = false; plt = false }
+kindNews Part.Carousel = record { changed = false; caption = false; carousel = true; other = false; plt = false }
+kindNews Part.Other = record { changed = false; caption = false; carousel = false; other = true; plt = false }
+
+-- The kinds of these entries stand there, whether they have an identifier or not.
+unfoldable pub kindsIn : List Entry → News
+kindsIn [] = noNews
+kindsIn (e ∷ es) = also (kindNews (e .part)) (kindsIn es)
+
+-- ---- what is new
 
 unfoldable pub sameNumbers : List ℕ → List ℕ → Bool
 sameNumbers [] [] = true
@@ -42,3 +75,7 @@ unfolding sameNumbers placeFor countAt assetNumbers
 listNew p as′ ms map-room =
     let i = placeFor p ms in
     ltb i 64 && not (sameList (countAt i ms) as′ (drop (512 * i) map-room))
+
+-- What an MPT with these entries brings.
+abbrev pub listNews : ℕ → List Entry → List (ℕ × ℕ) → List ℕ → News
+listNews p es ms map-room = also (changeNews (listNew p (listed es) ms map-room)) (kindsIn es)

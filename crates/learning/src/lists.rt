@@ -9,9 +9,12 @@ ghost use lib.ListN.{length, take, drop, getD};
 ghost use Rattle.meaning.specs.Tables.{mpt, kindNumber};
 ghost use Rattle.meaning.specs.Learn.{over, placeFor};
 ghost use Rattle.learning.specs.Kept.{pairsIn, KeptMaps};
-ghost use Rattle.learning.specs.News.{countAt};
-ghost use Rattle.learning.specs.Learnt.{numbersOf, AssetsAre, mptHeld, HeadsAre, MptLearnt};
+ghost use Rattle.learning.specs.News.{also, kindNews, countAt};
+ghost use Rattle.learning.specs.Learnt.{numbersOf, AssetsAre, HeldIs, HeadsAre, lostOne, MptLearnt};
 use crate::Extent;
+use crate::News;
+use crate::changed;
+use crate::with_news;
 use meaning::Part;
 use octets::wide;
 use tables::assets::Asset;
@@ -59,29 +62,66 @@ fn list_asset(fresh: &mut [u16; 510], n: usize, carrier: Carrier, part: Part) ->
     n + 1
 }
 
+// What is new, and that an asset of this kind stands there.
+fn with_kind(n: News, part: Part) -> News
+    ensures { λ r. ⌜ r ≡ also n (kindNews part) ⌝ }
+{
+    match part {
+        Part::Caption => News {
+            changed: n.changed,
+            caption: true,
+            carousel: n.carousel,
+            other: n.other,
+            plt: n.plt,
+        },
+        Part::Carousel => News {
+            changed: n.changed,
+            caption: n.caption,
+            carousel: true,
+            other: n.other,
+            plt: n.plt,
+        },
+        Part::Other => News {
+            changed: n.changed,
+            caption: n.caption,
+            carousel: n.carousel,
+            other: true,
+            plt: n.plt,
+        },
+    }
+}
+
+// The assets of an MPT's body: how many are listed, and what is new with their kinds.
+pub enum Assets {
+    Listed(usize, News),
+    Nothing,
+}
+
 // The listed assets of an MPT's body.
-fn assets_of(b: &[u8], fresh: &mut [u16; 510]) -> End
+fn assets_of(b: &[u8], known: News, fresh: &mut [u16; 510]) -> Assets
     requires { ⌜ length (now fresh) ≡ 510 ⌝ }
-    ensures { λ r. ⌜ AssetsAre (mpt (now (b .entry))) r (now (fresh .exit)) × (length (now (fresh .exit)) ≡ 510) ⌝ }
+    ensures { λ r. ⌜ AssetsAre (mpt (now (b .entry))) known r (now (fresh .exit)) × (length (now (fresh .exit)) ≡ 510) ⌝ }
 {
     let End::At(front) = mpt_front(b) else {
-        return End::Nothing;
+        return Assets::Nothing;
     };
     if b.len() <= front {
-        return End::Nothing;
+        return Assets::Nothing;
     }
     let mut left = wide(b[front]);
     let mut from = front + 1;
     let mut n: usize = 0;
+    let mut news = known;
     while 0 < left {
         let Asset::Entry { end, part, carrier } = asset_at(b, from) else {
-            return End::Nothing;
+            return Assets::Nothing;
         };
         from = end;
         left -= 1;
+        news = with_kind(news, part);
         n = list_asset(fresh, n, carrier, part);
     }
-    End::At(n)
+    Assets::Listed(n, news)
 }
 
 // Writes the first `n` numbers to the map room from `base` on.
@@ -136,7 +176,7 @@ fn keep_list(
         map_count: count_with(e.map_count, i),
         fragment_count: e.fragment_count,
         lost: e.lost,
-        changed: true,
+        news: changed(e.news),
     }
 }
 
@@ -151,51 +191,78 @@ fn is_asset(map_room: &[u16], at: usize, id: u16, part: Part) -> bool
     map_room[at + 1] == kind_number(part)
 }
 
+// Whether a list is held: then what is new with the kinds of its MPT's assets.
+pub enum Held {
+    With(News),
+    No,
+}
+
 // Whether an MPT's body gives the list of `n` assets that is in the map room from `base` on. Nearly every MPT does, so each asset is
 // compared where it stands, and none is copied.
-fn is_held(b: &[u8], n: usize, map_room: &[u16], base: usize) -> bool
+fn is_held(b: &[u8], n: usize, map_room: &[u16], base: usize, known: News) -> Held
     requires { ⌜ base + 2 * n ≤ length (now «map_room») ⌝ }
-    ensures { λ r. ⌜ r ≡ mptHeld (mpt (now (b .entry))) (some n) (drop base (now («map_room» .entry))) ⌝ }
+    ensures { λ r. ⌜ HeldIs (mpt (now (b .entry))) (some n) (drop base (now («map_room» .entry))) known r ⌝ }
 {
     let End::At(front) = mpt_front(b) else {
-        return false;
+        return Held::No;
     };
     if b.len() <= front {
-        return false;
+        return Held::No;
     }
     let mut left = wide(b[front]);
     let mut from = front + 1;
     let mut at = base;
     let mut rest = n;
+    let mut news = known;
     while 0 < left {
         let Asset::Entry { end, part, carrier } = asset_at(b, from) else {
-            return false;
+            return Held::No;
         };
         from = end;
         left -= 1;
+        news = with_kind(news, part);
         if let Carrier::By(id) = carrier {
             if rest == 0 {
-                return false;
+                return Held::No;
             }
             if !is_asset(map_room, at, id, part) {
-                return false;
+                return Held::No;
             }
             at += 2;
             rest -= 1;
         }
     }
-    rest == 0
+    if rest == 0 {
+        return Held::With(news);
+    }
+    Held::No
 }
 
 // Whether a list is held at place `i`, and an MPT's body gives it.
-fn is_held_at(b: &[u8], i: usize, map_count: usize, map_heads: &[u32; 64], map_room: &[u16]) -> bool
-    requires { ⌜ (length (now «map_room») ≡ 32768) × ((ms : List (ℕ × ℕ)) × KeptMaps ms «map_count» (now «map_heads»)) ⌝ }
-    ensures { λ r. ⌜ r ≡ mptHeld (mpt (now (b .entry))) (countAt i (pairsIn «map_count» (now («map_heads» .entry)))) (drop (512 * i) (now («map_room» .entry))) ⌝ }
+fn is_held_at(b: &[u8], i: usize, e: Extent, map_heads: &[u32; 64], map_room: &[u16]) -> Held
+    requires { ⌜ (length (now «map_room») ≡ 32768) × ((ms : List (ℕ × ℕ)) × KeptMaps ms (e .«map_count») (now «map_heads»)) ⌝ }
+    ensures { λ r. ⌜ HeldIs (mpt (now (b .entry))) (countAt i (pairsIn (e .«map_count») (now («map_heads» .entry)))) (drop (512 * i) (now («map_room» .entry))) (e .news) r ⌝ }
 {
-    if map_count <= i {
-        return false;
+    if e.map_count <= i {
+        return Held::No;
     }
-    is_held(b, (map_heads[i] % 65536) as usize, map_room, 512 * i)
+    is_held(b, (map_heads[i] % 65536) as usize, map_room, 512 * i, e.news)
+}
+
+// One list more is lost.
+fn lose_one(e: Extent) -> Extent
+    requires { ⌜ e .lost < 18446744073709551615 ⌝ }
+    ensures { λ r. ⌜ r ≡ lostOne e ⌝ }
+{
+    let news = e.news;
+    Extent {
+        seen: e.seen,
+        package_count: e.package_count,
+        map_count: e.map_count,
+        fragment_count: e.fragment_count,
+        lost: e.lost + 1,
+        news,
+    }
 }
 
 // An MPT's body: its list takes its identifier's place, or is lost. One that is held there already changes nothing.
@@ -204,22 +271,16 @@ pub fn mpt(b: &[u8], id: u16, e: Extent, map_heads: &mut [u32; 64], map_room: &m
     ensures { λ r. ⌜ ((ms : List (ℕ × ℕ)) → KeptMaps ms (e .«map_count») (now («map_heads» .entry)) → MptLearnt id (mpt (now (b .entry))) ms e (now («map_room» .entry)) r (now («map_heads» .exit)) (now («map_room» .exit))) ⌝ }
 {
     let i = place_for(map_heads, e.map_count, id);
-    if is_held_at(b, i, e.map_count, map_heads, map_room) {
-        return e;
+    if let Held::With(news) = is_held_at(b, i, e, map_heads, map_room) {
+        return with_news(e, news);
     }
     let mut fresh = [0u16; 510];
-    let End::At(n) = assets_of(b, &mut fresh) else {
+    let Assets::Listed(n, news) = assets_of(b, e.news, &mut fresh) else {
         return e;
     };
+    let known = with_news(e, news);
     if 64 <= i {
-        return Extent {
-            seen: e.seen,
-            package_count: e.package_count,
-            map_count: e.map_count,
-            fragment_count: e.fragment_count,
-            lost: e.lost + 1,
-            changed: e.changed,
-        };
+        return lose_one(known);
     }
-    keep_list(i, id, n, &fresh, e, map_heads, map_room)
+    keep_list(i, id, n, &fresh, known, map_heads, map_room)
 }

@@ -11,6 +11,7 @@ ghost use Rattle.learning.specs.Kept.{pairsIn, Pairs, KeptPackages};
 ghost use Rattle.learning.specs.News.{sameNumbers};
 ghost use Rattle.learning.specs.Learnt.{before, taken, PackagesAre, PltLearnt};
 use crate::Extent;
+use crate::changed;
 use octets::wide;
 use tables::fields::End;
 use tables::locations::Carrier;
@@ -153,6 +154,6 @@ pub fn plt(b: &[u8], e: Extent, packages: &mut [u32; 255]) -> Extent
         map_count: e.map_count,
         fragment_count: e.fragment_count,
         lost: e.lost,
-        changed: true,
+        news: changed(e.news),
     }
 }

@@ -2,7 +2,7 @@
 -- StepLaws and FoldLaws.
 use Prim.Native.Nat.{ℕ, zero, suc, _+_, _-_, _/_, _%_, _≤_, _<_}
 use mathlib.Core.Path.{_≡_, refl, sym, ap, _∙_, subst}
-use mathlib.Core.Bool.{Bool, true, false, not, _||_}
+use mathlib.Core.Bool.{Bool, true, false, not}
 use mathlib.Core.List.{List, [], _∷_}
 use mathlib.Core.Option.{none, some}
 use native.Mathlib.Nat.{add-zero, mod-eq-of-lt}
@@ -20,29 +20,26 @@ use Rattle.meaning.proofs.Framed.{walk-none, walk-some}
 use Rattle.tables.specs.Answers.{FrameIs}
 use Rattle.tables.specs.declared.messages.Frame.{Frame}
 use Rattle.learning.specs.Kept.{Keeps}
+use Rattle.learning.specs.News.{also, changeNews}
+use Rattle.learning.specs.Learnt.{withNews}
 use Rattle.learning.specs.declared.Extent.{Extent}
+use Rattle.learning.specs.declared.News.{News}
+use Rattle.learning.proofs.AlsoLaws.{also-none, nowChanged, also-changed}
 use Rattle.observing.specs.News.{newsTables, newsMessage, newsMessages}
 use Rattle.observing.specs.Steps.{DataLearnt, After, KeepsSome, Learns}
-use Rattle.observing.proofs.StepLaws.{or-false, after-none}
+use Rattle.observing.proofs.StepLaws.{after-none}
 use Rattle.observing.proofs.FoldLaws.{Folds, Reached, and-none, and-last, reach-begin, reach-next, reach-done}
 
 -- ---- 0x8003
 
-or-true : (a : Bool) → true ≡ (a || true)
-or-true true = refl
-or-true false = refl
-
 abbrev told : Extent → Bool → Extent
-told e new = record { seen = e .seen; «package_count» = e .«package_count»; «map_count» = e .«map_count»; «fragment_count» = e .«fragment_count»; lost = e .lost; changed = e .changed || new }
+told e new = withNews e (also (e .news) (changeNews new))
 
 pub data-old : (q : ℕ) (e : Extent) (ws : List ℕ) → inSet ws q ≡ true → e ≡ told e (not (inSet ws q))
-data-old q e ws h i =
-    record { seen = e .seen; «package_count» = e .«package_count»; «map_count» = e .«map_count»; «fragment_count» = e .«fragment_count»; lost = e .lost; changed = (or-false (e .changed) ∙ ap (λ (b : Bool). e .changed || not b) (sym h)) i }
+data-old q e ws h = ap (withNews e) (also-none (e .news)) ∙ ap (λ (b : Bool). told e (not b)) (sym h)
 
-pub data-new : (q : ℕ) (e : Extent) (ws : List ℕ) → inSet ws q ≡ false
-    → _≡_ {A = Extent} (record { seen = e .seen; «package_count» = e .«package_count»; «map_count» = e .«map_count»; «fragment_count» = e .«fragment_count»; lost = e .lost; changed = true }) (told e (not (inSet ws q)))
-data-new q e ws h i =
-    record { seen = e .seen; «package_count» = e .«package_count»; «map_count» = e .«map_count»; «fragment_count» = e .«fragment_count»; lost = e .lost; changed = (or-true (e .changed) ∙ ap (λ (b : Bool). e .changed || not b) (sym h)) i }
+pub data-new : (q : ℕ) (e : Extent) (ws : List ℕ) → inSet ws q ≡ false → withNews e (nowChanged (e .news)) ≡ told e (not (inSet ws q))
+data-new q e ws h = ap (withNews e) (also-changed (e .news)) ∙ ap (λ (b : Bool). told e (not b)) (sym h)
 
 -- a part is no longer than the whole
 pub part-few : (lost : ℕ) (s : Bytes) (a e : ℕ) → lost + length s ≤ 18446744073709551615 → lost + length (take (e - a) (drop a s)) ≤ 18446744073709551615
@@ -79,7 +76,7 @@ module _ (q : ℕ) (x : Message) (k : Known) (e : Extent) (c p m o : List ℕ) (
               map-room-all = h .map-room-all;
             };
         lost-is = omega (arith, ap (λ y. y .lost) (d .1));
-        changed-is = ap (λ y. y .changed) (d .1) ∙ ap (λ (ws : List ℕ). e .changed || not (inSet ws q)) (h .data-set-is);
+        news-are = ap (λ y. y .news) (d .1) ∙ ap (λ (ws : List ℕ). also (e .news) (changeNews (not (inSet ws q)))) (h .data-set-is);
         fragments-same = ap (λ y. y .«fragment_count») (d .1);
       })
 
@@ -91,7 +88,7 @@ module _ (q : ℕ) (x : Message) (k : Known) (e : Extent) (c p m o : List ℕ) (
 one-after : (q : ℕ) (x : Message) (k : Known) (e r : Extent) (c p m o : List ℕ) → After (learnMessage q x k) (newsMessage q x k) e r c p m o
     → After (learnMessages q (x ∷ []) k) (newsMessages q (x ∷ []) k) e r c p m o
 unfolding learnMessages newsMessages
-one-after q x k e r c p m o a = rw (and-last (learnMessage q x k), ← or-false (newsMessage q x k)) a
+one-after q x k e r c p m o a = rw (and-last (learnMessage q x k), ← also-none (newsMessage q x k)) a
 
 module _ (q : ℕ) (s : Bytes) (k : Known) (e r : Extent) (c p m o : List ℕ) where
   pub found-none : message s ≡ none → Keeps k e c p m o → After (learnMessages q (consMessage (message s) []) k) (newsMessages q (consMessage (message s) []) k) e e c p m o
@@ -107,7 +104,7 @@ module _ (q : ℕ) (s : Bytes) (k : Known) (e r : Extent) (c p m o : List ℕ) w
 abbrev part-step : ℕ → Bytes → Known → Learnt
 part-step q f k = learnMessages q (consMessage (message f) []) k
 
-abbrev part-new : ℕ → Bytes → Known → Bool
+abbrev part-new : ℕ → Bytes → Known → News
 part-new q f k = newsMessages q (consMessage (message f) []) k
 
 parts-fold : (q : ℕ) → Folds {A = Bytes} (part-step q) (part-new q) (λ fs. learnMessages q (readEach fs)) (λ fs. newsMessages q (readEach fs))
@@ -120,9 +117,9 @@ parts-fold q = record { nil = λ k. refl; cons = λ f fs k. on (message f) fs k;
     on (some (m, rest)) fs k = ap (λ (n : ℕ). andLost n (learnMessages q (readEach fs) (learnMessage q m k .known))) (sym (add-zero (learnMessage q m k .lost)))
 
     new-on : (x : Out Message) (fs : List Bytes) (k : Known)
-        → newsMessages q (consMessage x (readEach fs)) k ≡ (newsMessages q (consMessage x []) k || newsMessages q (readEach fs) (learnMessages q (consMessage x []) k .known))
+        → newsMessages q (consMessage x (readEach fs)) k ≡ also (newsMessages q (consMessage x []) k) (newsMessages q (readEach fs) (learnMessages q (consMessage x []) k .known))
     new-on none fs k = refl
-    new-on (some (m, rest)) fs k = ap (λ (b : Bool). b || newsMessages q (readEach fs) (learnMessage q m k .known)) (or-false (newsMessage q m k))
+    new-on (some (m, rest)) fs k = ap (λ (n : News). also n (newsMessages q (readEach fs) (learnMessage q m k .known))) (also-none (newsMessage q m k))
 
 body-nil : (long : Bool) → messageBody long [] ≡ none
 unfolding messageBody counted16 counted32 u32 u16 byte

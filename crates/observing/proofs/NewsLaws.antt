@@ -1,4 +1,4 @@
--- What no news means: where nothing is new, learning changes at most the held fragments, so what is dropped and whether it is ready stay
+-- What no change means: where the news tell none, learning changes at most the held fragments, so what is dropped and whether it is ready stay
 -- as they are. Of every state, sound or not. Rests on specs/News, on FoldLaws, and on what the two tests of sameness prove (PairLaws and
 -- HeldLaws of `learning`).
 use Prim.Native.Nat.{ℕ, zero, suc, _*_}
@@ -21,10 +21,11 @@ use Rattle.meaning.specs.declared.Options.{Options}
 use Rattle.meaning.specs.declared.Service.{Service}
 use Rattle.meaning.proofs.SetLaws.{insert-there}
 use Rattle.meaning.proofs.ListLaws.{and-both, or-neither}
-use Rattle.learning.specs.News.{samePairs, packagesNew, countAt, sameList, listNew}
+use Rattle.learning.specs.News.{noNews, also, changeNews, kindsIn, samePairs, packagesNew, countAt, sameList, listNew}
+use Rattle.learning.specs.declared.News.{News}
 use Rattle.learning.proofs.PairLaws.{pairs-true}
 use Rattle.learning.proofs.HeldLaws.{list-there}
-use Rattle.observing.specs.News.{mptNew, newsTable, newsMessage, newsMessages, newsTables, newsLast, newsBy, news}
+use Rattle.observing.specs.News.{mptNew, pltNews, newsTable, newsMessage, newsMessages, newsTables, newsLast, newsBy, anything, news}
 use Rattle.observing.proofs.FoldLaws.{Folds}
 use Rattle.observing.proofs.TableSteps.{tables-fold}
 
@@ -56,9 +57,9 @@ module _ (p : ℕ) (as′ : Listed) (k : Known) where
 
 -- ---- a table
 
-mpt-still : (p : ℕ) (x : Out Mpt) (k : Known) → mptNew p x (k .map-heads) (k .map-room) ≡ false → mptFrom p x k .known ≡ k
+mpt-still : (p : ℕ) (x : Out Mpt) (k : Known) → mptNew p x (k .map-heads) (k .map-room) .changed ≡ false → mptFrom p x k .known ≡ k
 mpt-still p none k e = refl
-mpt-still p (some (m, more)) k e = list-still p (listed (m .entries)) k e
+mpt-still p (some (m, more)) k e = list-still p (listed (m .entries)) k (or-neither (listNew p (listed (m .entries)) (k .map-heads) (k .map-room)) (kindsIn (m .entries) .changed) e .0)
 
 plt-still : (x : Out (List Package)) (k : Known) → packagesNew x (k .plt-seen) (k .packages) ≡ false → pltFrom x k ≡ k
 plt-still none k e = refl
@@ -66,11 +67,11 @@ plt-still (some (xs, more)) k e =
     let b = and-both (k .plt-seen) (samePairs (k .packages) (packagesIn xs [])) (not-false _ e) in
     known-same k (sym (b .0)) (sym (pairs-true (k .packages) (packagesIn xs []) (b .1))) refl refl refl
 
-table-still : (p : ℕ) (t : Table) (k : Known) → newsTable p t k ≡ false → learnTable p t k .known ≡ k
+table-still : (p : ℕ) (t : Table) (k : Known) → newsTable p t k .changed ≡ false → learnTable p t k .known ≡ k
 unfolding newsTable learnTable learnPlt learnMpt
 table-still p t k e = go (isPlt (t .number) && eqb p 0) (isMpt (t .number)) e
   where
-    go : (a b : Bool) → cond a (packagesNew (plt (t .body)) (k .plt-seen) (k .packages)) (cond b (mptNew p (mpt (t .body)) (k .map-heads) (k .map-room)) false) ≡ false
+    go : (a b : Bool) → cond a (also pltNews (changeNews (packagesNew (plt (t .body)) (k .plt-seen) (k .packages)))) (cond b (mptNew p (mpt (t .body)) (k .map-heads) (k .map-room)) noNews) .changed ≡ false
         → cond a (learnt (pltFrom (plt (t .body)) k)) (cond b (mptFrom p (mpt (t .body)) k) (learnt k)) .known ≡ k
     go true b e = plt-still (plt (t .body)) k e
     go false true e = mpt-still p (mpt (t .body)) k e
@@ -79,22 +80,22 @@ table-still p t k e = go (isPlt (t .number) && eqb p 0) (isMpt (t .number)) e
 -- ---- one thing after the other
 
 -- each leaves what is known as it is, so all do
-fold-still : {A : Type 0} (one : A → Known → Learnt) (new : A → Known → Bool) (all : List A → Known → Learnt) (some-new : List A → Known → Bool) → Folds one new all some-new
-    → ((a : A) (k : Known) → new a k ≡ false → one a k .known ≡ k) → (as′ : List A) (k : Known) → some-new as′ k ≡ false → all as′ k .known ≡ k
+fold-still : {A : Type 0} (one : A → Known → Learnt) (new : A → Known → News) (all : List A → Known → Learnt) (some-new : List A → Known → News) → Folds one new all some-new
+    → ((a : A) (k : Known) → new a k .changed ≡ false → one a k .known ≡ k) → (as′ : List A) (k : Known) → some-new as′ k .changed ≡ false → all as′ k .known ≡ k
 fold-still one new all some-new f h [] k e = ap (λ l. l .known) (f .nil k)
 fold-still one new all some-new f h (a ∷ as′) k e =
-    let b = or-neither (new a k) (some-new as′ (one a k .known)) (sym (f .more-news a as′ k) ∙ e) in
+    let b = or-neither (new a k .changed) (some-new as′ (one a k .known) .changed) (sym (ap (λ (n : News). n .changed) (f .more-news a as′ k)) ∙ e) in
     let same = h a k (b .0) in
     ap (λ l. l .known) (f .cons a as′ k) ∙ ap (λ (z : Known). all as′ z .known) same ∙ fold-still one new all some-new f h as′ k (rw same at (b .1))
 
-message-still : (p : ℕ) (m : Message) (k : Known) → newsMessage p m k ≡ false → learnMessage p m k .known ≡ k
+message-still : (p : ℕ) (m : Message) (k : Known) → newsMessage p m k .changed ≡ false → learnMessage p m k .known ≡ k
 unfolding newsMessage learnMessage
 message-still p m k e = go (eqb (m .number) 0) (eqb (m .number) 0x8003) e
   where
     ts : List (Table × Bytes)
     ts = paTables (pa (m .body))
 
-    go : (a b : Bool) → cond a (newsTables p ts k) (cond b (not (inSet (k .data-set) p)) false) ≡ false
+    go : (a b : Bool) → cond a (newsTables p ts k) (cond b (changeNews (not (inSet (k .data-set) p))) noNews) .changed ≡ false
         → cond a (learnTables p ts k) (cond b (learnt (withData p k)) (learnt k)) .known ≡ k
     go true b e = fold-still (λ t. learnTable p (t .0)) (λ t. newsTable p (t .0)) (learnTables p) (newsTables p) (tables-fold p) (λ t. table-still p (t .0)) ts k e
     go false true e = known-same k refl refl refl refl (insert-there (k .data-set) p (not-false _ e))
@@ -112,38 +113,38 @@ pub record Still (k k′ : Known) : Type 0 where
   pub known-is : k′ ≡ withFragments fragments-after k
 
 module _ (L : Limits) (p : ℕ) where
-  messages-still : (ms : List Message) (fs : List Fragment) (k : Known) → newsMessages p ms (withFragments fs k) ≡ false → Still k (learnMessages p ms (withFragments fs k) .known)
+  messages-still : (ms : List Message) (fs : List Fragment) (k : Known) → newsMessages p ms (withFragments fs k) .changed ≡ false → Still k (learnMessages p ms (withFragments fs k) .known)
   messages-still ms fs k e = record {
     fragments-after = fs;
     known-is = fold-still (learnMessage p) (newsMessage p) (learnMessages p) (newsMessages p) (messages-fold p) (message-still p) ms (withFragments fs k) e;
   }
 
-  last-still : (o : Option Fragment) (b : Bytes) (k : Known) → newsLast o L p b k ≡ false → Still k (lastFor o L p b k .known)
+  last-still : (o : Option Fragment) (b : Bytes) (k : Known) → newsLast o L p b k .changed ≡ false → Still k (lastFor o L p b k .known)
   last-still none b k e = record { fragments-after = k .fragments; known-is = refl }
   last-still (some f) b k e = go (fits L f b (k .fragments)) e
     where
       rest : List Fragment
       rest = without p (k .fragments)
 
-      go : (a : Bool) → cond a (newsMessages p (messages (joined f b)) (withFragments rest k)) false ≡ false
+      go : (a : Bool) → cond a (newsMessages p (messages (joined f b)) (withFragments rest k)) noNews .changed ≡ false
           → Still k (cond a (learnMessages p (messages (joined f b)) (withFragments rest k)) (learnt (withFragments rest k)) .known)
       go true e = messages-still (messages (joined f b)) rest k e
       go false e = record { fragments-after = rest; known-is = refl }
 
-  by-still : (i flags : ℕ) (s : Bytes) (k : Known) → newsBy i L p flags s k ≡ false → Still k (byIndicator i L p flags s k .known)
+  by-still : (i flags : ℕ) (s : Bytes) (k : Known) → newsBy i L p flags s k .changed ≡ false → Still k (byIndicator i L p flags s k .known)
   unfolding last
   by-still zero flags s k e = messages-still (messages (flags ∷ s)) (without p (k .fragments)) k e
   by-still (suc zero) flags s k e = record { fragments-after = holdFirst L p flags (drop 1 s) (k .fragments); known-is = refl }
   by-still (suc (suc zero)) flags s k e = record { fragments-after = middle L p (drop 1 s) (k .fragments); known-is = refl }
   by-still (suc (suc (suc i))) flags s k e = last-still (fragmentOf p (k .fragments)) (drop 1 s) k e
 
--- Where nothing is new, at most fragments changed.
-pub still : (L : Limits) (p : ℕ) (s : Bytes) (k : Known) → news L p s k ≡ false → Still k (observe L p s k .known)
+-- Where nothing changed, at most fragments changed.
+pub still : (L : Limits) (p : ℕ) (s : Bytes) (k : Known) → news L p s k .changed ≡ false → Still k (observe L p s k .known)
 unfolding news observe
 still L p [] k e = record { fragments-after = k .fragments; known-is = refl }
 still L p (flags ∷ s) k e = go (inSet (k .data-set) p) e
   where
-    go : (a : Bool) → cond a false (newsBy (indicator flags) L p flags s k) ≡ false → Still k (cond a (learnt k) (byIndicator (indicator flags) L p flags s k) .known)
+    go : (a : Bool) → cond a anything (newsBy (indicator flags) L p flags s k) .changed ≡ false → Still k (cond a (learnt k) (byIndicator (indicator flags) L p flags s k) .known)
     go true e = record { fragments-after = k .fragments; known-is = refl }
     go false e = by-still L p (indicator flags) flags s k e
 

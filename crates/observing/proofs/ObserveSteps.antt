@@ -18,11 +18,15 @@ use Rattle.meaning.specs.declared.Limits.{Limits}
 use Rattle.fragments.specs.Fragments.{KeptFragments, GrewAt, GaveUp}
 use Rattle.fragments.proofs.FragmentLaws.{without-grown}
 use Rattle.learning.specs.Kept.{Keeps}
+use Rattle.learning.specs.News.{noNews, also}
+use Rattle.learning.specs.Learnt.{withNews}
 use Rattle.learning.specs.declared.Extent.{Extent}
-use Rattle.observing.specs.News.{newsMessages, newsLast, newsBy, news}
+use Rattle.learning.specs.declared.News.{News}
+use Rattle.learning.proofs.AlsoLaws.{or-false, or-true, also-none}
+use Rattle.observing.specs.News.{newsMessages, newsLast, newsBy, anything, news}
 use Rattle.observing.specs.Steps.{After}
 use Rattle.observing.specs.Observed.{Holding, Observed, withCount, wholeStep, wholeNew, lastStep, lastNew, byStep, byNew}
-use Rattle.observing.proofs.StepLaws.{or-false}
+use Rattle.observing.proofs.StepLaws.{keeps-news}
 
 -- ---- tables and messages leave the fragments
 
@@ -81,7 +85,7 @@ messages-observed T q ms k fs e r n c p m o fragment-heads bodies a f =
     record {
       holding = record { tables-kept = a .keeps; fragments-kept = rw (same, a .fragments-same) f };
       lost-is = a .lost-is;
-      changed-is = a .changed-is;
+      news-are = a .news-are;
     }
 
 -- the same, where the count is told afterwards
@@ -99,18 +103,28 @@ messages-then T q ms k fs e r n c p m o fragment-heads bodies a f =
             fragments-kept = rw same f;
           };
       lost-is = a .lost-is;
-      changed-is = a .changed-is;
+      news-are = a .news-are;
     }
 
 -- fragments alone
 pub fragments-observed : (T : ℕ) (k : Known) (fs : List Fragment) (e : Extent) (n : ℕ) (c p m o fragment-heads : List ℕ) (bodies : Bytes) → Keeps k e c p m o → KeptFragments T fs n fragment-heads bodies
-    → Observed T (learnt (withFragments fs k)) false e (withCount e n) c p m o fragment-heads bodies
+    → Observed T (learnt (withFragments fs k)) noNews e (withCount e n) c p m o fragment-heads bodies
 fragments-observed T k fs e n c p m o fragment-heads bodies h f =
-    record { holding = record { tables-kept = keeps-with k fs e n c p m o h; fragments-kept = f }; lost-is = omega arith; changed-is = or-false (e .changed) }
+    record { holding = record { tables-kept = keeps-with k fs e n c p m o h; fragments-kept = f }; lost-is = omega arith; news-are = also-none (e .news) }
+
+-- what is not read may be anything
+pub also-anything : (n : News) → record { changed = n .changed; caption = true; carousel = true; other = true; plt = true } ≡ also n anything
+also-anything n i = record {
+  changed = or-false (n .changed) i;
+  caption = or-true (n .caption) i;
+  carousel = or-true (n .carousel) i;
+  other = or-true (n .other) i;
+  plt = or-true (n .plt) i;
+}
 
 -- nothing
-pub nothing-observed : (T : ℕ) (k : Known) (e : Extent) (c p m o fragment-heads : List ℕ) (bodies : Bytes) → Holding T k e c p m o fragment-heads bodies → Observed T (learnt k) false e e c p m o fragment-heads bodies
-nothing-observed T k e c p m o fragment-heads bodies h = record { holding = h; lost-is = omega arith; changed-is = or-false (e .changed) }
+pub nothing-observed : (T : ℕ) (k : Known) (e : Extent) (c p m o fragment-heads : List ℕ) (bodies : Bytes) → Holding T k e c p m o fragment-heads bodies → Observed T (learnt k) noNews e e c p m o fragment-heads bodies
+nothing-observed T k e c p m o fragment-heads bodies h = record { holding = h; lost-is = omega arith; news-are = also-none (e .news) }
 
 -- ---- a last fragment
 
@@ -183,10 +197,17 @@ module _ (L : Limits) (q : ℕ) (k : Known) (e : Extent) (c p m o fragment-heads
   see-nothing [] z = nothing-observed (L .total) k e c p m o fragment-heads bodies h
   see-nothing (x ∷ s) z = absurd (omega arith)
 
-  pub see-carousel : (s : Bytes) → inSet (k .data-set) q ≡ true → Observed (L .total) (observe L q s k) (news L q s k) e e c p m o fragment-heads bodies
+  pub see-carousel : (s : Bytes) → (length s ≡ 0 → ⊥) → inSet (k .data-set) q ≡ true
+      → Observed (L .total) (observe L q s k) (news L q s k) e (withNews e (also (e .news) anything)) c p m o fragment-heads bodies
   unfolding observe news
-  see-carousel [] z = nothing-observed (L .total) k e c p m o fragment-heads bodies h
-  see-carousel (x ∷ s) z = rw z (nothing-observed (L .total) k e c p m o fragment-heads bodies h)
+  see-carousel [] n z = absurd (n refl)
+  see-carousel (x ∷ s) n z =
+      rw z
+      (record {
+        holding = record { tables-kept = keeps-news k e (also (e .news) anything) c p m o (h .tables-kept); fragments-kept = h .fragments-kept };
+        lost-is = omega arith;
+        news-are = refl;
+      })
 
 -- ---- the payload as the code has it
 
@@ -209,10 +230,10 @@ module _ (L : Limits) (q flags : ℕ) (b : Bytes) (k : Known) (e r : Extent) (c 
   pub by-whole : flags / 64 ≡ 0 → Observed (L .total) (wholeStep q flags b L k) (wholeNew q flags b L k) e r c p m o fragment-heads bodies → By
   by-whole i x = rw (top flags 0 i (omega arith)) x
 
-  pub by-first : flags / 64 ≡ 1 → Observed (L .total) (learnt (withFragments (holdFirst L q flags b (k .fragments)) k)) false e r c p m o fragment-heads bodies → By
+  pub by-first : flags / 64 ≡ 1 → Observed (L .total) (learnt (withFragments (holdFirst L q flags b (k .fragments)) k)) noNews e r c p m o fragment-heads bodies → By
   by-first i x = rw (top flags 1 i (omega arith)) x
 
-  pub by-middle : flags / 64 ≡ 2 → Observed (L .total) (learnt (withFragments (middle L q b (k .fragments)) k)) false e r c p m o fragment-heads bodies → By
+  pub by-middle : flags / 64 ≡ 2 → Observed (L .total) (learnt (withFragments (middle L q b (k .fragments)) k)) noNews e r c p m o fragment-heads bodies → By
   by-middle i x = rw (top flags 2 i (omega arith)) x
 
   pub by-last : flags / 64 ≡ 3 → Observed (L .total) (lastStep q b L k) (lastNew q b L k) e r c p m o fragment-heads bodies → By

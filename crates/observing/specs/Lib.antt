@@ -1,4 +1,4 @@
--- What a call tells as changed, and what each step of learning promises.
+-- What a call tells as new, and what each step of learning promises.
 pub mod News
 pub mod Steps
 pub mod Observed

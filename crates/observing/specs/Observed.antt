@@ -1,7 +1,6 @@
--- What observing a payload promises: the state that arrays and rooms hold afterwards, how many maps were lost, whether anything changed.
+-- What observing a payload promises: the state that arrays and rooms hold afterwards, how many maps were lost, what is new.
 use Prim.Native.Nat.{ℕ, _+_}
 use mathlib.Core.Path.{_≡_}
-use mathlib.Core.Bool.{Bool, _||_}
 use mathlib.Core.List.{List, _∷_}
 use Rattle.meaning.specs.Bytes.{Bytes}
 use Rattle.meaning.specs.Messages.{messages, indicator}
@@ -9,7 +8,9 @@ use Rattle.meaning.specs.Learn.{Known, Learnt, learnMessages, withFragments, wi
 use Rattle.meaning.specs.declared.Limits.{Limits}
 use Rattle.fragments.specs.Fragments.{KeptFragments}
 use Rattle.learning.specs.Kept.{Keeps}
+use Rattle.learning.specs.News.{also}
 use Rattle.learning.specs.declared.Extent.{Extent}
+use Rattle.learning.specs.declared.News.{News}
 use Rattle.observing.specs.News.{newsMessages, newsLast, newsBy}
 
 -- All that is known, in arrays and both rooms.
@@ -21,38 +22,38 @@ abbrev pub HoldingSome : Extent → List ℕ → List ℕ → List ℕ → List 
 HoldingSome e data-set packages map-heads map-room fragment-heads bodies = (T : ℕ) × (k : Known) × Holding T k e data-set packages map-heads map-room fragment-heads bodies
 
 -- After a payload.
-pub record Observed (T : ℕ) (l : Learnt) (new : Bool) (e r : Extent) (data-set packages map-heads map-room fragment-heads : List ℕ) (bodies : Bytes) : Type 0 where
+pub record Observed (T : ℕ) (l : Learnt) (new : News) (e r : Extent) (data-set packages map-heads map-room fragment-heads : List ℕ) (bodies : Bytes) : Type 0 where
   pub holding : Holding T (l .known) r data-set packages map-heads map-room fragment-heads bodies
   pub lost-is : r .lost ≡ e .lost + l .lost
-  pub changed-is : r .changed ≡ (e .changed || new)
+  pub news-are : r .news ≡ also (e .news) new
 
 -- A step by limits, of which the code has the lengths of the rooms and `most`.
-abbrev pub Observes : (Limits → Known → Learnt) → (Limits → Known → Bool) → ℕ → Extent → List ℕ → List ℕ → List ℕ → List ℕ → List ℕ → Bytes
+abbrev pub Observes : (Limits → Known → Learnt) → (Limits → Known → News) → ℕ → Extent → List ℕ → List ℕ → List ℕ → List ℕ → List ℕ → Bytes
     → Extent → List ℕ → List ℕ → List ℕ → List ℕ → List ℕ → Bytes → Type 0
 Observes step new most e data-set packages map-heads map-room fragment-heads bodies r data-set′ packages′ map-heads′ map-room′ fragment-heads′ bodies′ =
     (L : Limits) (k : Known) → L .most ≡ most → Holding (L .total) k e data-set packages map-heads map-room fragment-heads bodies
     → Observed (L .total) (step L k) (new L k) e r data-set′ packages′ map-heads′ map-room′ fragment-heads′ bodies′
 
 abbrev pub withCount : Extent → ℕ → Extent
-withCount e n = record { seen = e .seen; «package_count» = e .«package_count»; «map_count» = e .«map_count»; «fragment_count» = n; lost = e .lost; changed = e .changed }
+withCount e n = record { seen = e .seen; «package_count» = e .«package_count»; «map_count» = e .«map_count»; «fragment_count» = n; lost = e .lost; news = e .news }
 
 -- A whole payload, by its first byte and its bytes from 2 on.
 abbrev pub wholeStep : ℕ → ℕ → Bytes → Limits → Known → Learnt
 wholeStep p flags b L k = learnMessages p (messages (flags ∷ 0 ∷ b)) (withFragments (without p (k .fragments)) k)
 
-abbrev pub wholeNew : ℕ → ℕ → Bytes → Limits → Known → Bool
+abbrev pub wholeNew : ℕ → ℕ → Bytes → Limits → Known → News
 wholeNew p flags b L k = newsMessages p (messages (flags ∷ 0 ∷ b)) (withFragments (without p (k .fragments)) k)
 
 -- A last fragment, by its bytes from 2 on.
 abbrev pub lastStep : ℕ → Bytes → Limits → Known → Learnt
 lastStep p b L k = last L p b k
 
-abbrev pub lastNew : ℕ → Bytes → Limits → Known → Bool
+abbrev pub lastNew : ℕ → Bytes → Limits → Known → News
 lastNew p b L k = newsLast (fragmentOf p (k .fragments)) L p b k
 
 -- A payload by the top two bits of its first byte; the byte behind that one is not read.
 abbrev pub byStep : ℕ → ℕ → Bytes → Limits → Known → Learnt
 byStep p flags b L k = byIndicator (indicator flags) L p flags (0 ∷ b) k
 
-abbrev pub byNew : ℕ → ℕ → Bytes → Limits → Known → Bool
+abbrev pub byNew : ℕ → ℕ → Bytes → Limits → Known → News
 byNew p flags b L k = newsBy (indicator flags) L p flags (0 ∷ b) k

@@ -7,11 +7,15 @@ ghost use Rattle.meaning.specs.Readers.{walk};
 ghost use Rattle.meaning.specs.Messages.{longLengths, consMessage, message, messageBody, readEach, messages};
 ghost use Rattle.meaning.specs.Tables.{pa};
 ghost use Rattle.meaning.specs.Learn.{learnTable, learnTables, paTables, learnMessages};
-ghost use Rattle.observing.specs.News.{newsTable, newsTables, newsMessages};
+ghost use Rattle.learning.specs.News.{also};
+ghost use Rattle.observing.specs.News.{pltNews, newsTable, newsTables, newsMessages};
 ghost use Rattle.observing.specs.Steps.{KeepsSome, DataLearnt, Learns, LearnsTables, tableIn};
 use learning::Extent;
+use learning::News;
+use learning::changed;
 use learning::lists::mpt;
 use learning::packages::plt;
+use learning::with_news;
 use octets::has;
 use octets::insert;
 use tables::fields::End;
@@ -23,6 +27,19 @@ use tables::pa::Table;
 use tables::pa::is_mpt;
 use tables::pa::pa_tables;
 use tables::pa::table_at;
+
+// What is new, and that a PLT on identifier 0 stands there.
+fn with_plt(n: News) -> News
+    ensures { λ r. ⌜ r ≡ also n pltNews ⌝ }
+{
+    News {
+        changed: n.changed,
+        caption: n.caption,
+        carousel: n.carousel,
+        other: n.other,
+        plt: true,
+    }
+}
 
 // A table: a PLT on identifier 0, or an MPT.
 fn learn_table(
@@ -47,7 +64,7 @@ fn learn_table(
     if id != 0 {
         return e;
     }
-    plt(b, e, packages)
+    plt(b, with_news(e, with_plt(e.news)), packages)
 }
 
 // The tables of a PA message's body, walked by their own heads.
@@ -87,14 +104,7 @@ fn learn_data(id: u16, e: Extent, data_set: &mut [u64; 1024]) -> Extent
     if known {
         return e;
     }
-    Extent {
-        seen: e.seen,
-        package_count: e.package_count,
-        map_count: e.map_count,
-        fragment_count: e.fragment_count,
-        lost: e.lost,
-        changed: true,
-    }
+    with_news(e, changed(e.news))
 }
 
 // The message at the front of `s`, if there is one.

@@ -3,7 +3,8 @@ ghost use mathlib.Core.Path.{_≡_};
 ghost use Prim.Native.Nat.{_+_, _-_, _≤_, _<_};
 ghost use lib.ListN.{length, drop};
 ghost use Rattle.meaning.specs.Learn.{last, observe};
-ghost use Rattle.observing.specs.News.{news};
+ghost use Rattle.learning.specs.News.{also};
+ghost use Rattle.observing.specs.News.{anything, news};
 ghost use Rattle.observing.specs.Observed.{HoldingSome, Observes, withCount, wholeStep, wholeNew, lastStep, lastNew, byStep, byNew};
 use crate::messages::learn;
 use fragments::Grown;
@@ -12,6 +13,8 @@ use fragments::grow;
 use fragments::hold_first;
 use fragments::middle;
 use learning::Extent;
+use learning::News;
+use learning::with_news;
 use octets::has;
 
 // A payload's bytes from 2 on.
@@ -28,13 +31,14 @@ fn body_of(payload: &[u8]) -> &[u8]
 fn with_count(e: Extent, n: usize) -> Extent
     ensures { λ r. ⌜ r ≡ withCount e n ⌝ }
 {
+    let news = e.news;
     Extent {
         seen: e.seen,
         package_count: e.package_count,
         map_count: e.map_count,
         fragment_count: n,
         lost: e.lost,
-        changed: e.changed,
+        news,
     }
 }
 
@@ -157,6 +161,19 @@ fn by_indicator(
     }
 }
 
+// What is new; what stands in a payload that is not read is not known, so that it may be anything.
+fn unread(n: News) -> News
+    ensures { λ r. ⌜ r ≡ also n anything ⌝ }
+{
+    News {
+        changed: n.changed,
+        caption: true,
+        carousel: true,
+        other: true,
+        plt: true,
+    }
+}
+
 // What a signalling payload adds to what is known; nothing on a data-carousel identifier.
 pub fn observe(
     payload: &[u8],
@@ -177,7 +194,7 @@ pub fn observe(
         return e;
     }
     if has(data_set, id) {
-        return e;
+        return with_news(e, unread(e.news));
     }
     let flags = payload[0];
     let body = body_of(payload);

@@ -1,5 +1,6 @@
 -- Laws on the way of a packet, cited by the proofs of the functions.
 pub mod PassLaws
+pub mod SparingLaws
 pub mod SignalLaws
 pub mod RowLaws
 pub mod PlainLaws

@@ -25,10 +25,13 @@ use Rattle.meaning.proofs.Statements.{packet-shorter}
 use Rattle.tlv.specs.Answers.{PartIs}
 use Rattle.narrowing.specs.Answers.{signalOf}
 use Rattle.learning.specs.Kept.{Keeps}
+use Rattle.learning.specs.News.{noNews}
+use Rattle.learning.specs.Learnt.{withNews}
 use Rattle.learning.specs.declared.Extent.{Extent}
+use Rattle.learning.specs.declared.News.{News}
+use Rattle.learning.proofs.AlsoLaws.{or-false}
 use Rattle.observing.specs.News.{news}
 use Rattle.observing.specs.Observed.{Holding, Observed}
-use Rattle.observing.proofs.StepLaws.{or-false}
 use Rattle.observing.proofs.NewsLaws.{still, drops-still, ready-still}
 use Rattle.rules.specs.Changes.{SetIs}
 use Rattle.passing.specs.declared.Progress.{Progress}
@@ -70,9 +73,9 @@ narrows-as M o {p} h = ap (packetFor M o p) (h .read)
 pub part-is : {p payload : Bytes} {id : ℕ} {w : Bool} (r : Bytes) → Signals p payload id w → PartIs (Option·map (λ m. m .payload) (mmtpOf p)) 16 p r → r ≡ payload
 part-is r h g = let k = rw (h .read) at g in k .0
 
--- the observer counts changes from none
+-- the observer begins with no news
 abbrev pub noChange : Extent → Extent
-noChange e = record { seen = e .seen; «package_count» = e .«package_count»; «map_count» = e .«map_count»; «fragment_count» = e .«fragment_count»; lost = e .lost; changed = false }
+noChange e = withNews e noNews
 
 pub holding-anew : {T : ℕ} {k : Known} {e : Extent} {data-set packages map-heads map-room fragment-heads : List ℕ} {bodies : Bytes}
     → Holding T k e data-set packages map-heads map-room fragment-heads bodies → Holding T k (noChange e) data-set packages map-heads map-room fragment-heads bodies
@@ -95,7 +98,7 @@ module _ (L : Limits) (M : Modes) (o : Options) (id : ℕ) (s : Bytes) (k : Know
   after = observe L id s k .known
 
   refreshed-is : (b : Bool) {e : Extent} {was : Bool} {data-set packages map-heads map-room : List ℕ} {set : Words} {r : Bool} {set′ : Words}
-      → b ≡ news L id s k → Refreshed b o e was data-set packages map-heads map-room set r set′ → Keeps after e data-set packages map-heads map-room
+      → b ≡ news L id s k .changed → Refreshed b o e was data-set packages map-heads map-room set r set′ → Keeps after e data-set packages map-heads map-room
       → SetIs (drops o k) set → was ≡ ready (o .service) k
       → SetIs (drops o after) set′ × (r ≡ ready (o .service) after)
   refreshed-is true b h keeps t y = h after keeps
@@ -168,11 +171,11 @@ module _ (L : Limits) (M : Modes) (o : Options) (k : Known) (d : Bytes) (ps : Li
       {data-set′ packages′ map-heads′ map-room′ fragment-heads′ : List ℕ} {bodies′ : Bytes} {set′ : Words} {out′ : Bytes}
       → Sofar L M o k d ps n s data-set packages map-heads map-room fragment-heads bodies set out
       → Observed (L .total) step (news L id payload here) (noChange (s .extent)) (r .extent) data-set′ packages′ map-heads′ map-room′ fragment-heads′ bodies′
-      → Refreshed (r .extent .changed) o (r .extent) (s .ready) data-set′ packages′ map-heads′ map-room′ set (r .ready) set′
+      → Refreshed (r .extent .news .changed) o (r .extent) (s .ready) data-set′ packages′ map-heads′ map-room′ set (r .ready) set′
       → Emitted (inSet set′ id) (narrowPacket M o p) p (s .counts) out (r .counts) out′
       → Sofar L M o k d (ps ++ p ∷ []) (n + 0) r data-set′ packages′ map-heads′ map-room′ fragment-heads′ bodies′ set′ out′
   signalled {data-set} {packages} {map-heads} {map-room} {fragment-heads} {bodies} {set} {out} {data-set′} {packages′} {map-heads′} {map-room′} {fragment-heads′} {bodies′} {set′} {out′} f seen fresh sent =
-      let g = refreshed-is L M o id payload here (r .extent .changed) (seen .changed-is) fresh (seen .holding .tables-kept) (f .set-is) (f .ready-is) in
+      let g = refreshed-is L M o id payload here (r .extent .news .changed) (ap (λ (n : News). n .changed) (seen .news-are)) fresh (seen .holding .tables-kept) (f .set-is) (f .ready-is) in
       let b : inSet set′ id ≡ drops o (step .known) id = g .0 .member id (h .identifier-fits) in
       let x = rw b at sent in
       let y = narrowPacket M o p in

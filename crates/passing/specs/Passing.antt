@@ -1,15 +1,17 @@
 -- How far a run has come: arrays, rooms, set, counts and output are those of the definition's `pass` over the packets so far.
 use Prim.Native.Nat.{ℕ, _+_, _-_, _*_, _≤_}
 use mathlib.Core.Path.{_≡_}
-use mathlib.Core.Bool.{Bool, true, false, cond}
+use mathlib.Core.Bool.{Bool, true, false, cond, not, _&&_, _||_}
 use mathlib.Core.List.{List, _++_, flatten}
-use mathlib.Core.Option.{Option, Option·getD}
+use mathlib.Core.Option.{Option, none, Option·getD}
 use lib.ListN.{length, drop}
 use Rattle.meaning.specs.Bytes.{Bytes}
 use Rattle.meaning.specs.Writing.{Wrote}
 use Rattle.meaning.specs.Sets.{Words}
 use Rattle.meaning.specs.Lists.{isSome}
 use Rattle.meaning.specs.Packets.{stepOf, cut}
+use Rattle.meaning.specs.Wishes.{everyService}
+use Rattle.meaning.specs.Narrow.{narrowPayload}
 use Rattle.meaning.specs.Learn.{Known}
 use Rattle.meaning.specs.Rules.{drops, ready}
 use Rattle.meaning.specs.Push.{Passed, pass}
@@ -20,6 +22,7 @@ use Rattle.meaning.specs.declared.Step.the-variants.{Keep}
 use Rattle.meaning.specs.declared.Counts.{Counts}
 use Rattle.learning.specs.Kept.{Keeps}
 use Rattle.learning.specs.declared.Extent.{Extent}
+use Rattle.learning.specs.declared.News.{News}
 use Rattle.observing.specs.Observed.{Holding}
 use Rattle.rules.specs.Changes.{SetIs}
 use Rattle.passing.specs.declared.Terms.{Terms}
@@ -29,6 +32,15 @@ use Rattle.passing.specs.declared.Ahead.{Ahead}
 use Rattle.passing.specs.Verdicts.{SignalsSome, ahead, PacketTo, packetAt}
 
 -- ---- one signalling packet
+
+-- Whether a wish is against anything that stands in a payload's tables.
+unfoldable pub cuts : Options → News → Bool
+cuts o n =
+    (n .other && not (o .other)) || ((n .caption && not (o .caption)) || ((n .carousel && not (o .carousel)) || (n .plt && not (everyService (o .service)))))
+
+-- Else narrowing leaves the payload.
+abbrev pub Spares : Options → News → ℕ → Bytes → Type 0
+Spares o n id payload = cuts o n ≡ false → narrowPayload o id payload ≡ none
 
 -- Withheld, it is taken in; else it is written, narrowed where narrowing changes it.
 abbrev pub Emitted : Bool → Option Bytes → Bytes → Counts → Bytes → Counts → Bytes → Type 0

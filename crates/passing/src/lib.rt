@@ -2,22 +2,27 @@
 // they are go in rows, one copy for a row.
 ghost use mathlib.Core.Path.{_≡_};
 ghost use Prim.Native.Nat.{ℕ, _+_, _-_, _*_, _≤_, _<_};
-ghost use mathlib.Core.Bool.{true, false};
+ghost use mathlib.Core.Bool.{true, false, not, _&&_};
 ghost use mathlib.Core.List.{List, [], _∷_, _++_};
 ghost use mathlib.Core.Option.{some};
 ghost use lib.ListN.{length};
 ghost use Rattle.meaning.specs.Sets.{inSet};
 ghost use Rattle.meaning.specs.Mmtp.{mmtpOf};
+ghost use Rattle.meaning.specs.Wishes.{everyService};
 ghost use Rattle.meaning.specs.Narrow.{packetFor, narrowPacket};
 ghost use Rattle.meaning.specs.Learn.{Known};
 ghost use Rattle.narrowing.specs.Answers.{signalOf};
 ghost use Rattle.learning.specs.Kept.{Keeps};
 ghost use Rattle.passing.specs.Verdicts.{VerdictIs, Signals, SignalsSome, RowIs};
-ghost use Rattle.passing.specs.Passing.{Emitted, Refreshed, Fits, SofarSome, SofarAfter, AheadIs, Along, ScannedAs, withSkipped, withWithheld, withRow};
+ghost use Rattle.passing.specs.Passing.{cuts, Spares, Emitted, Refreshed, Fits, SofarSome, SofarAfter, AheadIs, Along, ScannedAs, withSkipped, withWithheld, withRow};
 use learning::Extent;
+use learning::News;
+use learning::no_news;
+use learning::with_news;
 use meaning::Counts;
 use meaning::Modes;
 use meaning::Options;
+use meaning::Service;
 use meaning::Step;
 use narrowing::narrow::rewrite;
 use observing::observe::observe;
@@ -122,18 +127,56 @@ fn narrowed(
     sent(c, last, 1)
 }
 
-// A signalling packet, after it was learned from: withheld where the set has it, else written.
+// Whether something stands there that is not wanted.
+fn against(there: bool, wanted: bool) -> bool
+    ensures { λ r. ⌜ r ≡ (there && not wanted) ⌝ }
+{
+    if there {
+        return !wanted;
+    }
+    false
+}
+
+fn every_service(service: Service) -> bool
+    ensures { λ r. ⌜ r ≡ everyService service ⌝ }
+{
+    match service {
+        Service::Every => true,
+        Service::Only(_) => false,
+    }
+}
+
+// Whether a wish is against anything that stands in a payload's tables.
+fn cuts(o: Options, n: News) -> bool
+    ensures { λ r. ⌜ r ≡ cuts o n ⌝ }
+{
+    if against(n.other, o.other) {
+        return true;
+    }
+    if against(n.caption, o.caption) {
+        return true;
+    }
+    if against(n.carousel, o.carousel) {
+        return true;
+    }
+    let service = o.service;
+    against(n.plt, every_service(service))
+}
+
+// A signalling packet, after it was learned from: withheld where the set has it, else written. Nearly no table has anything to cut, and
+// learning has seen all that stands in it, so narrowing walks only those that have.
 fn emit(
     p: &[u8],
     payload: &[u8],
     s: Signal,
+    news: News,
     o: Options,
     modes: Modes,
     c: Counts,
     set: &[u64; 1024],
     out: &mut [u8],
 ) -> Counts
-    requires { ⌜ Signals (now p) (now payload) (s .id) (s .rewritable) × (c .bytes + length (now p) ≤ length (now out)) × (c .accepted + 1 ≤ 18446744073709551615) × (c .written + 1 ≤ 18446744073709551615) × (c .rewritten + 1 ≤ 18446744073709551615) ⌝ }
+    requires { ⌜ Signals (now p) (now payload) (s .id) (s .rewritable) × Spares o news (s .id) (now payload) × (c .bytes + length (now p) ≤ length (now out)) × (c .accepted + 1 ≤ 18446744073709551615) × (c .written + 1 ≤ 18446744073709551615) × (c .rewritten + 1 ≤ 18446744073709551615) ⌝ }
     ensures { λ r. ⌜ Emitted (inSet (now (set .entry)) (s .id)) (narrowPacket modes o (now (p .entry))) (now (p .entry)) c (now (out .entry)) r (now (out .exit)) ⌝ }
 {
     if has(set, s.id) {
@@ -145,6 +188,9 @@ fn emit(
             skipped: c.skipped,
             lost: c.lost,
         };
+    }
+    if !cuts(o, news) {
+        return sent(c, copy(p, out, c.bytes), 0);
     }
     narrowed(p, payload, s, o, modes, c, out)
 }
@@ -161,27 +207,15 @@ fn refreshed(
     set: &mut [u64; 1024],
 ) -> bool
     requires { ⌜ ((k : Known) × Keeps k e (now «data_set») (now packages) (now «map_heads») (now «map_room»)) ⌝ }
-    ensures { λ r. ⌜ Refreshed (e .changed) o e was (now («data_set» .entry)) (now (packages .entry)) (now («map_heads» .entry)) (now («map_room» .entry)) (now (set .entry)) r (now (set .exit)) ⌝ }
+    ensures { λ r. ⌜ Refreshed (e .news .changed) o e was (now («data_set» .entry)) (now (packages .entry)) (now («map_heads» .entry)) (now («map_room» .entry)) (now (set .entry)) r (now (set .exit)) ⌝ }
 {
-    if !e.changed {
+    let news = e.news;
+    if !news.changed {
         return was;
     }
     decide(o, e, data_set, packages, map_heads, map_room, set);
     let service = o.service;
     ready(service, e, packages, map_heads)
-}
-
-fn unchanged(e: Extent) -> Extent
-    ensures { λ r. ⌜ r ≡ record { seen = e .seen; «package_count» = e .«package_count»; «map_count» = e .«map_count»; «fragment_count» = e .«fragment_count»; lost = e .lost; changed = false } ⌝ }
-{
-    Extent {
-        seen: e.seen,
-        package_count: e.package_count,
-        map_count: e.map_count,
-        fragment_count: e.fragment_count,
-        lost: e.lost,
-        changed: false,
-    }
 }
 
 // A signalling packet: learned from, then withheld or written.
@@ -204,7 +238,7 @@ fn signalling(
 {
     let o = t.options;
     let c = s.counts;
-    let before = unchanged(s.extent);
+    let before = with_news(s.extent, no_news());
     let payload = packet_payload(p);
     let e = observe(
         payload,
@@ -219,7 +253,7 @@ fn signalling(
         bodies,
     );
     let is_ready = refreshed(e, s.ready, o, data_set, packages, map_heads, map_room, set);
-    let d = emit(p, payload, signal, o, t.modes, c, set, out);
+    let d = emit(p, payload, signal, e.news, o, t.modes, c, set, out);
     Progress {
         extent: e,
         counts: d,

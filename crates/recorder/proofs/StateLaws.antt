@@ -20,6 +20,7 @@ use Rattle.meaning.specs.declared.Modes.{Modes}
 use Rattle.meaning.proofs.ListLaws.{and-both}
 use Rattle.meaning.proofs.SoundnessLaws.{HoldsState, state-holds, state-back}
 use Rattle.fragments.specs.Fragments.{KeptFragments}
+use Rattle.learning.specs.News.{noNews}
 use Rattle.learning.specs.Kept.{pairsIn, Pairs, KeptPackages, KeptMaps}
 use Rattle.fragments.specs.Fragments.{lens}
 use Rattle.observing.specs.Observed.{Holding}
@@ -122,7 +123,7 @@ fragments-kept T n hs bodies e l t few h =
 
 -- The extent of a record between two calls.
 abbrev pub extentIn : Record → Extent
-extentIn r = record { seen = r .plt-seen; «package_count» = r .package-count; «map_count» = r .map-count; «fragment_count» = r .fragment-count; lost = 0; changed = false }
+extentIn r = record { seen = r .plt-seen; «package_count» = r .package-count; «map_count» = r .map-count; «fragment_count» = r .fragment-count; lost = 0; news = noNews }
 
 pub record-parts : (r : Record) (W T M : ℕ) → sound r W T M ≡ true
     → SoundParts (r .limits) (r .options) (r .held-count) (extentIn r) (r .packages) (r .map-heads) (r .fragment-heads) W T M

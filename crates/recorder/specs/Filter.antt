@@ -8,6 +8,7 @@ use Rattle.meaning.specs.declared.Limits.{Limits}
 use Rattle.meaning.specs.declared.Options.{Options}
 use Rattle.meaning.specs.declared.Modes.{Modes}
 use Rattle.soundness.specs.Parts.{limitsOf}
+use Rattle.learning.specs.News.{noNews}
 use Rattle.learning.specs.declared.Extent.{Extent}
 use Rattle.recorder.specs.declared.Filter.{Filter}
 use Rattle.recorder.specs.declared.call.Begun.{Begun}
@@ -50,7 +51,7 @@ freshRecord L M o = record {
 
 -- How much is known as a call begins.
 abbrev pub extentOf : Filter → Extent
-extentOf f = record { seen = f .seen; «package_count» = f .«package_count»; «map_count» = f .«map_count»; «fragment_count» = f .«fragment_count»; lost = 0; changed = false }
+extentOf f = record { seen = f .seen; «package_count» = f .«package_count»; «map_count» = f .«map_count»; «fragment_count» = f .«fragment_count»; lost = 0; news = noNews }
 
 abbrev pub begunOf : Filter → Begun
 begunOf f = record { limits = limitsOf (f .work) (f .total) (f .most); modes = f .modes; options = f .options; «held_count» = f .«held_count»; extent = extentOf f }

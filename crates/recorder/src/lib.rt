@@ -26,6 +26,7 @@ use crate::slots::clear32;
 use crate::slots::clear64;
 use crate::sound::is_sound;
 use learning::Extent;
+use learning::no_news;
 use meaning::Answer;
 use meaning::Counts;
 use meaning::Limits;
@@ -164,7 +165,7 @@ fn limits_of(f: Filter) -> Limits
     }
 }
 
-// How much is known as a call begins: no map is lost yet, and nothing has changed.
+// How much is known as a call begins: no map is lost yet, and nothing is new.
 fn extent_of(f: Filter) -> Extent
     ensures { λ r. ⌜ r ≡ extentOf f ⌝ }
 {
@@ -174,7 +175,7 @@ fn extent_of(f: Filter) -> Extent
         map_count: f.map_count,
         fragment_count: f.fragment_count,
         lost: 0,
-        changed: false,
+        news: no_news(),
     }
 }
 

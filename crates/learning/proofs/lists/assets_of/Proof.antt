@@ -1,14 +1,16 @@
 use Rattle.learning.proofs.MapLaws.{Listing, list-start, list-next, front-none, count-none, entries-none, assets-are}
+use Rattle.learning.proofs.KindLaws.{Met, met-next}
+use mathlib.Core.Path.{refl}
 use native.Mathlib.Omega.{arith}
 use borrow.Author.Needs.{needs}
 use Rattle.learning.proofs.lists.assets_of.Statement.{statement}
 use Rattle.learning.proofs.lists.assets_of.Tie as tie
 
 abbrev Inv-loop : tie.InvT-loop
-Inv-loop b fresh₀ front left₀ from₀ n₀ fresh left from n = Listing b from₀ left₀ fresh from left n
+Inv-loop b fresh₀ front left₀ from₀ n₀ news₀ fresh left from n news = Listing b from₀ left₀ fresh from left n × Met b from₀ left₀ news₀ from left news
 
 abbrev μ-loop : tie.MeasureT-loop
-μ-loop b fresh₀ front left₀ from₀ n₀ fresh left from n = left
+μ-loop b fresh₀ front left₀ from₀ n₀ news₀ fresh left from n news = left
 
 mpt-front-requires : tie.Need-mpt-front-requires Inv-loop μ-loop
 mpt-front-requires c κs = search needs
@@ -37,7 +39,7 @@ add-from : tie.Need-add-from Inv-loop μ-loop
 add-from c = omega arith
 
 loop-holds : tie.Need-loop-holds Inv-loop μ-loop
-loop-holds c = list-start _ _ _ _ (c .wide .ensures .1) (c .before .before .before .before .before .before .before .before .pre)
+loop-holds c = (list-start _ _ _ _ (c .wide .ensures .1) (c .before .before .before .before .before .before .before .before .pre), record { met = refl })
 
 asset-at-requires : tie.Need-asset-at-requires Inv-loop μ-loop
 asset-at-requires c κs = search needs
@@ -54,26 +56,32 @@ returns-3 c =
     let w = c .before .before .before .before .before .wide in
     let l = c .before .before .before .before .loop in (
       entries-none _ (front .0 .0) (rw (front .1) at (c .before .before .before .before .before .before .before .before .before .before .before .mpt-front .ensures))
-          (omega arith) (w .result) (w .ensures .0) (w .ensures .1) (l .fresh) (l .from) (l .left) (l .n) (l .inv) (omega arith)
+          (omega arith) (w .result) (w .ensures .0) (w .ensures .1) (l .fresh) (l .from) (l .left) (l .n) (l .inv .0) (omega arith)
           (rw (c .enum-told2 .given .1) at (c .before .before .asset-at .ensures)),
-      l .inv .map-room,
+      l .inv .0 .map-room,
     )
 
 sub-left : tie.Need-sub-left Inv-loop μ-loop
 sub-left c = omega arith
 
+with-kind-requires : tie.Need-with-kind-requires Inv-loop μ-loop
+with-kind-requires c κs = search needs
+
 list-asset-requires : tie.Need-list-asset-requires Inv-loop μ-loop
-list-asset-requires c κs = (omega arith, c .before .before .before .before .before .before .loop .inv .map-room)
+list-asset-requires c κs = let i = c .before .before .before .before .before .before .before .loop .inv .0 in (omega (arith, i .few), i .map-room)
 
 loop-less : tie.Need-loop-less Inv-loop μ-loop
 loop-less c = omega arith
 
 loop-again : tie.Need-loop-again Inv-loop μ-loop
 loop-again c =
-    let l = c .before .before .before .before .before .before .before .loop in
-    let e = c .before .before .before .end .given in
-    list-next _ _ _ (l .fresh) (l .from) (l .left) (l .n) (l .inv) (e .0 .0) _ _ (c .list-asset .last .0) (c .list-asset .result) (omega arith)
-    (rw (e .1) at (c .before .before .before .before .before .asset-at .ensures)) (c .list-asset .ensures .0) (c .list-asset .ensures .2) (c .list-asset .ensures .3)
+    let l = c .before .before .before .before .before .before .before .before .loop in
+    let e = c .before .before .before .before .end .given in
+    let asset = rw (e .1) at (c .before .before .before .before .before .before .asset-at .ensures) in (
+      list-next _ _ _ (l .fresh) (l .from) (l .left) (l .n) (l .inv .0) (e .0 .0) _ _ (c .list-asset .last .0) (c .list-asset .result) (omega arith)
+          asset (c .list-asset .ensures .0) (c .list-asset .ensures .2) (c .list-asset .ensures .3),
+      rw (c .before .before .with-kind .ensures) (met-next _ _ _ _ (l .from) (l .left) (l .news) (l .inv .1) (e .0 .0) _ _ (omega arith) asset),
+    )
 
 returns-4 : tie.Need-returns-4 Inv-loop μ-loop
 returns-4 c =
@@ -81,8 +89,8 @@ returns-4 c =
     let w = c .before .before .wide in
     let l = c .before .loop in (
       assets-are _ (front .0 .0) (rw (front .1) at (c .before .before .before .before .before .before .before .before .mpt-front .ensures))
-          (omega arith) (w .result) (w .ensures .0) (w .ensures .1) (l .fresh) (l .from) (l .left) (l .n) (l .inv) (omega arith),
-      l .inv .map-room,
+          (omega arith) (w .result) (w .ensures .0) (w .ensures .1) (l .fresh) (l .from) (l .left) (l .n) (l .inv .0) (omega arith) _ (l .news) (l .inv .1),
+      l .inv .0 .map-room,
     )
 
 pub assets-of-spec : {M : Type 1} → statement M
@@ -105,6 +113,7 @@ assets-of-spec =
     enum-told-2
     returns-3
     sub-left
+    with-kind-requires
     list-asset-requires
     loop-less
     loop-again

@@ -9,8 +9,8 @@ use Rattle.learning.proofs.lists.is_held_at.Tie as tie
 
 returns : tie.Need-returns
 returns c =
-    let a = c .before .before .before .args in
-    rw (count-past (a .map-count) (a .i) (a .map-heads .now) (omega arith), held-none)
+    let a = c .before .before .before .before .args in
+    rw (count-past (a .e .«map_count») (a .i) (a .map-heads .now) (omega arith), held-none)
 
 mul-is-held : tie.Need-mul-is-held
 mul-is-held c = search needs
@@ -26,17 +26,17 @@ mul-is-held-2 c = search needs
 
 is-held-requires : tie.Need-is-held-requires
 is-held-requires c κs =
-    let a = c .before .before .before .before .args in
-    let k = c .before .before .before .before .pre .1 .1 in
+    let a = c .before .before .before .before .before .args in
+    let k = c .before .before .before .before .before .pre .1 .1 in
     let n : getD (a .map-heads .now) (a .i) 0 % 65536 < 256 =
-    count-small (a .map-count) (a .i) (a .map-heads .now) (rw (pairs-in (k .pairs)) (k .hold .small)) (omega arith) (omega (arith, k .pairs .count, k .pairs .few, pairs-length (k .pairs))) in
+    count-small (a .e .«map_count») (a .i) (a .map-heads .now) (rw (pairs-in (k .pairs)) (k .hold .small)) (omega arith) (omega (arith, k .pairs .count, k .pairs .few, pairs-length (k .pairs))) in
     omega (arith, k .pairs .count, k .pairs .few)
 
 returns-2 : tie.Need-returns-2
 returns-2 c =
-    let a = c .before .before .before .before .before .args in
-    let k = c .before .before .before .before .before .pre .1 .1 .pairs in
-    rw (count-in (a .map-count) (a .i) (a .map-heads .now) (omega arith) (omega (arith, k .count, k .few, pairs-length k))) (c .is-held .ensures)
+    let a = c .before .before .before .before .before .before .args in
+    let k = c .before .before .before .before .before .before .pre .1 .1 .pairs in
+    rw (count-in (a .e .«map_count») (a .i) (a .map-heads .now) (omega arith) (omega (arith, k .count, k .few, pairs-length k))) (c .is-held .ensures)
 
 pub is-held-at-spec : {M : Type 1} → statement M
 is-held-at-spec =

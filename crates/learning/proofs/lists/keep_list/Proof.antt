@@ -23,13 +23,16 @@ list-to-requires c κs = search needs
 count-with-requires : tie.Need-count-with-requires
 count-with-requires c κs = search needs
 
+changed-requires : tie.Need-changed-requires
+changed-requires c κs = search needs
+
 same-length : tie.Need-same-length
 same-length c = search needs
 
 returns : tie.Need-returns
 returns c =
-    let q = c .before .before .before .before .before .head-of .ensures in
-    record { map-heads-are = rw q; map-room-is = c .before .before .before .list-to .ensures; extent-is = rw (c .count-with .ensures) }
+    let q = c .before .before .before .before .before .before .head-of .ensures in
+    record { map-heads-are = rw q; map-room-is = c .before .before .before .before .list-to .ensures; extent-is = rw (c .before .count-with .ensures, c .changed .ensures) }
 
 pub keep-list-spec : {M : Type 1} → statement M
 keep-list-spec =
@@ -42,5 +45,6 @@ keep-list-spec =
     mul-list-to-2
     list-to-requires
     count-with-requires
+    changed-requires
     same-length
     returns)

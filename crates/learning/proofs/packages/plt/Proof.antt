@@ -33,12 +33,15 @@ returns-2 c =
     let r = rw (c .before .before .before .before .before .n .given .1) at (c .before .before .before .before .before .before .before .packages-of .ensures) in
     plt-known (a .b .now) (a .e) ps (a .packages .now) k _ _ r (sym (c .before .is-known .ensures) ∙ c .if1 .taken)
 
+changed-requires : tie.Need-changed-requires
+changed-requires c κs = search needs
+
 returns-3 : tie.Need-returns-3
 returns-3 c =
     λ ps k.
-    let a = c .before .before .before .before .before .before .before .before .before .before .args in
-    let r = rw (c .before .before .before .before .before .n .given .1) at (c .before .before .before .before .before .before .before .packages-of .ensures) in
-    plt-new (a .b .now) (a .e) ps (a .packages .now) k _ _ r (sym (c .before .is-known .ensures) ∙ c .if1 .left)
+    let a = c .before .before .before .before .before .before .before .before .before .before .before .args in
+    let r = rw (c .before .before .before .before .before .before .n .given .1) at (c .before .before .before .before .before .before .before .before .packages-of .ensures) in
+    rw (c .changed .ensures) (plt-new (a .b .now) (a .e) ps (a .packages .now) k _ _ r (sym (c .before .before .is-known .ensures) ∙ c .before .if1 .left))
 
 pub plt-spec : {M : Type 1} → statement M
 plt-spec =
@@ -50,4 +53,5 @@ plt-spec =
     returns
     is-known-requires
     returns-2
+    changed-requires
     returns-3)

@@ -19,10 +19,16 @@ returns c =
     let a = c .before .before .before .before .before .args in
     (c .before .insert .ensures, data-old (a .id) (a .e) (a .data-set .now) (sym (c .before .before .before .has .ensures) ∙ c .if1 .taken))
 
+changed-requires : tie.Need-changed-requires
+changed-requires c κs = search needs
+
+with-news-requires : tie.Need-with-news-requires
+with-news-requires c κs = search needs
+
 returns-2 : tie.Need-returns-2
 returns-2 c =
-    let a = c .before .before .before .before .before .args in
-    (c .before .insert .ensures, data-new (a .id) (a .e) (a .data-set .now) (sym (c .before .before .before .has .ensures) ∙ c .if1 .left))
+    let a = c .before .before .before .before .before .before .before .args in
+    (c .before .before .before .insert .ensures, rw (c .with-news .ensures, c .before .changed .ensures) (data-new (a .id) (a .e) (a .data-set .now) (sym (c .before .before .before .before .before .has .ensures) ∙ c .before .before .if1 .left)))
 
 pub learn-data-spec : {M : Type 1} → statement M
-learn-data-spec = tie.close (tie.spec has-requires insert-requires returns returns-2)
+learn-data-spec = tie.close (tie.spec has-requires insert-requires returns changed-requires with-news-requires returns-2)

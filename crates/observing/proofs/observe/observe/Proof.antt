@@ -15,10 +15,19 @@ returns c =
 has-requires : tie.Need-has-requires
 has-requires c κs = search needs
 
+unread-requires : tie.Need-unread-requires
+unread-requires c κs = search needs
+
+with-news-requires : tie.Need-with-news-requires
+with-news-requires c κs = search needs
+
 returns-2 : tie.Need-returns-2
 returns-2 c =
-    let a = c .before .before .before .before .before .before .before .args in
-    ((λ L k most h. see-carousel L (a .id) k (a .e) _ _ _ _ _ _ h (a .payload .now) (ap (λ ws. inSet ws (a .id)) (sym (h .tables-kept .data-set-is)) ∙ sym (c .before .has .ensures) ∙ c .if2 .taken)), omega arith)
+    let a = c .before .before .before .before .before .before .before .before .before .args in
+    rw (c .with-news .ensures, c .before .unread .ensures) (
+      (λ L k most h. see-carousel L (a .id) k (a .e) _ _ _ _ _ _ h (a .payload .now) (c .before .before .before .before .before .if1 .left) (ap (λ ws. inSet ws (a .id)) (sym (h .tables-kept .data-set-is)) ∙ sym (c .before .before .before .has .ensures) ∙ c .before .before .if2 .taken)),
+      omega arith,
+    )
 
 shared-slice-read-flags : tie.Need-shared-slice-read-flags
 shared-slice-read-flags c = search needs
@@ -49,4 +58,4 @@ returns-3 c =
     )
 
 pub observe-spec : {M : Type 1} → statement M
-observe-spec = tie.close (tie.spec returns has-requires returns-2 shared-slice-read-flags body-of-requires by-indicator-requires same-length same-length-2 returns-3)
+observe-spec = tie.close (tie.spec returns has-requires unread-requires with-news-requires returns-2 shared-slice-read-flags body-of-requires by-indicator-requires same-length same-length-2 returns-3)

@@ -1,0 +1,51 @@
+use mathlib.Core.Path.{sym, _∙_}
+use Rattle.passing.specs.Passing.{cuts}
+use borrow.Author.Needs.{needs}
+use Rattle.passing.proofs.cuts.Statement.{statement}
+use Rattle.passing.proofs.cuts.Tie as tie
+
+against-requires : tie.Need-against-requires
+against-requires c κs = search needs
+
+returns : tie.Need-returns
+unfolding cuts
+returns c = rw (sym (c .before .against .ensures) ∙ c .if1 .taken)
+
+against-requires-2 : tie.Need-against-requires-2
+against-requires-2 c κs = search needs
+
+returns-2 : tie.Need-returns-2
+unfolding cuts
+returns-2 c = rw (sym (c .before .before .before .against .ensures) ∙ c .before .before .if1 .left, sym (c .before .against2 .ensures) ∙ c .if2 .taken)
+
+against-requires-3 : tie.Need-against-requires-3
+against-requires-3 c κs = search needs
+
+returns-3 : tie.Need-returns-3
+unfolding cuts
+returns-3 c = rw (sym (c .before .before .before .before .before .against .ensures) ∙ c .before .before .before .before .if1 .left, sym (c .before .before .before .against2 .ensures) ∙ c .before .before .if2 .left, sym (c .before .against3 .ensures) ∙ c .if3 .taken)
+
+every-service-requires : tie.Need-every-service-requires
+every-service-requires c κs = search needs
+
+against-requires-4 : tie.Need-against-requires-4
+against-requires-4 c κs = search needs
+
+returns-4 : tie.Need-returns-4
+unfolding cuts
+returns-4 c =
+    rw (sym (c .before .before .before .before .before .before .before .against .ensures) ∙ c .before .before .before .before .before .before .if1 .left, sym (c .before .before .before .before .before .against2 .ensures) ∙ c .before .before .before .before .if2 .left, sym (c .before .before .before .against3 .ensures) ∙ c .before .before .if3 .left, ← c .before .every-service .ensures) (c .against4 .ensures)
+
+pub cuts-spec : {M : Type 1} → statement M
+cuts-spec =
+    tie.close
+    (tie.spec
+    against-requires
+    returns
+    against-requires-2
+    returns-2
+    against-requires-3
+    returns-3
+    every-service-requires
+    against-requires-4
+    returns-4)
