@@ -3,6 +3,7 @@ ghost use mathlib.Core.Path.{_≡_};
 ghost use mathlib.Core.Bool.{true};
 ghost use Rattle.learning.specs.News.{noNews};
 ghost use Rattle.learning.specs.Learnt.{withNews};
+
 pub mod lists;
 pub mod packages;
 

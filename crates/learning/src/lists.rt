@@ -232,10 +232,10 @@ fn is_held(b: &[u8], n: usize, map_room: &[u16], base: usize, known: News) -> He
             rest -= 1;
         }
     }
-    if rest == 0 {
-        return Held::With(news);
+    if 0 < rest {
+        return Held::No;
     }
-    Held::No
+    Held::With(news)
 }
 
 // Whether a list is held at place `i`, and an MPT's body gives it.
@@ -246,7 +246,13 @@ fn is_held_at(b: &[u8], i: usize, e: Extent, map_heads: &[u32; 64], map_room: &[
     if e.map_count <= i {
         return Held::No;
     }
-    is_held(b, (map_heads[i] % 65536) as usize, map_room, 512 * i, e.news)
+    is_held(
+        b,
+        (map_heads[i] % 65536) as usize,
+        map_room,
+        512 * i,
+        e.news,
+    )
 }
 
 // One list more is lost.

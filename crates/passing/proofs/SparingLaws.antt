@@ -45,6 +45,33 @@ pub record Wanted (o : Options) (n : News) : Type 0 where
   pub of-carousel : (n .carousel && not (o .carousel)) ≡ false
   pub of-plt : (n .plt && not (everyService (o .service))) ≡ false
 
+-- as the code asks, one after the other
+module _ (o : Options) (n : News) where
+  abbrev by-other : Bool
+  by-other = n .other && not (o .other)
+
+  abbrev by-caption : Bool
+  by-caption = n .caption && not (o .caption)
+
+  abbrev by-carousel : Bool
+  by-carousel = n .carousel && not (o .carousel)
+
+  pub cuts-other : by-other ≡ true → true ≡ cuts o n
+  unfolding cuts
+  cuts-other x = rw x
+
+  pub cuts-caption : by-other ≡ false → by-caption ≡ true → true ≡ cuts o n
+  unfolding cuts
+  cuts-caption x y = rw (x, y)
+
+  pub cuts-carousel : by-other ≡ false → by-caption ≡ false → by-carousel ≡ true → true ≡ cuts o n
+  unfolding cuts
+  cuts-carousel x y z = rw (x, y, z)
+
+  pub cuts-plt : by-other ≡ false → by-caption ≡ false → by-carousel ≡ false → (r : Bool) → r ≡ (n .plt && not (everyService (o .service))) → r ≡ cuts o n
+  unfolding cuts
+  cuts-plt x y z r w = rw (x, y, z) w
+
 module _ (o : Options) where
   wanted-all : (n : News) → cuts o n ≡ false → Wanted o n
   unfolding cuts

@@ -108,25 +108,6 @@ fn sent(c: Counts, bytes: usize, rewritten: usize) -> Counts
     }
 }
 
-// Narrowed, or as it is where narrowing leaves it.
-fn narrowed(
-    p: &[u8],
-    payload: &[u8],
-    s: Signal,
-    o: Options,
-    modes: Modes,
-    c: Counts,
-    out: &mut [u8],
-) -> Counts
-    requires { ⌜ (mmtpOf (now p) ≡ some (signalOf (s .id) (s .rewritable) (now payload))) × (c .bytes + length (now p) ≤ length (now out)) × (c .accepted + 1 ≤ 18446744073709551615) × (c .written + 1 ≤ 18446744073709551615) × (c .rewritten + 1 ≤ 18446744073709551615) ⌝ }
-    ensures { λ r. ⌜ Emitted false (packetFor modes o (now (p .entry)) (some (signalOf (s .id) (s .rewritable) (now (payload .entry))))) (now (p .entry)) c (now (out .entry)) r (now (out .exit)) ⌝ }
-{
-    let End::At(last) = rewrite(p, payload, s.id, s.rewritable, o, modes, out, c.bytes) else {
-        return sent(c, copy(p, out, c.bytes), 0);
-    };
-    sent(c, last, 1)
-}
-
 // Whether something stands there that is not wanted.
 fn against(there: bool, wanted: bool) -> bool
     ensures { λ r. ⌜ r ≡ (there && not wanted) ⌝ }
@@ -163,8 +144,30 @@ fn cuts(o: Options, n: News) -> bool
     against(n.plt, every_service(service))
 }
 
-// A signalling packet, after it was learned from: withheld where the set has it, else written. Nearly no table has anything to cut, and
-// learning has seen all that stands in it, so narrowing walks only those that have.
+// Narrowed, or as it is where narrowing leaves it. Nearly no table has anything to cut, and learning has seen what stands in it, so
+// narrowing is asked only where a wish is against that.
+fn narrowed(
+    p: &[u8],
+    payload: &[u8],
+    s: Signal,
+    news: News,
+    o: Options,
+    modes: Modes,
+    c: Counts,
+    out: &mut [u8],
+) -> Counts
+    requires { ⌜ (mmtpOf (now p) ≡ some (signalOf (s .id) (s .rewritable) (now payload))) × Spares o news (s .id) (now payload) × (c .bytes + length (now p) ≤ length (now out)) × (c .accepted + 1 ≤ 18446744073709551615) × (c .written + 1 ≤ 18446744073709551615) × (c .rewritten + 1 ≤ 18446744073709551615) ⌝ }
+    ensures { λ r. ⌜ Emitted false (packetFor modes o (now (p .entry)) (some (signalOf (s .id) (s .rewritable) (now (payload .entry))))) (now (p .entry)) c (now (out .entry)) r (now (out .exit)) ⌝ }
+{
+    if cuts(o, news) {
+        if let End::At(last) = rewrite(p, payload, s.id, s.rewritable, o, modes, out, c.bytes) {
+            return sent(c, last, 1);
+        }
+    }
+    sent(c, copy(p, out, c.bytes), 0)
+}
+
+// A signalling packet, after it was learned from: withheld where the set has it, else written.
 fn emit(
     p: &[u8],
     payload: &[u8],
@@ -189,10 +192,7 @@ fn emit(
             lost: c.lost,
         };
     }
-    if !cuts(o, news) {
-        return sent(c, copy(p, out, c.bytes), 0);
-    }
-    narrowed(p, payload, s, o, modes, c, out)
+    narrowed(p, payload, s, news, o, modes, c, out)
 }
 
 // Readiness after a packet; the drop set is worked out again only where something changed.

@@ -47,6 +47,8 @@ pub fn streams() -> Vec<Stream> {
     let air = || maker::air(SEED, SIZE);
     let plain_ip_air = || maker::plain_ip_air(SEED, SIZE);
     let uncut = || maker::plain_ip_uncut(SEED, ENTRIES, SIZE / 256).concat();
+    let plts = || maker::plain_ip_plts(SEED, SIZE / 256).concat();
+    let absent = only(0x0500);
     let media = |part, packet| maker::media(SEED, part, packet, SIZE);
     let fragments = |identifiers| maker::fragmented(SEED, identifiers, SIZE);
     vec![
@@ -80,6 +82,12 @@ pub fn streams() -> Vec<Stream> {
         )),
         neither("plain IP, none goes, mode off", uncut()),
         narrowed(neither("plain IP, none goes, mode on", uncut())),
+        stream("PLTs in plain IP, none goes, mode off", absent, plts()),
+        narrowed(stream(
+            "PLTs in plain IP, none goes, mode on",
+            absent,
+            plts(),
+        )),
     ]
 }
 

@@ -239,16 +239,25 @@ pub(crate) fn garbage(seed: u64, size: usize) -> Vec<u8> {
 const STAYING: [&[u8; 4]; 4] = [b"hvc1", b"mp4a", b"asgd", b"hvc1"];
 
 pub(crate) fn plain_ip_uncut(seed: u64, entries: usize, packets: usize) -> Vec<Vec<u8>> {
-    let mut stream = Stream {
-        plain_ip: true,
-        ..Stream::new(Rng::new(seed, 14), 0)
-    };
     let assets = (0..entries).map(|nth| {
         let nth = nth % STAYING.len();
         Asset::plain(STAYING[nth], asset_identifier(0, nth))
     });
     let message = Pa::of(vec![Mpt::of(assets.collect()).write()]).write();
-    let payload = messages::whole(0, &message);
-    let packet = |_| stream.packet(mpt_identifier(0), SIGNALLING, &payload);
+    plain_ip_same(seed, mpt_identifier(0), &message, packets)
+}
+
+pub(crate) fn plain_ip_plts(seed: u64, packets: usize) -> Vec<Vec<u8>> {
+    plain_ip_same(seed, 0, &plt(), packets)
+}
+
+/// So many packets in plain IPv4 with the same message.
+fn plain_ip_same(seed: u64, identifier: u16, message: &[u8], packets: usize) -> Vec<Vec<u8>> {
+    let mut stream = Stream {
+        plain_ip: true,
+        ..Stream::new(Rng::new(seed, 14), 0)
+    };
+    let payload = messages::whole(0, message);
+    let packet = |_| stream.packet(identifier, SIGNALLING, &payload);
     (0..packets).map(packet).collect()
 }

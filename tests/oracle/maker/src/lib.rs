@@ -133,6 +133,11 @@ pub fn plain_ip_uncut(seed: u64, entries: usize, packets: usize) -> Vec<Vec<u8>>
     bench::plain_ip_uncut(seed, entries, packets)
 }
 
+/// So many packets of one length in plain IPv4, each with the PLT of `air`, whose services are 0x0400 to 0x0405.
+pub fn plain_ip_plts(seed: u64, packets: usize) -> Vec<Vec<u8>> {
+    bench::plain_ip_plts(seed, packets)
+}
+
 /// A clean stream of `size` bytes (none where that is under four), most of it tables.
 pub fn dense(seed: u64, size: usize) -> Vec<u8> {
     bench::dense(seed, size)

@@ -14,8 +14,8 @@ use crate::tags::{FLOORS, Tag};
 use crate::tlv::{self, SYNC};
 use crate::{
     Case, Operation, air, calls, case, cases, cuts, dense, examples, fragmented, inputs, media,
-    narrowing, nulls, plain_case, plain_ip_air, plain_ip_calls, plain_ip_inputs, plain_ip_uncut,
-    wished_inputs,
+    narrowing, nulls, plain_case, plain_ip_air, plain_ip_calls, plain_ip_inputs, plain_ip_plts,
+    plain_ip_uncut, wished_inputs,
 };
 
 const SEEDS: u64 = 2_000;
@@ -365,7 +365,8 @@ fn plain_ip_of_benchmarks_is_right() {
         .partition(|packet| packet[1] == tlv::NULL);
     assert!(nulls.len() == 1 && all.len() > 200);
     all.into_iter().for_each(assert_usual);
-    let uncut = plain_ip_uncut(7, 8, 64);
-    assert!(uncut.len() == 64 && uncut.iter().all(|packet| packet.len() == uncut[0].len()));
-    uncut.iter().for_each(|packet| assert_usual(packet));
+    for same in [plain_ip_uncut(7, 8, 64), plain_ip_plts(7, 64)] {
+        assert!(same.len() == 64 && same.iter().all(|packet| packet.len() == same[0].len()));
+        same.iter().for_each(|packet| assert_usual(packet));
+    }
 }

@@ -1,7 +1,7 @@
 use borrow.Author.Tests.{not-true, not-false, eq-eqb, ne-eqb}
 use borrow.Author.Needs.{needs}
 use native.Mathlib.Omega.{arith}
-use mathlib.Core.Path.{refl, sym, _∙_}
+use mathlib.Core.Path.{_≡_, refl, sym, _∙_}
 use lib.ListN.{drop}
 use mathlib.Core.Option.{some}
 use Rattle.learning.specs.Learnt.{mptHeld}
@@ -128,16 +128,16 @@ loop-again-2 c =
 returns-6 : tie.Need-returns-6 Inv-loop μ-loop
 returns-6 c =
     let l = c .before .before .loop in
+    hold-end _ _ _ (l .from) (l .left) (l .at) (l .rest) (l .inv .0) (omega arith) ∙ ne-eqb (l .rest) 0 (λ (z : l .rest ≡ 0). absurd (omega arith))
+
+returns-7 : tie.Need-returns-7 Inv-loop μ-loop
+returns-7 c =
+    let l = c .before .before .loop in
     let w = c .before .before .before .wide in
     let front = c .before .before .before .before .before .before .before .front .given in (
       hold-end _ _ _ (l .from) (l .left) (l .at) (l .rest) (l .inv .0) (omega arith) ∙ eq-eqb (l .rest) 0 (omega arith),
       met-mpt _ (front .0 .0) (rw (front .1) at (c .before .before .before .before .before .before .before .before .before .mpt-front .ensures)) (omega arith) (w .result) (w .ensures .0) (w .ensures .1) _ (l .from) (l .left) (l .news) (l .inv .1) (omega arith),
     )
-
-returns-7 : tie.Need-returns-7 Inv-loop μ-loop
-returns-7 c =
-    let l = c .before .before .loop in
-    hold-end _ _ _ (l .from) (l .left) (l .at) (l .rest) (l .inv .0) (omega arith) ∙ ne-eqb (l .rest) 0 (c .if4 .left)
 
 pub is-held-spec : {M : Type 1} → statement M
 is-held-spec =

@@ -350,4 +350,8 @@ fn the_air_in_plain_ip_is_narrowed_in_the_mode() {
         let captions_alone = Options::captions_only(None);
         assert!(narrow(captions_alone, Modes::PLAIN_IP, &packet).is_some());
     }
+    for packet in maker::plain_ip_plts(7, 64) {
+        assert_eq!(narrow(only(0x0500), Modes::PLAIN_IP, &packet), None);
+        assert!(narrow(only(0x0405), Modes::PLAIN_IP, &packet).is_some());
+    }
 }
