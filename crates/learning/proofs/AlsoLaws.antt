@@ -2,7 +2,7 @@
 use mathlib.Core.Path.{_≡_, refl, sym, ap, _∙_}
 use mathlib.Core.Bool.{Bool, true, false, _||_}
 use Rattle.meaning.specs.declared.Part.{Part}
-use Rattle.learning.specs.News.{noNews, also, changeNews, kindNews}
+use Rattle.learning.specs.News.{noNews, also, changeNews, kindNews, unlistedNews}
 use Rattle.learning.specs.declared.News.{News}
 
 pub or-assoc : (a b c : Bool) → ((a || b) || c) ≡ (a || (b || c))
@@ -25,21 +25,21 @@ also-assoc a b c i = record {
   caption = or-assoc (a .caption) (b .caption) (c .caption) i;
   carousel = or-assoc (a .carousel) (b .carousel) (c .carousel) i;
   other = or-assoc (a .other) (b .other) (c .other) i;
-  plt = or-assoc (a .plt) (b .plt) (c .plt) i;
+  unlisted = or-assoc (a .unlisted) (b .unlisted) (c .unlisted) i;
 }
 
 -- that what is known changed, and nothing else
-pub also-change : (n : News) (b : Bool) → also n (changeNews b) ≡ record { changed = n .changed || b; caption = n .caption; carousel = n .carousel; other = n .other; plt = n .plt }
+pub also-change : (n : News) (b : Bool) → also n (changeNews b) ≡ record { changed = n .changed || b; caption = n .caption; carousel = n .carousel; other = n .other; unlisted = n .unlisted }
 also-change n b i = record {
   changed = n .changed || b;
   caption = sym (or-false (n .caption)) i;
   carousel = sym (or-false (n .carousel)) i;
   other = sym (or-false (n .other)) i;
-  plt = sym (or-false (n .plt)) i;
+  unlisted = sym (or-false (n .unlisted)) i;
 }
 
 abbrev changedAs : News → Bool → News
-changedAs n b = record { changed = b; caption = n .caption; carousel = n .carousel; other = n .other; plt = n .plt }
+changedAs n b = record { changed = b; caption = n .caption; carousel = n .carousel; other = n .other; unlisted = n .unlisted }
 
 pub also-none : (n : News) → n ≡ also n noNews
 also-none n = ap (changedAs n) (or-false (n .changed)) ∙ sym (also-change n false)
@@ -51,14 +51,27 @@ nowChanged n = changedAs n true
 pub also-changed : (n : News) → nowChanged n ≡ also n (changeNews true)
 also-changed n = ap (changedAs n) (or-true (n .changed)) ∙ sym (also-change n true)
 
--- ---- a kind more
+-- what stands there is met before a change is told
+pub met-changed : (n m : News) → nowChanged (also n m) ≡ also n (also (changeNews true) m)
+met-changed n m i = record {
+  changed = or-true (n .changed) i;
+  caption = n .caption || m .caption;
+  carousel = n .carousel || m .carousel;
+  other = n .other || m .other;
+  unlisted = n .unlisted || m .unlisted;
+}
+
+-- ---- one thing more that stands there
 
 module _ (n : News) where
-  pub also-caption : record { changed = n .changed; caption = true; carousel = n .carousel; other = n .other; plt = n .plt } ≡ also n (kindNews Part.Caption)
-  also-caption i = record { changed = or-false (n .changed) i; caption = or-true (n .caption) i; carousel = or-false (n .carousel) i; other = or-false (n .other) i; plt = or-false (n .plt) i }
+  pub also-caption : record { changed = n .changed; caption = true; carousel = n .carousel; other = n .other; unlisted = n .unlisted } ≡ also n (kindNews Part.Caption)
+  also-caption i = record { changed = or-false (n .changed) i; caption = or-true (n .caption) i; carousel = or-false (n .carousel) i; other = or-false (n .other) i; unlisted = or-false (n .unlisted) i }
 
-  pub also-carousel : record { changed = n .changed; caption = n .caption; carousel = true; other = n .other; plt = n .plt } ≡ also n (kindNews Part.Carousel)
-  also-carousel i = record { changed = or-false (n .changed) i; caption = or-false (n .caption) i; carousel = or-true (n .carousel) i; other = or-false (n .other) i; plt = or-false (n .plt) i }
+  pub also-carousel : record { changed = n .changed; caption = n .caption; carousel = true; other = n .other; unlisted = n .unlisted } ≡ also n (kindNews Part.Carousel)
+  also-carousel i = record { changed = or-false (n .changed) i; caption = or-false (n .caption) i; carousel = or-true (n .carousel) i; other = or-false (n .other) i; unlisted = or-false (n .unlisted) i }
 
-  pub also-other : record { changed = n .changed; caption = n .caption; carousel = n .carousel; other = true; plt = n .plt } ≡ also n (kindNews Part.Other)
-  also-other i = record { changed = or-false (n .changed) i; caption = or-false (n .caption) i; carousel = or-false (n .carousel) i; other = or-true (n .other) i; plt = or-false (n .plt) i }
+  pub also-other : record { changed = n .changed; caption = n .caption; carousel = n .carousel; other = true; unlisted = n .unlisted } ≡ also n (kindNews Part.Other)
+  also-other i = record { changed = or-false (n .changed) i; caption = or-false (n .caption) i; carousel = or-false (n .carousel) i; other = or-true (n .other) i; unlisted = or-false (n .unlisted) i }
+
+  pub also-unlisted : record { changed = n .changed; caption = n .caption; carousel = n .carousel; other = n .other; unlisted = true } ≡ also n (unlistedNews true)
+  also-unlisted i = record { changed = or-false (n .changed) i; caption = or-false (n .caption) i; carousel = or-false (n .carousel) i; other = or-false (n .other) i; unlisted = or-true (n .unlisted) i }

@@ -31,7 +31,7 @@ use Rattle.learning.specs.Kept.{pairsIn, KeptMaps}
 use Rattle.learning.specs.declared.Extent.{Extent}
 use Rattle.learning.specs.declared.News.{News}
 use Rattle.learning.specs.declared.lists.Assets.{Assets}
-use Rattle.learning.proofs.AlsoLaws.{or-true, nowChanged}
+use Rattle.learning.proofs.AlsoLaws.{nowChanged, met-changed}
 use Rattle.learning.proofs.KindLaws.{metAll, Met, met-end, met-these}
 use Rattle.learning.proofs.PairLaws.{pairs-in}
 use Rattle.learning.proofs.MapPairLaws.{maps-after}
@@ -175,16 +175,6 @@ module _ (b : Bytes) where
 -- an extent with another count of maps, and other news
 abbrev after : Extent → ℕ → News → Extent
 after e m n = record { seen = e .seen; «package_count» = e .«package_count»; «map_count» = m; «fragment_count» = e .«fragment_count»; lost = e .lost; news = n }
-
--- the kinds are met before the change is told
-met-changed : (n kinds : News) → nowChanged (also n kinds) ≡ also n (also (changeNews true) kinds)
-met-changed n kinds i = record {
-  changed = or-true (n .changed) i;
-  caption = n .caption || kinds .caption;
-  carousel = n .carousel || kinds .carousel;
-  other = n .other || kinds .other;
-  plt = n .plt || kinds .plt;
-}
 
 -- written there
 kept-list : (p : ℕ) (es : List Entry) (fresh : List ℕ) (e : Extent) (map-heads map-room : List ℕ) (ms : List (ℕ × ℕ)) → length es < 256 → placeFor p ms < 64 → KeptMaps ms (e .«map_count») map-heads

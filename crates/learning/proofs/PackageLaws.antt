@@ -20,18 +20,18 @@ use Rattle.meaning.specs.Record.{slots, packPair, pairOf}
 use Rattle.meaning.proofs.Reading.{u8-none, many-none, many-next, behind, behind-nothing, behind-one}
 use Rattle.octets.proofs.ByteLaws.{u8-at}
 use Rattle.tables.specs.Answers.{nameOf, carrierOf, PackageIs}
-use Rattle.tables.specs.declared.fields.End.{End}
 use Rattle.tables.specs.declared.locations.Carrier.{Carrier}
 use Rattle.tables.specs.declared.packages.Named.{Named}
 use Rattle.tables.specs.declared.packages.Package as read
 use Rattle.meaning.proofs.ListLaws.{clash, and-both, and-true, or-right}
 use Rattle.meaning.proofs.SoundnessKept.{plt-holds}
 use Rattle.learning.specs.Kept.{pairsIn, Pairs, KeptPackages}
-use Rattle.learning.specs.News.{also, changeNews, sameNumbers, samePairs}
-use Rattle.learning.specs.Learnt.{before, taken, PackagesAre, PltLearnt}
+use Rattle.learning.specs.News.{also, changeNews, unlistedNews, isUnlisted, unlisted, listsService, pltNews, sameNumbers, samePairs}
+use Rattle.learning.specs.Learnt.{withNews, before, taken, unlistedAs, PackagesAre, PltLearnt}
 use Rattle.learning.specs.declared.Extent.{Extent}
 use Rattle.learning.specs.declared.News.{News}
-use Rattle.learning.proofs.AlsoLaws.{also-none, nowChanged, also-changed}
+use Rattle.learning.specs.declared.packages.Services.{Services}
+use Rattle.learning.proofs.AlsoLaws.{or-assoc, or-false, nowChanged, met-changed}
 use Rattle.learning.proofs.PairLaws.{same-refl, same-true, pairs-refl, pairs-true, pairs-as, pairs-in, first-in, in-length, first-at, pairs-put, pairs-insert}
 
 -- ---- the slot of a service, searched from the front
@@ -156,33 +156,50 @@ pub plt-none : (b : Bytes) → length b ≡ 0 → plt b ≡ none
 unfolding plt
 plt-none b h = rw (u8-none b 0 (omega arith))
 
--- Of the packages of b, `pre` were read, up to `from`, and `left` are left; those with a service and an identifier are n.
-pub record Sofar (b : Bytes) (left from n : ℕ) (xs : List ℕ) : Type 0 where
+-- one more of which may be unlisted
+unlisted-is : (s q : Option ℕ) → unlistedAs (nameOf s) (carrierOf q) ≡ isUnlisted s q
+unlisted-is none q = refl
+unlisted-is (some s) none = refl
+unlisted-is (some s) (some p) = refl
+
+unlisted-more : (pre : List Package) (x : Package) → unlisted (pre ++ x ∷ []) ≡ (unlisted pre || isUnlisted (serviceOf (x .name)) (x .carrier))
+unfolding unlisted
+unlisted-more [] x = sym (or-false (isUnlisted (serviceOf (x .name)) (x .carrier)))
+unlisted-more (y ∷ pre) x =
+    ap (λ (b : Bool). isUnlisted (serviceOf (y .name)) (y .carrier) || b) (unlisted-more pre x)
+    ∙ sym (or-assoc (isUnlisted (serviceOf (y .name)) (y .carrier)) (unlisted pre) (isUnlisted (serviceOf (x .name)) (x .carrier)))
+
+-- Of the packages of b, `pre` were read, up to `from`, and `left` are left; those with a service and an identifier are n, and `apart`
+-- tells whether one has a service alone.
+pub record Sofar (b : Bytes) (left from n : ℕ) (xs : List ℕ) (apart : Bool) : Type 0 where
   pub pre : List Package
   pub reads : plt b ≡ behind pre (many left packageEntry (drop from b))
   pub pairs : Pairs 255 (packagesIn pre []) n xs
   pub few : n + left ≤ 255
+  pub told : apart ≡ unlisted pre
 
 module _ (b : Bytes) where
-  pub start : (count : ℕ) (xs : List ℕ) → 0 < length b → count ≡ getD b 0 0 → count < 256 → Pairs 255 [] 0 xs → Sofar b count 1 0 xs
-  unfolding plt packagesIn
+  pub start : (count : ℕ) (xs : List ℕ) → 0 < length b → count ≡ getD b 0 0 → count < 256 → Pairs 255 [] 0 xs → Sofar b count 1 0 xs false
+  unfolding plt packagesIn unlisted
   start count xs h q l k =
       record {
         pre = [];
         reads = rw (u8-at b 0 1 h (omega arith) refl, q) (behind-nothing (many (getD b 0 0) packageEntry (drop 1 b)));
         pairs = k;
         few = omega arith;
+        told = refl;
       }
 
-  module _ (left from n : ℕ) (xs : List ℕ) (i : Sofar b left from n xs) where
+  module _ (left from n : ℕ) (xs : List ℕ) (apart : Bool) (i : Sofar b left from n xs apart) where
     -- one that cannot be read
     pub broken : 0 < left → packageEntry (drop from b) ≡ none → plt b ≡ none
     broken h e = rw (i .reads, many-none packageEntry (drop from b) left h e)
 
     -- one more
     pub turn : (e : ℕ) (name : Named) (c : Carrier) → 0 < left → PackageIs b from (read.Package.Entry e name c) → (m : ℕ) (ys : List ℕ)
-        → ((ps : List (ℕ × ℕ)) → Pairs 255 ps n xs → Pairs 255 (taken name c ps) m ys) → m ≤ n + 1 → Sofar b (left - 1) e m ys
-    turn e name c h p m ys k l =
+        → ((ps : List (ℕ × ℕ)) → Pairs 255 ps n xs → Pairs 255 (taken name c ps) m ys) → m ≤ n + 1
+        → (r : Bool) → r ≡ (apart || unlistedAs name c) → Sofar b (left - 1) e m ys r
+    turn e name c h p m ys k l r q =
         let row : Package = record { name = p .2 .0; carrier = p .2 .1; bytes-of = take (e - from) (drop from b) } in
         let ps = packagesIn (i .pre) [] in
         record {
@@ -192,12 +209,13 @@ module _ (b : Bytes) where
               pairs-as (k ps (i .pairs))
               (ap₂ (λ (a : Named) (q : Carrier). taken a q ps) (p .2 .3) (p .2 .4) ∙ taken-is (serviceOf (p .2 .0)) (p .2 .1) ps ∙ sym (packages-more (i .pre) row [])) refl refl;
           few = omega (arith, i .few);
+          told = q ∙ ap₂ (λ (a : Bool) (x : Bool). a || x) (i .told) (ap₂ unlistedAs (p .2 .3) (p .2 .4) ∙ unlisted-is (serviceOf (p .2 .0)) (p .2 .1)) ∙ sym (unlisted-more (i .pre) row);
         }
 
     -- none left
-    pub all-read : left ≡ 0 → PackagesAre (plt b) (End.At n) xs
+    pub all-read : left ≡ 0 → PackagesAre (plt b) (Services.Read n apart) xs
     unfolding many
-    all-read z = (i .pre, drop from b, rw (i .reads, z, append-nil (i .pre)), i .pairs)
+    all-read z = (i .pre, drop from b, rw (i .reads, z, append-nil (i .pre)), i .pairs, i .told)
 
 -- ---- what a PLT makes of what is known
 
@@ -210,15 +228,24 @@ module _ (b : Bytes) (e : Extent) (ps : List (ℕ × ℕ)) (xs : List ℕ) (k : 
   pub plt-unread : plt b ≡ none → PltLearnt (plt b) ps e e xs
   plt-unread h = rw h (refl, k)
 
-  module _ (n : ℕ) (fresh : List ℕ) (r : PackagesAre (plt b) (End.At n) fresh) where
+  module _ (n : ℕ) (apart : Bool) (fresh : List ℕ) (r : PackagesAre (plt b) (Services.Read n apart) fresh) where
+    -- what is new but for a change
+    abbrev met : News
+    met = also (e .news) (unlistedNews apart)
+
     abbrev known : Bool
     known = e .seen && (eqb (e .«package_count») n && sameNumbers (take n fresh) (take n xs))
 
     abbrev found : List (ℕ × ℕ)
     found = packagesIn (r .0) []
 
+    -- what is new, by whether the packages are
+    news-are : (new : Bool) (m : News) → not (e .seen && samePairs ps found) ≡ new → m ≡ also (e .news) (also (changeNews new) (unlistedNews apart))
+        → m ≡ also (e .news) (pltNews (some (r .0, r .1)) (e .seen) ps)
+    news-are new m q h = h ∙ ap₂ (λ (a b : Bool). also (e .news) (also (changeNews a) (unlistedNews b))) (sym q) (r .4)
+
     -- they are known
-    pub plt-known : known ≡ true → PltLearnt (plt b) ps e e xs
+    pub plt-known : known ≡ true → PltLearnt (plt b) ps e (withNews e met) xs
     plt-known h =
         let u = and-both (e .seen) (eqb (e .«package_count») n && sameNumbers (take n fresh) (take n xs)) h in
         let v = and-both (eqb (e .«package_count») n) (sameNumbers (take n fresh) (take n xs)) (u .1) in
@@ -227,7 +254,7 @@ module _ (b : Bytes) (e : Extent) (ps : List (ℕ × ℕ)) (xs : List ℕ) (k : 
         sym (pairs-in (k .pairs)) ∙ ap (λ (m : ℕ). pairsIn m xs) count ∙ ap (map pairOf) (sym (same-true (take n fresh) (take n xs) (v .1))) ∙ pairs-in (r .3) in
         let kept : KeptPackages found (e .«package_count») xs = rw same at k in
         let old : not (e .seen && samePairs ps found) ≡ false = rw (u .0, same, pairs-refl found) in
-        rw (r .2) (kept, extent-is e true (length found) _ (u .0) (kept .pairs .count) (also-none (e .news) ∙ ap (λ (a : Bool). also (e .news) (changeNews a)) (sym old)))
+        rw (r .2) (kept, extent-is (withNews e met) true (length found) _ (u .0) (kept .pairs .count) (news-are false met old refl))
 
     -- the same packages would be known
     new : known ≡ false → (e .seen && samePairs ps found) ≡ false
@@ -245,11 +272,27 @@ module _ (b : Bytes) (e : Extent) (ps : List (ℕ × ℕ)) (xs : List ℕ) (k : 
             clash (cc (z, h))
 
     -- they are not
-    pub plt-new : known ≡ false → PltLearnt (plt b) ps e (record { seen = true; «package_count» = n; «map_count» = e .«map_count»; «fragment_count» = e .«fragment_count»; lost = e .lost; news = nowChanged (e .news) }) fresh
+    pub plt-new : known ≡ false → PltLearnt (plt b) ps e (record { seen = true; «package_count» = n; «map_count» = e .«map_count»; «fragment_count» = e .«fragment_count»; lost = e .lost; news = nowChanged met }) fresh
     plt-new h =
         let told : not (e .seen && samePairs ps found) ≡ true = rw (new h) in
         rw (r .2) (
           record { pairs = r .3; hold = plt-holds b (r .0) (r .1) (r .2) },
-          extent-is (record { seen = true; «package_count» = n; «map_count» = e .«map_count»; «fragment_count» = e .«fragment_count»; lost = e .lost; news = nowChanged (e .news) }) true (length found)
-              _ refl (r .3 .count) (also-changed (e .news) ∙ ap (λ (a : Bool). also (e .news) (changeNews a)) (sym told)),
+          extent-is (record { seen = true; «package_count» = n; «map_count» = e .«map_count»; «fragment_count» = e .«fragment_count»; lost = e .lost; news = nowChanged met }) true (length found)
+              _ refl (r .3 .count) (news-are true (nowChanged met) told (met-changed (e .news) (unlistedNews apart))),
         )
+
+-- ---- a service among the packages
+
+module _ (s n : ℕ) (xs : List ℕ) (i : ℕ) (h : i < n) (l : i < length xs) where
+  one-more : listsService s (pairsIn (n - i) (drop i xs)) ≡ (eqb (getD xs i 0 / 65536) s || listsService s (pairsIn (n - (i + 1)) (drop (i + 1) xs)))
+  unfolding listsService pairOf
+  one-more =
+      let m : n - i ≡ suc (n - (i + 1)) = omega arith in
+      let d : drop i xs ≡ getD xs i 0 ∷ drop (i + 1) xs = rw (add-one i) (drop-cons xs i 0 l) in
+      ap₂ (λ (c : ℕ) (ys : List ℕ). listsService s (pairsIn c ys)) m d
+
+  pub lists-here : getD xs i 0 / 65536 ≡ s → listsService s (pairsIn (n - i) (drop i xs)) ≡ true
+  lists-here e = one-more ∙ rw (eq-eqb (getD xs i 0 / 65536) s e)
+
+  pub lists-next : (getD xs i 0 / 65536 ≡ s → ⊥) → listsService s (pairsIn (n - i) (drop i xs)) ≡ listsService s (pairsIn (n - (i + 1)) (drop (i + 1) xs))
+  lists-next e = one-more ∙ rw (ne-eqb (getD xs i 0 / 65536) s e)

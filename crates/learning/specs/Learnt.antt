@@ -11,15 +11,15 @@ use Rattle.meaning.specs.Readers.{Out}
 use Rattle.meaning.specs.Tables.{Entry, Mpt, Package, kindNumber}
 use Rattle.meaning.specs.Learn.{assetNumbers, over, placeFor, listed, insertPackage, packagesIn}
 use Rattle.meaning.specs.declared.Part.{Part}
-use Rattle.tables.specs.declared.fields.End.{End}
 use Rattle.tables.specs.declared.locations.Carrier.{Carrier}
 use Rattle.tables.specs.declared.packages.Named.{Named}
 use Rattle.learning.specs.Kept.{Pairs, KeptPackages, KeptMaps}
-use Rattle.learning.specs.News.{also, changeNews, kindsIn, sameList, packagesNew, listNews}
+use Rattle.learning.specs.News.{also, kindsIn, unlisted, pltNews, sameList, listNews}
 use Rattle.learning.specs.declared.Extent.{Extent}
 use Rattle.learning.specs.declared.News.{News}
 use Rattle.learning.specs.declared.lists.Assets.{Assets}
 use Rattle.learning.specs.declared.lists.Held.{Held}
+use Rattle.learning.specs.declared.packages.Services.{Services}
 
 abbrev pub withNews : Extent → News → Extent
 withNews e n = record { seen = e .seen; «package_count» = e .«package_count»; «map_count» = e .«map_count»; «fragment_count» = e .«fragment_count»; lost = e .lost; news = n }
@@ -37,10 +37,17 @@ taken Named.Other c ps = ps
 taken (Named.Service s) Carrier.Nowhere ps = ps
 taken (Named.Service s) (Carrier.By p) ps = insertPackage s p ps
 
--- The packages of a PLT's body that have a service and an identifier, in an array of their own.
-abbrev pub PackagesAre : Out (List Package) → End → List ℕ → Type 0
-PackagesAre o (End.At n) xs = (ys : List Package) × (more : Bytes) × (o ≡ some (ys, more)) × Pairs 255 (packagesIn ys []) n xs
-PackagesAre o End.Nothing xs = o ≡ none
+-- One that has a service alone.
+abbrev pub unlistedAs : Named → Carrier → Bool
+unlistedAs Named.Other c = false
+unlistedAs (Named.Service s) Carrier.Nowhere = true
+unlistedAs (Named.Service s) (Carrier.By p) = false
+
+-- The packages of a PLT's body that have a service and an identifier, in an array of their own, and whether one has a service alone.
+abbrev pub PackagesAre : Out (List Package) → Services → List ℕ → Type 0
+PackagesAre o (Services.Read n apart) xs =
+    (ys : List Package) × (more : Bytes) × (o ≡ some (ys, more)) × Pairs 255 (packagesIn ys []) n xs × (apart ≡ unlisted ys)
+PackagesAre o Services.Nothing xs = o ≡ none
 
 -- What a PLT makes of the extent and of the packages.
 abbrev pub PltLearnt : Out (List Package) → List (ℕ × ℕ) → Extent → Extent → List ℕ → Type 0
@@ -53,7 +60,7 @@ PltLearnt (some (ys, more)) ps e r xs =
       «map_count» = e .«map_count»;
       «fragment_count» = e .«fragment_count»;
       lost = e .lost;
-      news = also (e .news) (changeNews (packagesNew (some (ys, more)) (e .seen) ps));
+      news = also (e .news) (pltNews (some (ys, more)) (e .seen) ps);
     })
 
 -- ---- an MPT
@@ -94,7 +101,7 @@ pub record HeadsAre (i p n : ℕ) (fresh : List ℕ) (e : Extent) (map-heads map
     «map_count» = max (e .«map_count») (i + 1);
     «fragment_count» = e .«fragment_count»;
     lost = e .lost;
-    news = record { changed = true; caption = e .news .caption; carousel = e .news .carousel; other = e .news .other; plt = e .news .plt };
+    news = record { changed = true; caption = e .news .caption; carousel = e .news .carousel; other = e .news .other; unlisted = e .news .unlisted };
   }
 
 abbrev pub lostOne : Extent → Extent

@@ -6,7 +6,7 @@ use mathlib.Core.Option.{Option, none, some}
 use lib.ListN.{length, take, drop}
 use lib.Dec.{ltb, eqb}
 use Rattle.meaning.specs.Readers.{Out}
-use Rattle.meaning.specs.Tables.{Entry, Package}
+use Rattle.meaning.specs.Tables.{Entry, Package, serviceOf}
 use Rattle.meaning.specs.Learn.{Listed, assetNumbers, placeFor, listed, packagesIn}
 use Rattle.meaning.specs.declared.Part.{Part}
 use Rattle.learning.specs.declared.News.{News}
@@ -14,7 +14,7 @@ use Rattle.learning.specs.declared.News.{News}
 -- ---- one news after the other
 
 abbrev pub noNews : News
-noNews = record { changed = false; caption = false; carousel = false; other = false; plt = false }
+noNews = record { changed = false; caption = false; carousel = false; other = false; unlisted = false }
 
 abbrev pub also : News → News → News
 also a b = record {
@@ -22,23 +22,43 @@ also a b = record {
   caption = a .caption || b .caption;
   carousel = a .carousel || b .carousel;
   other = a .other || b .other;
-  plt = a .plt || b .plt;
+  unlisted = a .unlisted || b .unlisted;
 }
 
 -- Whether what is known changed.
 abbrev pub changeNews : Bool → News
-changeNews b = record { changed = b; caption = false; carousel = false; other = false; plt = false }
+changeNews b = record { changed = b; caption = false; carousel = false; other = false; unlisted = false }
 
 -- An asset of this kind stands there.
 abbrev pub kindNews : Part → News
-kindNews Part.Caption = record { changed = false; caption = true; carousel = false; other = false; plt = false }
-kindNews Part.Carousel = record { changed = false; caption = false; carousel = true; other = false; plt = false }
-kindNews Part.Other = record { changed = false; caption = false; carousel = false; other = true; plt = false }
+kindNews Part.Caption = record { changed = false; caption = true; carousel = false; other = false; unlisted = false }
+kindNews Part.Carousel = record { changed = false; caption = false; carousel = true; other = false; unlisted = false }
+kindNews Part.Other = record { changed = false; caption = false; carousel = false; other = true; unlisted = false }
+
+-- A service with no type 0 location, which is not listed, stands there.
+abbrev pub unlistedNews : Bool → News
+unlistedNews b = record { changed = false; caption = false; carousel = false; other = false; unlisted = b }
 
 -- The kinds of these entries stand there, whether they have an identifier or not.
 unfoldable pub kindsIn : List Entry → News
 kindsIn [] = noNews
 kindsIn (e ∷ es) = also (kindNews (e .part)) (kindsIn es)
+
+-- ---- the services of a PLT
+
+abbrev pub isUnlisted : Option ℕ → Option ℕ → Bool
+isUnlisted none c = false
+isUnlisted (some s) none = true
+isUnlisted (some s) (some p) = false
+
+unfoldable pub unlisted : List Package → Bool
+unfolding serviceOf
+unlisted [] = false
+unlisted (x ∷ xs) = isUnlisted (serviceOf (x .name)) (x .carrier) || unlisted xs
+
+unfoldable pub listsService : ℕ → List (ℕ × ℕ) → Bool
+listsService s [] = false
+listsService s (p ∷ ps) = eqb (p .0) s || listsService s ps
 
 -- ---- what is new
 
@@ -58,6 +78,11 @@ samePairs (a ∷ as′) (b ∷ bs) = (eqb (a .0) (b .0) && eqb (a .1) (b .1)) &&
 abbrev pub packagesNew : Out (List Package) → Bool → List (ℕ × ℕ) → Bool
 packagesNew none seen ps = false
 packagesNew (some (xs, more)) seen ps = not (seen && samePairs ps (packagesIn xs []))
+
+-- What a PLT brings.
+abbrev pub pltNews : Out (List Package) → Bool → List (ℕ × ℕ) → News
+pltNews none seen ps = noNews
+pltNews (some (xs, more)) seen ps = also (changeNews (packagesNew (some (xs, more)) seen ps)) (unlistedNews (unlisted xs))
 
 -- The count of the list at a place, and the first numbers there.
 unfoldable pub countAt : ℕ → List (ℕ × ℕ) → Option ℕ

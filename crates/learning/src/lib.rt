@@ -7,14 +7,14 @@ ghost use Rattle.learning.specs.Learnt.{withNews};
 pub mod lists;
 pub mod packages;
 
-// What a payload brings: whether what is known changed, and what stands in its tables: assets of each kind, and a PLT on identifier 0.
-// Where no wish is against what stands there, narrowing has nothing to do.
+// What a payload brings: whether what is known changed, and what stands in its tables: assets of each kind, and, in a PLT on identifier 0,
+// services that are not listed among the packages. Where no wish is against what stands there, narrowing has nothing to do.
 pub struct News {
     pub changed: bool,
     pub caption: bool,
     pub carousel: bool,
     pub other: bool,
-    pub plt: bool,
+    pub unlisted: bool,
 }
 
 // How much is known: how many packages, maps and fragments there are, and whether a PLT was seen. How many maps were lost on the way, and
@@ -36,20 +36,20 @@ pub fn no_news() -> News
         caption: false,
         carousel: false,
         other: false,
-        plt: false,
+        unlisted: false,
     }
 }
 
 // What is new, and that what is known changed.
 pub fn changed(n: News) -> News
-    ensures { λ r. ⌜ r ≡ record { changed = true; caption = n .caption; carousel = n .carousel; other = n .other; plt = n .plt } ⌝ }
+    ensures { λ r. ⌜ r ≡ record { changed = true; caption = n .caption; carousel = n .carousel; other = n .other; unlisted = n .unlisted } ⌝ }
 {
     News {
         changed: true,
         caption: n.caption,
         carousel: n.carousel,
         other: n.other,
-        plt: n.plt,
+        unlisted: n.unlisted,
     }
 }
 

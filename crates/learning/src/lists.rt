@@ -72,21 +72,21 @@ fn with_kind(n: News, part: Part) -> News
             caption: true,
             carousel: n.carousel,
             other: n.other,
-            plt: n.plt,
+            unlisted: n.unlisted,
         },
         Part::Carousel => News {
             changed: n.changed,
             caption: n.caption,
             carousel: true,
             other: n.other,
-            plt: n.plt,
+            unlisted: n.unlisted,
         },
         Part::Other => News {
             changed: n.changed,
             caption: n.caption,
             carousel: n.carousel,
             other: true,
-            plt: n.plt,
+            unlisted: n.unlisted,
         },
     }
 }

@@ -1,19 +1,20 @@
 // The packages of a PLT: service and identifier in one number, services rising, a repeated service's last.
 ghost use mathlib.Core.Path.{_≡_};
 ghost use Prim.Native.Nat.{ℕ, _+_, _-_, _*_, _/_, _%_, _≤_, _<_};
-ghost use mathlib.Core.Bool.{_&&_};
+ghost use mathlib.Core.Bool.{_&&_, _||_};
 ghost use lib.Dec.{eqb};
 ghost use mathlib.Core.List.{List, [], _++_};
 ghost use lib.ListN.{length, take, drop};
 ghost use Rattle.meaning.specs.Tables.{plt};
 ghost use Rattle.meaning.specs.Learn.{insertPackage};
 ghost use Rattle.learning.specs.Kept.{pairsIn, Pairs, KeptPackages};
-ghost use Rattle.learning.specs.News.{sameNumbers};
-ghost use Rattle.learning.specs.Learnt.{before, taken, PackagesAre, PltLearnt};
+ghost use Rattle.learning.specs.News.{also, unlistedNews, listsService, sameNumbers};
+ghost use Rattle.learning.specs.Learnt.{before, taken, unlistedAs, PackagesAre, PltLearnt};
 use crate::Extent;
+use crate::News;
 use crate::changed;
+use crate::with_news;
 use octets::wide;
-use tables::fields::End;
 use tables::locations::Carrier;
 use tables::packages::Named;
 use tables::packages::Package;
@@ -84,26 +85,50 @@ fn take_package(fresh: &mut [u32; 255], n: usize, name: Named, carrier: Carrier)
     add_package(fresh, n, packed(service, id))
 }
 
+// Whether there was a service with no type 0 location, or this is one: it is not listed.
+fn unlisted_so_far(before: bool, name: Named, carrier: Carrier) -> bool
+    ensures { λ r. ⌜ r ≡ (before || unlistedAs name carrier) ⌝ }
+{
+    if before {
+        return true;
+    }
+    let Named::Service(_) = name else {
+        return false;
+    };
+    match carrier {
+        Carrier::By(_) => false,
+        Carrier::Nowhere => true,
+    }
+}
+
+// The packages of a PLT's body: how many are listed, and whether a service is not.
+pub enum Services {
+    Read(usize, bool),
+    Nothing,
+}
+
 // The packages of a PLT's body, in an array of zeros.
-fn packages_of(b: &[u8], fresh: &mut [u32; 255]) -> End
+fn packages_of(b: &[u8], fresh: &mut [u32; 255]) -> Services
     requires { ⌜ Pairs 255 [] 0 (now fresh) ⌝ }
     ensures { λ r. ⌜ PackagesAre (plt (now (b .entry))) r (now (fresh .exit)) ⌝ }
 {
     if b.len() == 0 {
-        return End::Nothing;
+        return Services::Nothing;
     }
     let mut left = wide(b[0]);
     let mut from: usize = 1;
     let mut n: usize = 0;
+    let mut unlisted = false;
     while 0 < left {
         let Package::Entry { end, name, carrier } = package_at(b, from) else {
-            return End::Nothing;
+            return Services::Nothing;
         };
         from = end;
         left -= 1;
+        unlisted = unlisted_so_far(unlisted, name, carrier);
         n = take_package(fresh, n, name, carrier);
     }
-    End::At(n)
+    Services::Read(n, unlisted)
 }
 
 // Whether the first `n` of both are the same.
@@ -135,25 +160,58 @@ fn is_known(e: Extent, n: usize, fresh: &[u32; 255], packages: &[u32; 255]) -> b
     same_packages(fresh, packages, n)
 }
 
+// What is new, and whether a service stands there that is not listed.
+fn with_unlisted(n: News, there: bool) -> News
+    ensures { λ r. ⌜ r ≡ also n (unlistedNews there) ⌝ }
+{
+    if !there {
+        return n;
+    }
+    News {
+        changed: n.changed,
+        caption: n.caption,
+        carousel: n.carousel,
+        other: n.other,
+        unlisted: true,
+    }
+}
+
 // A PLT's body: all its packages, if it can be read.
 pub fn plt(b: &[u8], e: Extent, packages: &mut [u32; 255]) -> Extent
     requires { ⌜ ((ps : List (ℕ × ℕ)) × KeptPackages ps (e .«package_count») (now packages)) ⌝ }
     ensures { λ r. ⌜ ((ps : List (ℕ × ℕ)) → KeptPackages ps (e .«package_count») (now (packages .entry)) → PltLearnt (plt (now (b .entry))) ps e r (now (packages .exit))) ⌝ }
 {
     let mut fresh = [0u32; 255];
-    let End::At(n) = packages_of(b, &mut fresh) else {
+    let Services::Read(n, unlisted) = packages_of(b, &mut fresh) else {
         return e;
     };
-    if is_known(e, n, &fresh, packages) {
-        return e;
+    let known = with_news(e, with_unlisted(e.news, unlisted));
+    if is_known(known, n, &fresh, packages) {
+        return known;
     }
     *packages = fresh;
     Extent {
         seen: true,
         package_count: n,
-        map_count: e.map_count,
-        fragment_count: e.fragment_count,
-        lost: e.lost,
-        news: changed(e.news),
+        map_count: known.map_count,
+        fragment_count: known.fragment_count,
+        lost: known.lost,
+        news: changed(known.news),
     }
+}
+
+// Whether one of the first `n` packages is of the service.
+pub fn lists_service(packages: &[u32; 255], n: usize, service: u16) -> bool
+    requires { ⌜ (n ≤ 255) × (length (now packages) ≡ 255) ⌝ }
+    ensures { λ r. ⌜ r ≡ listsService service (pairsIn n (now (packages .entry))) ⌝ }
+{
+    let s = service as u32;
+    let mut i: usize = 0;
+    while i < n {
+        if packages[i] / 65536 == s {
+            return true;
+        }
+        i += 1;
+    }
+    false
 }

@@ -21,11 +21,11 @@ use Rattle.meaning.specs.declared.Options.{Options}
 use Rattle.meaning.specs.declared.Service.{Service}
 use Rattle.meaning.proofs.SetLaws.{insert-there}
 use Rattle.meaning.proofs.ListLaws.{and-both, or-neither}
-use Rattle.learning.specs.News.{noNews, also, changeNews, kindsIn, samePairs, packagesNew, countAt, sameList, listNew}
+use Rattle.learning.specs.News.{noNews, changeNews, kindsIn, samePairs, pltNews, countAt, sameList, listNew}
 use Rattle.learning.specs.declared.News.{News}
 use Rattle.learning.proofs.PairLaws.{pairs-true}
 use Rattle.learning.proofs.HeldLaws.{list-there}
-use Rattle.observing.specs.News.{mptNew, pltNews, newsTable, newsMessage, newsMessages, newsTables, newsLast, newsBy, anything, news}
+use Rattle.observing.specs.News.{mptNew, newsTable, newsMessage, newsMessages, newsTables, newsLast, newsBy, anything, news}
 use Rattle.observing.proofs.FoldLaws.{Folds}
 use Rattle.observing.proofs.TableSteps.{tables-fold}
 
@@ -61,17 +61,17 @@ mpt-still : (p : ℕ) (x : Out Mpt) (k : Known) → mptNew p x (k .map-heads) (k
 mpt-still p none k e = refl
 mpt-still p (some (m, more)) k e = list-still p (listed (m .entries)) k (or-neither (listNew p (listed (m .entries)) (k .map-heads) (k .map-room)) (kindsIn (m .entries) .changed) e .0)
 
-plt-still : (x : Out (List Package)) (k : Known) → packagesNew x (k .plt-seen) (k .packages) ≡ false → pltFrom x k ≡ k
+pub plt-still : (x : Out (List Package)) (k : Known) → pltNews x (k .plt-seen) (k .packages) .changed ≡ false → pltFrom x k ≡ k
 plt-still none k e = refl
 plt-still (some (xs, more)) k e =
-    let b = and-both (k .plt-seen) (samePairs (k .packages) (packagesIn xs [])) (not-false _ e) in
+    let b = and-both (k .plt-seen) (samePairs (k .packages) (packagesIn xs [])) (not-false _ (or-neither _ false e .0)) in
     known-same k (sym (b .0)) (sym (pairs-true (k .packages) (packagesIn xs []) (b .1))) refl refl refl
 
-table-still : (p : ℕ) (t : Table) (k : Known) → newsTable p t k .changed ≡ false → learnTable p t k .known ≡ k
+pub table-still : (p : ℕ) (t : Table) (k : Known) → newsTable p t k .changed ≡ false → learnTable p t k .known ≡ k
 unfolding newsTable learnTable learnPlt learnMpt
 table-still p t k e = go (isPlt (t .number) && eqb p 0) (isMpt (t .number)) e
   where
-    go : (a b : Bool) → cond a (also pltNews (changeNews (packagesNew (plt (t .body)) (k .plt-seen) (k .packages)))) (cond b (mptNew p (mpt (t .body)) (k .map-heads) (k .map-room)) noNews) .changed ≡ false
+    go : (a b : Bool) → cond a (pltNews (plt (t .body)) (k .plt-seen) (k .packages)) (cond b (mptNew p (mpt (t .body)) (k .map-heads) (k .map-room)) noNews) .changed ≡ false
         → cond a (learnt (pltFrom (plt (t .body)) k)) (cond b (mptFrom p (mpt (t .body)) k) (learnt k)) .known ≡ k
     go true b e = plt-still (plt (t .body)) k e
     go false true e = mpt-still p (mpt (t .body)) k e

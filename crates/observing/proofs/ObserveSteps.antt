@@ -113,13 +113,13 @@ fragments-observed T k fs e n c p m o fragment-heads bodies h f =
     record { holding = record { tables-kept = keeps-with k fs e n c p m o h; fragments-kept = f }; lost-is = omega arith; news-are = also-none (e .news) }
 
 -- what is not read may be anything
-pub also-anything : (n : News) → record { changed = n .changed; caption = true; carousel = true; other = true; plt = true } ≡ also n anything
+pub also-anything : (n : News) → record { changed = n .changed; caption = true; carousel = true; other = true; unlisted = true } ≡ also n anything
 also-anything n i = record {
   changed = or-false (n .changed) i;
   caption = or-true (n .caption) i;
   carousel = or-true (n .carousel) i;
   other = or-true (n .other) i;
-  plt = or-true (n .plt) i;
+  unlisted = or-true (n .unlisted) i;
 }
 
 -- nothing

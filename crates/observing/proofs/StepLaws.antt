@@ -14,12 +14,12 @@ use Rattle.meaning.specs.Tables.{Entry, Mpt, mpt, Package, plt, Table, isPlt, i
 use Rattle.meaning.specs.Learn.{Known, Learnt, learnt, Listed, assetNumbers, over, placeFor, listed, withList, mptFrom, learnMpt, pltFrom, learnPlt, learnTable, andLost}
 use Rattle.meaning.proofs.ListLaws.{clash}
 use Rattle.learning.specs.Kept.{KeptPackages, KeptMaps, Keeps}
-use Rattle.learning.specs.News.{noNews, also, changeNews, kindsIn, packagesNew, listNew, listNews}
+use Rattle.learning.specs.News.{noNews, also, kindsIn, pltNews, listNew, listNews}
 use Rattle.learning.specs.Learnt.{withNews, PltLearnt, ListLearnt, MptLearnt}
 use Rattle.learning.specs.declared.Extent.{Extent}
 use Rattle.learning.specs.declared.News.{News}
-use Rattle.learning.proofs.AlsoLaws.{or-false, or-true, also-assoc, also-none}
-use Rattle.observing.specs.News.{mptNew, pltNews, newsTable}
+use Rattle.learning.proofs.AlsoLaws.{also-assoc, also-none}
+use Rattle.observing.specs.News.{mptNew, newsTable}
 use Rattle.observing.specs.Steps.{After}
 
 -- ---- one step after the other
@@ -45,11 +45,8 @@ keeps-news k e n c p m o h =
 
 -- ---- a PLT
 
-pub also-plt : (n : News) → record { changed = n .changed; caption = n .caption; carousel = n .carousel; other = n .other; plt = true } ≡ also n pltNews
-also-plt n i = record { changed = or-false (n .changed) i; caption = or-false (n .caption) i; carousel = or-false (n .carousel) i; other = or-false (n .other) i; plt = or-true (n .plt) i }
-
 module _ (k : Known) (e r : Extent) (c p m o : List ℕ) (h : Keeps k e c p m o) (p′ : List ℕ) where
-  plt-after : (x : Out (List Package)) → PltLearnt x (k .packages) e r p′ → After (learnt (pltFrom x k)) (changeNews (packagesNew x (k .plt-seen) (k .packages))) e r c p′ m o
+  plt-after : (x : Out (List Package)) → PltLearnt x (k .packages) e r p′ → After (learnt (pltFrom x k)) (pltNews x (k .plt-seen) (k .packages)) e r c p′ m o
   plt-after none x =
       record {
         keeps =
@@ -79,7 +76,7 @@ module _ (k : Known) (e r : Extent) (c p m o : List ℕ) (h : Keeps k e c p m o)
               map-room-all = h .map-room-all;
             };
         lost-is = omega (arith, ap (λ z. z .lost) (x .1));
-        news-are = ap (λ z. z .news) (x .1) ∙ ap (λ (s : Bool). also (e .news) (changeNews (packagesNew (some (ys, more)) s (k .packages)))) (h .seen);
+        news-are = ap (λ z. z .news) (x .1) ∙ ap (λ (s : Bool). also (e .news) (pltNews (some (ys, more)) s (k .packages))) (h .seen);
         fragments-same = ap (λ z. z .«fragment_count») (x .1);
       }
 
@@ -145,19 +142,9 @@ unfolding isMpt
 not-plt n h = ne-eqb n 0x80 (λ e. clash (cc (ap isMpt e)))
 
 module _ (q : ℕ) (t : Table) (k : Known) (e r : Extent) (c p m o : List ℕ) (h : Keeps k e c p m o) where
-  -- that it stands there is told before it is read
-  pub table-plt : t .number ≡ 0x80 → q ≡ 0 → (p′ : List ℕ) → PltLearnt (plt (t .body)) (k .packages) (withNews e (also (e .news) pltNews)) r p′ → After (learnTable q t k) (newsTable q t k) e r c p′ m o
+  pub table-plt : t .number ≡ 0x80 → q ≡ 0 → (p′ : List ℕ) → PltLearnt (plt (t .body)) (k .packages) e r p′ → After (learnTable q t k) (newsTable q t k) e r c p′ m o
   unfolding learnTable newsTable isPlt learnPlt
-  table-plt n z p′ x =
-      let e₁ = withNews e (also (e .news) pltNews) in
-      let y = plt-after k e₁ r c p m o (keeps-news k e (also (e .news) pltNews) c p m o h) p′ (plt (t .body)) x in
-      rw (n, z)
-      (record {
-        keeps = y .keeps;
-        lost-is = y .lost-is;
-        news-are = y .news-are ∙ also-assoc (e .news) pltNews (changeNews (packagesNew (plt (t .body)) (k .plt-seen) (k .packages)));
-        fragments-same = y .fragments-same;
-      })
+  table-plt n z p′ x = rw (n, z) (plt-after k e r c p m o h p′ (plt (t .body)) x)
 
   pub table-mpt : isMpt (t .number) ≡ true → (m′ o′ : List ℕ) → length o′ ≡ length o → MptLearnt q (mpt (t .body)) (k .map-heads) e o r m′ o′ → After (learnTable q t k) (newsTable q t k) e r c p m′ o′
   unfolding learnTable newsTable isPlt learnMpt
@@ -169,7 +156,7 @@ module _ (q : ℕ) (t : Table) (k : Known) (e r : Extent) (c p m o : List ℕ) (
     where
       go : (a : Bool) → eqb (t .number) 0x80 ≡ a → (b : Bool) → eqb q 0 ≡ b
           → After (cond (a && b) (learnt (learnPlt (t .body) k)) (cond (isMpt (t .number)) (learnMpt q (t .body) k) (learnt k)))
-          (cond (a && b) (also pltNews (changeNews (packagesNew (plt (t .body)) (k .plt-seen) (k .packages)))) (cond (isMpt (t .number)) (mptNew q (mpt (t .body)) (k .map-heads) (k .map-room)) noNews)) e e c p m o
+          (cond (a && b) (pltNews (plt (t .body)) (k .plt-seen) (k .packages)) (cond (isMpt (t .number)) (mptNew q (mpt (t .body)) (k .map-heads) (k .map-room)) noNews)) e e c p m o
       go true ea true eb = absurd (z (eqb-true _ _ ea) (eqb-true _ _ eb))
       go true ea false eb = rw n (after-none k e c p m o h)
       go false ea b eb = rw n (after-none k e c p m o h)

@@ -13,21 +13,17 @@ use Rattle.meaning.specs.Messages.{Message, messages, indicator}
 use Rattle.meaning.specs.Tables.{Mpt, mpt, plt, Table, isMpt, isPlt, pa}
 use Rattle.meaning.specs.Learn.{Known, listed, packagesIn, learnTable, paTables, learnMessage, fragmentOf, fits, Fragment, joined, withFragments, without}
 use Rattle.meaning.specs.declared.Limits.{Limits}
-use Rattle.learning.specs.News.{noNews, also, changeNews, kindsIn, samePairs, packagesNew, listNew, listNews}
+use Rattle.learning.specs.News.{noNews, also, changeNews, kindsIn, unlisted, samePairs, pltNews, listNew, listNews}
 use Rattle.learning.specs.declared.News.{News}
 
 abbrev pub mptNew : ℕ → Out Mpt → List (ℕ × ℕ) → List ℕ → News
 mptNew p none ms map-room = noNews
 mptNew p (some (m, more)) ms map-room = listNews p (m .entries) ms map-room
 
--- A PLT on identifier 0 stands there, be it readable or not.
-abbrev pub pltNews : News
-pltNews = record { changed = false; caption = false; carousel = false; other = false; plt = true }
-
 unfoldable pub newsTable : ℕ → Table → Known → News
-unfolding isPlt isMpt plt mpt packagesIn samePairs listed listNew kindsIn
+unfolding isPlt isMpt plt mpt packagesIn samePairs unlisted listed listNew kindsIn
 newsTable p t k =
-    cond (isPlt (t .number) && eqb p 0) (also pltNews (changeNews (packagesNew (plt (t .body)) (k .plt-seen) (k .packages))))
+    cond (isPlt (t .number) && eqb p 0) (pltNews (plt (t .body)) (k .plt-seen) (k .packages))
     (cond (isMpt (t .number)) (mptNew p (mpt (t .body)) (k .map-heads) (k .map-room)) noNews)
 
 unfoldable pub newsTables : ℕ → List (Table × Bytes) → Known → News
@@ -61,7 +57,7 @@ newsBy (suc (suc (suc n))) L p flags s k = newsLast (fragmentOf p (k .fragments)
 
 -- On a data-carousel identifier nothing is read, so anything may stand there.
 abbrev pub anything : News
-anything = record { changed = false; caption = true; carousel = true; other = true; plt = true }
+anything = record { changed = false; caption = true; carousel = true; other = true; unlisted = true }
 
 unfoldable pub news : Limits → ℕ → Bytes → Known → News
 unfolding inSet indicator newsMessages messages joined without fragmentOf fits

@@ -7,11 +7,9 @@ ghost use Rattle.meaning.specs.Readers.{walk};
 ghost use Rattle.meaning.specs.Messages.{longLengths, consMessage, message, messageBody, readEach, messages};
 ghost use Rattle.meaning.specs.Tables.{pa};
 ghost use Rattle.meaning.specs.Learn.{learnTable, learnTables, paTables, learnMessages};
-ghost use Rattle.learning.specs.News.{also};
-ghost use Rattle.observing.specs.News.{pltNews, newsTable, newsTables, newsMessages};
+ghost use Rattle.observing.specs.News.{newsTable, newsTables, newsMessages};
 ghost use Rattle.observing.specs.Steps.{KeepsSome, DataLearnt, Learns, LearnsTables, tableIn};
 use learning::Extent;
-use learning::News;
 use learning::changed;
 use learning::lists::mpt;
 use learning::packages::plt;
@@ -27,19 +25,6 @@ use tables::pa::Table;
 use tables::pa::is_mpt;
 use tables::pa::pa_tables;
 use tables::pa::table_at;
-
-// What is new, and that a PLT on identifier 0 stands there.
-fn with_plt(n: News) -> News
-    ensures { λ r. ⌜ r ≡ also n pltNews ⌝ }
-{
-    News {
-        changed: n.changed,
-        caption: n.caption,
-        carousel: n.carousel,
-        other: n.other,
-        plt: true,
-    }
-}
 
 // A table: a PLT on identifier 0, or an MPT.
 fn learn_table(
@@ -64,7 +49,7 @@ fn learn_table(
     if id != 0 {
         return e;
     }
-    plt(b, with_news(e, with_plt(e.news)), packages)
+    plt(b, e, packages)
 }
 
 // The tables of a PA message's body, walked by their own heads.

@@ -170,7 +170,7 @@ fn unread(n: News) -> News
         caption: true,
         carousel: true,
         other: true,
-        plt: true,
+        unlisted: true,
     }
 }
 

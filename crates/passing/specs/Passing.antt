@@ -5,22 +5,24 @@ use mathlib.Core.Bool.{Bool, true, false, cond, not, _&&_, _||_}
 use mathlib.Core.List.{List, _++_, flatten}
 use mathlib.Core.Option.{Option, none, Option·getD}
 use lib.ListN.{length, drop}
+use lib.Dec.{eqb}
 use Rattle.meaning.specs.Bytes.{Bytes}
 use Rattle.meaning.specs.Writing.{Wrote}
 use Rattle.meaning.specs.Sets.{Words}
 use Rattle.meaning.specs.Lists.{isSome}
 use Rattle.meaning.specs.Packets.{stepOf, cut}
-use Rattle.meaning.specs.Wishes.{everyService}
 use Rattle.meaning.specs.Narrow.{narrowPayload}
 use Rattle.meaning.specs.Learn.{Known}
 use Rattle.meaning.specs.Rules.{drops, ready}
 use Rattle.meaning.specs.Push.{Passed, pass}
 use Rattle.meaning.specs.declared.Limits.{Limits}
+use Rattle.meaning.specs.declared.Service.{Service}
 use Rattle.meaning.specs.declared.Options.{Options}
 use Rattle.meaning.specs.declared.Modes.{Modes}
 use Rattle.meaning.specs.declared.Step.the-variants.{Keep}
 use Rattle.meaning.specs.declared.Counts.{Counts}
 use Rattle.learning.specs.Kept.{Keeps}
+use Rattle.learning.specs.News.{listsService}
 use Rattle.learning.specs.declared.Extent.{Extent}
 use Rattle.learning.specs.declared.News.{News}
 use Rattle.observing.specs.Observed.{Holding}
@@ -33,14 +35,20 @@ use Rattle.passing.specs.Verdicts.{SignalsSome, ahead, PacketTo, packetA
 
 -- ---- one signalling packet
 
+-- Whether the wanted service may stand in a PLT of the payload: where nothing changed its services are the packages that are known, and
+-- those that are not listed.
+abbrev pub cutsPlt : Service → ℕ → News → List (ℕ × ℕ) → Bool
+cutsPlt Service.Every id n ps = false
+cutsPlt (Service.Only s) id n ps = eqb id 0 && (n .changed || (n .unlisted || listsService s ps))
+
 -- Whether a wish is against anything that stands in a payload's tables.
-unfoldable pub cuts : Options → News → Bool
-cuts o n =
-    (n .other && not (o .other)) || ((n .caption && not (o .caption)) || ((n .carousel && not (o .carousel)) || (n .plt && not (everyService (o .service)))))
+unfoldable pub cuts : Options → ℕ → News → List (ℕ × ℕ) → Bool
+unfolding listsService
+cuts o id n ps = (n .other && not (o .other)) || ((n .caption && not (o .caption)) || ((n .carousel && not (o .carousel)) || cutsPlt (o .service) id n ps))
 
 -- Else narrowing leaves the payload.
-abbrev pub Spares : Options → News → ℕ → Bytes → Type 0
-Spares o n id payload = cuts o n ≡ false → narrowPayload o id payload ≡ none
+abbrev pub Spares : Options → ℕ → News → List (ℕ × ℕ) → Bytes → Type 0
+Spares o id n ps payload = cuts o id n ps ≡ false → narrowPayload o id payload ≡ none
 
 -- Withheld, it is taken in; else it is written, narrowed where narrowing changes it.
 abbrev pub Emitted : Bool → Option Bytes → Bytes → Counts → Bytes → Counts → Bytes → Type 0

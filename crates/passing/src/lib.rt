@@ -8,16 +8,15 @@ ghost use mathlib.Core.Option.{some};
 ghost use lib.ListN.{length};
 ghost use Rattle.meaning.specs.Sets.{inSet};
 ghost use Rattle.meaning.specs.Mmtp.{mmtpOf};
-ghost use Rattle.meaning.specs.Wishes.{everyService};
 ghost use Rattle.meaning.specs.Narrow.{packetFor, narrowPacket};
 ghost use Rattle.meaning.specs.Learn.{Known};
 ghost use Rattle.narrowing.specs.Answers.{signalOf};
-ghost use Rattle.learning.specs.Kept.{Keeps};
+ghost use Rattle.learning.specs.Kept.{Keeps, pairsIn};
 ghost use Rattle.passing.specs.Verdicts.{VerdictIs, Signals, SignalsSome, RowIs};
-ghost use Rattle.passing.specs.Passing.{cuts, Spares, Emitted, Refreshed, Fits, SofarSome, SofarAfter, AheadIs, Along, ScannedAs, withSkipped, withWithheld, withRow};
+ghost use Rattle.passing.specs.Passing.{cutsPlt, cuts, Spares, Emitted, Refreshed, Fits, SofarSome, SofarAfter, AheadIs, Along, ScannedAs, withSkipped, withWithheld, withRow};
 use learning::Extent;
-use learning::News;
 use learning::no_news;
+use learning::packages::lists_service;
 use learning::with_news;
 use meaning::Counts;
 use meaning::Modes;
@@ -118,19 +117,34 @@ fn against(there: bool, wanted: bool) -> bool
     false
 }
 
-fn every_service(service: Service) -> bool
-    ensures { λ r. ⌜ r ≡ everyService service ⌝ }
+// Whether the wanted service may stand in a PLT of the payload: in one on identifier 0 that changed what is known, or that has services
+// which are not listed; else only if it is listed.
+fn cuts_plt(service: Service, id: u16, e: Extent, packages: &[u32; 255]) -> bool
+    requires { ⌜ (e .«package_count» ≤ 255) × (length (now packages) ≡ 255) ⌝ }
+    ensures { λ r. ⌜ r ≡ cutsPlt service id (e .news) (pairsIn (e .«package_count») (now (packages .entry))) ⌝ }
 {
-    match service {
-        Service::Every => true,
-        Service::Only(_) => false,
+    let Service::Only(wanted) = service else {
+        return false;
+    };
+    if id != 0 {
+        return false;
     }
+    let n = e.news;
+    if n.changed {
+        return true;
+    }
+    if n.unlisted {
+        return true;
+    }
+    lists_service(packages, e.package_count, wanted)
 }
 
 // Whether a wish is against anything that stands in a payload's tables.
-fn cuts(o: Options, n: News) -> bool
-    ensures { λ r. ⌜ r ≡ cuts o n ⌝ }
+fn cuts(o: Options, id: u16, e: Extent, packages: &[u32; 255]) -> bool
+    requires { ⌜ (e .«package_count» ≤ 255) × (length (now packages) ≡ 255) ⌝ }
+    ensures { λ r. ⌜ r ≡ cuts o id (e .news) (pairsIn (e .«package_count») (now (packages .entry))) ⌝ }
 {
+    let n = e.news;
     if against(n.other, o.other) {
         return true;
     }
@@ -141,7 +155,7 @@ fn cuts(o: Options, n: News) -> bool
         return true;
     }
     let service = o.service;
-    against(n.plt, every_service(service))
+    cuts_plt(service, id, e, packages)
 }
 
 // Narrowed, or as it is where narrowing leaves it. Nearly no table has anything to cut, and learning has seen what stands in it, so
@@ -150,16 +164,17 @@ fn narrowed(
     p: &[u8],
     payload: &[u8],
     s: Signal,
-    news: News,
+    e: Extent,
+    packages: &[u32; 255],
     o: Options,
     modes: Modes,
     c: Counts,
     out: &mut [u8],
 ) -> Counts
-    requires { ⌜ (mmtpOf (now p) ≡ some (signalOf (s .id) (s .rewritable) (now payload))) × Spares o news (s .id) (now payload) × (c .bytes + length (now p) ≤ length (now out)) × (c .accepted + 1 ≤ 18446744073709551615) × (c .written + 1 ≤ 18446744073709551615) × (c .rewritten + 1 ≤ 18446744073709551615) ⌝ }
+    requires { ⌜ (mmtpOf (now p) ≡ some (signalOf (s .id) (s .rewritable) (now payload))) × Spares o (s .id) (e .news) (pairsIn (e .«package_count») (now packages)) (now payload) × (e .«package_count» ≤ 255) × (length (now packages) ≡ 255) × (c .bytes + length (now p) ≤ length (now out)) × (c .accepted + 1 ≤ 18446744073709551615) × (c .written + 1 ≤ 18446744073709551615) × (c .rewritten + 1 ≤ 18446744073709551615) ⌝ }
     ensures { λ r. ⌜ Emitted false (packetFor modes o (now (p .entry)) (some (signalOf (s .id) (s .rewritable) (now (payload .entry))))) (now (p .entry)) c (now (out .entry)) r (now (out .exit)) ⌝ }
 {
-    if cuts(o, news) {
+    if cuts(o, s.id, e, packages) {
         if let End::At(last) = rewrite(p, payload, s.id, s.rewritable, o, modes, out, c.bytes) {
             return sent(c, last, 1);
         }
@@ -172,14 +187,15 @@ fn emit(
     p: &[u8],
     payload: &[u8],
     s: Signal,
-    news: News,
+    e: Extent,
+    packages: &[u32; 255],
     o: Options,
     modes: Modes,
     c: Counts,
     set: &[u64; 1024],
     out: &mut [u8],
 ) -> Counts
-    requires { ⌜ Signals (now p) (now payload) (s .id) (s .rewritable) × Spares o news (s .id) (now payload) × (c .bytes + length (now p) ≤ length (now out)) × (c .accepted + 1 ≤ 18446744073709551615) × (c .written + 1 ≤ 18446744073709551615) × (c .rewritten + 1 ≤ 18446744073709551615) ⌝ }
+    requires { ⌜ Signals (now p) (now payload) (s .id) (s .rewritable) × Spares o (s .id) (e .news) (pairsIn (e .«package_count») (now packages)) (now payload) × (e .«package_count» ≤ 255) × (length (now packages) ≡ 255) × (c .bytes + length (now p) ≤ length (now out)) × (c .accepted + 1 ≤ 18446744073709551615) × (c .written + 1 ≤ 18446744073709551615) × (c .rewritten + 1 ≤ 18446744073709551615) ⌝ }
     ensures { λ r. ⌜ Emitted (inSet (now (set .entry)) (s .id)) (narrowPacket modes o (now (p .entry))) (now (p .entry)) c (now (out .entry)) r (now (out .exit)) ⌝ }
 {
     if has(set, s.id) {
@@ -192,7 +208,7 @@ fn emit(
             lost: c.lost,
         };
     }
-    narrowed(p, payload, s, news, o, modes, c, out)
+    narrowed(p, payload, s, e, packages, o, modes, c, out)
 }
 
 // Readiness after a packet; the drop set is worked out again only where something changed.
@@ -253,7 +269,7 @@ fn signalling(
         bodies,
     );
     let is_ready = refreshed(e, s.ready, o, data_set, packages, map_heads, map_room, set);
-    let d = emit(p, payload, signal, e.news, o, t.modes, c, set, out);
+    let d = emit(p, payload, signal, e, packages, o, t.modes, c, set, out);
     Progress {
         extent: e,
         counts: d,

@@ -7,8 +7,8 @@ use Rattle.passing.proofs.emit.Tie as tie
 has-requires : tie.Need-has-requires
 has-requires c κs = search needs
 
-add-t11 : tie.Need-add-t11
-add-t11 c = search needs
+add-t12 : tie.Need-add-t12
+add-t12 c = search needs
 
 returns : tie.Need-returns
 returns c = rw (sym (c .before .before .has .ensures) ∙ c .before .if1 .taken) (refl, refl)
@@ -29,7 +29,7 @@ emit-spec =
     tie.close
     (tie.spec
     has-requires
-    add-t11
+    add-t12
     returns
     narrowed-requires
     same-length

@@ -2,6 +2,8 @@ use lib.ListN.{length}
 use Rattle.meaning.specs.Push.{pass}
 use Rattle.passing.proofs.SignalLaws.{part-is, holding-anew, observer-fits, emitter-fits, signalled, fits-after}
 use Rattle.passing.proofs.SparingLaws.{spares}
+use native.Mathlib.Omega.{arith}
+use Rattle.learning.proofs.PairLaws.{pairs-in, pairs-length}
 use borrow.Author.Needs.{needs}
 use Rattle.passing.proofs.signalling.Statement.{statement}
 use Rattle.passing.proofs.signalling.Tie as tie
@@ -36,16 +38,25 @@ refreshed-requires c κs =
 
 emit-requires : tie.Need-emit-requires
 emit-requires c κs =
-    let z = c .before .before .before .before .before .before .before .before .before .before .before .before .before .before .before .before .before .before .before .before .before .before .before .before .before .before .before .before in
+    let z = c .before .before .before .before .before .before .before .before .before .before .before .before .before .before .before .before .before .before .before .before .before .before .before .before .before .before .before .before .before in
     let a = z .args in
     let h = z .pre .0 .1 in
     let f = z .pre .2 in
     let x = emitter-fits (a .s) _ h (z .pre .1) in
-    let payload = part-is _ h (c .before .before .before .before .before .before .before .before .before .before .before .before .before .before .before .before .before .before .before .packet-payload .ensures) in
+    let payload = part-is _ h (c .before .before .before .before .before .before .before .before .before .before .before .before .before .before .before .before .before .before .before .before .packet-payload .ensures) in
     let here = pass (f .0) (a .t .modes) (a .t .options) (f .1) (f .3) .known in
-    let y = rw (c .before .before .before .before .before .before .before .before .before .before .before .before .before .before .before .before .before .before .before .before .with-news .ensures, c .before .before .before .before .before .before .before .before .before .before .before .before .before .before .before .before .before .before .before .before .before .no-news .ensures) at (c .before .before .before .before .before .before .before .before .before .before .before .before .observe .ensures .0) in
-    let told = y (f .0) here (f .5) (holding-anew (f .6 .holding)) .news-are in
-    (rw payload h, spares (a .t .options) (f .0) (a .signal .id) here _ _ told, x .0, x .1, x .2, x .3)
+    let y = rw (c .before .before .before .before .before .before .before .before .before .before .before .before .before .before .before .before .before .before .before .before .before .with-news .ensures, c .before .before .before .before .before .before .before .before .before .before .before .before .before .before .before .before .before .before .before .before .before .before .no-news .ensures) at (c .before .before .before .before .before .before .before .before .before .before .before .before .before .observe .ensures .0) in
+    let seen = y (f .0) here (f .5) (holding-anew (f .6 .holding)) in
+    let packages = seen .holding .tables-kept .packages-kept .pairs in (
+      rw payload h,
+      spares (a .t .options) (f .0) (a .signal .id) here _ _ _ (seen .news-are) (pairs-in packages),
+      omega (arith, packages .count, packages .few),
+      pairs-length packages,
+      x .0,
+      x .1,
+      x .2,
+      x .3,
+    )
 
 same-length : tie.Need-same-length
 same-length c = search needs
@@ -58,13 +69,13 @@ same-length-3 c = search needs
 
 returns : tie.Need-returns
 returns c =
-    let z = c .before .before .before .before .before .before .before .before .before .before .before .before .before .before .before .before .before .before .before .before .before .before .before .before .before .before .before .before .before .before .before in
+    let z = c .before .before .before .before .before .before .before .before .before .before .before .before .before .before .before .before .before .before .before .before .before .before .before .before .before .before .before .before .before .before .before .before in
     let a = z .args in
     let h = z .pre .2 .6 .holding .fragments-kept in
-    let y = rw (c .before .before .before .before .before .before .before .before .before .before .before .before .before .before .before .before .before .before .before .before .before .before .before .with-news .ensures, c .before .before .before .before .before .before .before .before .before .before .before .before .before .before .before .before .before .before .before .before .before .before .before .before .no-news .ensures, part-is _ (z .pre .0 .1) (c .before .before .before .before .before .before .before .before .before .before .before .before .before .before .before .before .before .before .before .before .before .before .packet-payload .ensures)) at (c .before .before .before .before .before .before .before .before .before .before .before .before .before .before .before .observe .ensures) in (
+    let y = rw (c .before .before .before .before .before .before .before .before .before .before .before .before .before .before .before .before .before .before .before .before .before .before .before .before .with-news .ensures, c .before .before .before .before .before .before .before .before .before .before .before .before .before .before .before .before .before .before .before .before .before .before .before .before .before .no-news .ensures, part-is _ (z .pre .0 .1) (c .before .before .before .before .before .before .before .before .before .before .before .before .before .before .before .before .before .before .before .before .before .before .before .packet-payload .ensures)) at (c .before .before .before .before .before .before .before .before .before .before .before .before .before .before .before .before .observe .ensures) in (
       (λ L k d ps n most f.
           signalled L (a .t .modes) (a .t .options) k d ps n (a .s) _ (z .pre .0 .1) f
-          (y .0 L (pass L (a .t .modes) (a .t .options) k ps .known) most (holding-anew (f .holding))) (c .before .before .before .before .before .refreshed .ensures) (c .before .before .emit .ensures)),
+          (y .0 L (pass L (a .t .modes) (a .t .options) k ps .known) most (holding-anew (f .holding))) (c .before .before .before .before .before .before .refreshed .ensures) (c .before .before .emit .ensures)),
       (λ m f. fits-after (a .t .modes) (a .t .options) (z .pre .0 .1) (a .s) _ _ (a .out .now) _ (length (a .bodies .now)) (c .before .before .emit .ensures) (y .1) (rw (h .total) (h .total-few)) (same-length-3 c) m f),
     )
 

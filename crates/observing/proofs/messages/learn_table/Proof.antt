@@ -55,23 +55,16 @@ returns-3 c data-set k h =
     table-other (a .id) (tableIn (a .t .now)) k (a .e) (a .e) data-set (a .packages .now) (a .map-heads .now) (a .map-room .now) h
     (sym x ∙ c .before .before .if1 .left) (λ n z. c .if3 .taken z)
 
-with-plt-requires : tie.Need-with-plt-requires
-with-plt-requires c κs = search needs
-
-with-news-requires : tie.Need-with-news-requires
-with-news-requires c κs = search needs
-
 plt-requires : tie.Need-plt-requires
 plt-requires c κs =
-    let pre = c .before .before .before .before .before .before .before .before .before .before .before .pre in
-    rw (c .before .with-news .ensures) (pre .2 .1 .0 .packages, pre .2 .1 .1 .packages-kept)
+    let pre = c .before .before .before .before .before .before .before .before .before .pre in
+    (pre .2 .1 .0 .packages, pre .2 .1 .1 .packages-kept)
 
 returns-4 : tie.Need-returns-4
 returns-4 c data-set k h =
-    let a = c .before .before .before .before .before .before .before .before .before .before .before .before .args in
-    let told = rw (c .before .before .with-news .ensures, c .before .before .before .with-plt .ensures) at (c .plt .ensures) in
+    let a = c .before .before .before .before .before .before .before .before .before .before .args in
     table-plt (a .id) (tableIn (a .t .now)) k (a .e) _ data-set (a .packages .now) (a .map-heads .now) (a .map-room .now) h
-    (c .before .before .before .before .before .if2 .left) (c .before .before .before .before .if3 .left) _ (told (k .packages) (h .packages-kept))
+    (c .before .before .before .if2 .left) (c .before .before .if3 .left) _ (c .plt .ensures (k .packages) (h .packages-kept))
 
 pub learn-table-spec : {M : Type 1} → statement M
 learn-table-spec =
@@ -87,7 +80,5 @@ learn-table-spec =
     returns
     returns-2
     returns-3
-    with-plt-requires
-    with-news-requires
     plt-requires
     returns-4)
