@@ -7,7 +7,7 @@ use mathlib.Core.List.{List, [], _∷_, _++_, map, append-nil}
 use mathlib.Core.Option.{Option, none, some}
 use native.Mathlib.Numerals.{add-one}
 use native.Mathlib.Omega.{arith}
-use lib.ListN.{length, take, drop, getD, set, drop-of-length-le}
+use lib.ListN.{length, take, drop, getD, set, drop-of-length-le, length-append}
 use lib.Arith.{lt-of-le-ne}
 use lib.Seq.{drop-cons}
 use lib.Dec.{ltb, eqb}
@@ -26,12 +26,12 @@ use Rattle.tables.specs.declared.packages.Package as read
 use Rattle.meaning.proofs.ListLaws.{clash, and-both, and-true, or-right}
 use Rattle.meaning.proofs.SoundnessKept.{plt-holds}
 use Rattle.learning.specs.Kept.{pairsIn, Pairs, KeptPackages}
-use Rattle.learning.specs.News.{also, changeNews, unlistedNews, isUnlisted, unlisted, listsService, pltNews, sameNumbers, samePairs}
-use Rattle.learning.specs.Learnt.{withNews, before, taken, unlistedAs, PackagesAre, PltLearnt}
+use Rattle.learning.specs.News.{also, changeNews, unlistedNews, unlisted, listsService, pltNews, sameNumbers, samePairs}
+use Rattle.learning.specs.Learnt.{withNews, before, taken, PackagesAre, PltLearnt}
 use Rattle.learning.specs.declared.Extent.{Extent}
 use Rattle.learning.specs.declared.News.{News}
 use Rattle.learning.specs.declared.packages.Services.{Services}
-use Rattle.learning.proofs.AlsoLaws.{or-assoc, or-false, nowChanged, met-changed}
+use Rattle.learning.proofs.AlsoLaws.{nowChanged, met-changed}
 use Rattle.learning.proofs.PairLaws.{same-refl, same-true, pairs-refl, pairs-true, pairs-as, pairs-in, first-in, in-length, first-at, pairs-put, pairs-insert}
 
 -- ---- the slot of a service, searched from the front
@@ -156,50 +156,36 @@ pub plt-none : (b : Bytes) → length b ≡ 0 → plt b ≡ none
 unfolding plt
 plt-none b h = rw (u8-none b 0 (omega arith))
 
--- one more of which may be unlisted
-unlisted-is : (s q : Option ℕ) → unlistedAs (nameOf s) (carrierOf q) ≡ isUnlisted s q
-unlisted-is none q = refl
-unlisted-is (some s) none = refl
-unlisted-is (some s) (some p) = refl
-
-unlisted-more : (pre : List Package) (x : Package) → unlisted (pre ++ x ∷ []) ≡ (unlisted pre || isUnlisted (serviceOf (x .name)) (x .carrier))
-unfolding unlisted
-unlisted-more [] x = sym (or-false (isUnlisted (serviceOf (x .name)) (x .carrier)))
-unlisted-more (y ∷ pre) x =
-    ap (λ (b : Bool). isUnlisted (serviceOf (y .name)) (y .carrier) || b) (unlisted-more pre x)
-    ∙ sym (or-assoc (isUnlisted (serviceOf (y .name)) (y .carrier)) (unlisted pre) (isUnlisted (serviceOf (x .name)) (x .carrier)))
-
--- Of the packages of b, `pre` were read, up to `from`, and `left` are left; those with a service and an identifier are n, and `apart`
--- tells whether one has a service alone.
-pub record Sofar (b : Bytes) (left from n : ℕ) (xs : List ℕ) (apart : Bool) : Type 0 where
+-- Of the packages of b, `pre` were read, up to `from`, and `left` are left of `all`; those with a service and an identifier
+-- are n.
+pub record Sofar (b : Bytes) (all left from n : ℕ) (xs : List ℕ) : Type 0 where
   pub pre : List Package
   pub reads : plt b ≡ behind pre (many left packageEntry (drop from b))
   pub pairs : Pairs 255 (packagesIn pre []) n xs
   pub few : n + left ≤ 255
-  pub told : apart ≡ unlisted pre
+  pub counted : length pre + left ≡ all
 
 module _ (b : Bytes) where
-  pub start : (count : ℕ) (xs : List ℕ) → 0 < length b → count ≡ getD b 0 0 → count < 256 → Pairs 255 [] 0 xs → Sofar b count 1 0 xs false
-  unfolding plt packagesIn unlisted
+  pub start : (count : ℕ) (xs : List ℕ) → 0 < length b → count ≡ getD b 0 0 → count < 256 → Pairs 255 [] 0 xs → Sofar b count count 1 0 xs
+  unfolding plt packagesIn
   start count xs h q l k =
       record {
         pre = [];
         reads = rw (u8-at b 0 1 h (omega arith) refl, q) (behind-nothing (many (getD b 0 0) packageEntry (drop 1 b)));
         pairs = k;
         few = omega arith;
-        told = refl;
+        counted = omega arith;
       }
 
-  module _ (left from n : ℕ) (xs : List ℕ) (apart : Bool) (i : Sofar b left from n xs apart) where
+  module _ (all left from n : ℕ) (xs : List ℕ) (i : Sofar b all left from n xs) where
     -- one that cannot be read
     pub broken : 0 < left → packageEntry (drop from b) ≡ none → plt b ≡ none
     broken h e = rw (i .reads, many-none packageEntry (drop from b) left h e)
 
     -- one more
     pub turn : (e : ℕ) (name : Named) (c : Carrier) → 0 < left → PackageIs b from (read.Package.Entry e name c) → (m : ℕ) (ys : List ℕ)
-        → ((ps : List (ℕ × ℕ)) → Pairs 255 ps n xs → Pairs 255 (taken name c ps) m ys) → m ≤ n + 1
-        → (r : Bool) → r ≡ (apart || unlistedAs name c) → Sofar b (left - 1) e m ys r
-    turn e name c h p m ys k l r q =
+        → ((ps : List (ℕ × ℕ)) → Pairs 255 ps n xs → Pairs 255 (taken name c ps) m ys) → m ≤ n + 1 → Sofar b all (left - 1) e m ys
+    turn e name c h p m ys k l =
         let row : Package = record { name = p .2 .0; carrier = p .2 .1; bytes-of = take (e - from) (drop from b) } in
         let ps = packagesIn (i .pre) [] in
         record {
@@ -209,13 +195,15 @@ module _ (b : Bytes) where
               pairs-as (k ps (i .pairs))
               (ap₂ (λ (a : Named) (q : Carrier). taken a q ps) (p .2 .3) (p .2 .4) ∙ taken-is (serviceOf (p .2 .0)) (p .2 .1) ps ∙ sym (packages-more (i .pre) row [])) refl refl;
           few = omega (arith, i .few);
-          told = q ∙ ap₂ (λ (a : Bool) (x : Bool). a || x) (i .told) (ap₂ unlistedAs (p .2 .3) (p .2 .4) ∙ unlisted-is (serviceOf (p .2 .0)) (p .2 .1)) ∙ sym (unlisted-more (i .pre) row);
+          counted = omega (arith, i .counted, length-append (i .pre) (row ∷ []));
         }
 
     -- none left
-    pub all-read : left ≡ 0 → PackagesAre (plt b) (Services.Read n apart) xs
-    unfolding many
-    all-read z = (i .pre, drop from b, rw (i .reads, z, append-nil (i .pre)), i .pairs, i .told)
+    pub all-read : left ≡ 0 → PackagesAre (plt b) (Services.Read n (not (eqb n all))) xs
+    unfolding many unlisted
+    all-read z =
+        let every : all ≡ length (i .pre) = omega (arith, i .counted) in
+        (i .pre, drop from b, rw (i .reads, z, append-nil (i .pre)), i .pairs, ap₂ (λ (a c : ℕ). not (eqb a c)) (i .pairs .count) every)
 
 -- ---- what a PLT makes of what is known
 

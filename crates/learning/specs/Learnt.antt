@@ -37,13 +37,7 @@ taken Named.Other c ps = ps
 taken (Named.Service s) Carrier.Nowhere ps = ps
 taken (Named.Service s) (Carrier.By p) ps = insertPackage s p ps
 
--- One that has a service alone.
-abbrev pub unlistedAs : Named → Carrier → Bool
-unlistedAs Named.Other c = false
-unlistedAs (Named.Service s) Carrier.Nowhere = true
-unlistedAs (Named.Service s) (Carrier.By p) = false
-
--- The packages of a PLT's body that have a service and an identifier, in an array of their own, and whether one has a service alone.
+-- The packages of a PLT's body that have a service and an identifier, in an array of their own, and whether those are not all.
 abbrev pub PackagesAre : Out (List Package) → Services → List ℕ → Type 0
 PackagesAre o (Services.Read n apart) xs =
     (ys : List Package) × (more : Bytes) × (o ≡ some (ys, more)) × Pairs 255 (packagesIn ys []) n xs × (apart ≡ unlisted ys)

@@ -6,7 +6,7 @@ use mathlib.Core.Option.{Option, none, some}
 use lib.ListN.{length, take, drop}
 use lib.Dec.{ltb, eqb}
 use Rattle.meaning.specs.Readers.{Out}
-use Rattle.meaning.specs.Tables.{Entry, Package, serviceOf}
+use Rattle.meaning.specs.Tables.{Entry, Package}
 use Rattle.meaning.specs.Learn.{Listed, assetNumbers, placeFor, listed, packagesIn}
 use Rattle.meaning.specs.declared.Part.{Part}
 use Rattle.learning.specs.declared.News.{News}
@@ -35,7 +35,7 @@ kindNews Part.Caption = record { changed = false; caption = true; carousel = fal
 kindNews Part.Carousel = record { changed = false; caption = false; carousel = true; other = false; unlisted = false }
 kindNews Part.Other = record { changed = false; caption = false; carousel = false; other = true; unlisted = false }
 
--- A service with no type 0 location, which is not listed, stands there.
+-- A package that is not listed stands there.
 abbrev pub unlistedNews : Bool → News
 unlistedNews b = record { changed = false; caption = false; carousel = false; other = false; unlisted = b }
 
@@ -44,17 +44,12 @@ unfoldable pub kindsIn : List Entry → News
 kindsIn [] = noNews
 kindsIn (e ∷ es) = also (kindNews (e .part)) (kindsIn es)
 
--- ---- the services of a PLT
+-- ---- the packages of a PLT
 
-abbrev pub isUnlisted : Option ℕ → Option ℕ → Bool
-isUnlisted none c = false
-isUnlisted (some s) none = true
-isUnlisted (some s) (some p) = false
-
+-- Whether not all are listed: one has no service or no type 0 location, or a service comes twice.
 unfoldable pub unlisted : List Package → Bool
-unfolding serviceOf
-unlisted [] = false
-unlisted (x ∷ xs) = isUnlisted (serviceOf (x .name)) (x .carrier) || unlisted xs
+unfolding packagesIn
+unlisted xs = not (eqb (length (packagesIn xs [])) (length xs))
 
 unfoldable pub listsService : ℕ → List (ℕ × ℕ) → Bool
 listsService s [] = false

@@ -8,7 +8,7 @@ pub mod lists;
 pub mod packages;
 
 // What a payload brings: whether what is known changed, and what stands in its tables: assets of each kind, and, in a PLT on identifier 0,
-// services that are not listed among the packages. Where no wish is against what stands there, narrowing has nothing to do.
+// packages that are not listed. Where no wish is against what stands there, narrowing has nothing to do.
 pub struct News {
     pub changed: bool,
     pub caption: bool,

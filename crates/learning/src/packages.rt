@@ -1,7 +1,7 @@
 // The packages of a PLT: service and identifier in one number, services rising, a repeated service's last.
 ghost use mathlib.Core.Path.{_≡_};
 ghost use Prim.Native.Nat.{ℕ, _+_, _-_, _*_, _/_, _%_, _≤_, _<_};
-ghost use mathlib.Core.Bool.{_&&_, _||_};
+ghost use mathlib.Core.Bool.{_&&_};
 ghost use lib.Dec.{eqb};
 ghost use mathlib.Core.List.{List, [], _++_};
 ghost use lib.ListN.{length, take, drop};
@@ -9,7 +9,7 @@ ghost use Rattle.meaning.specs.Tables.{plt};
 ghost use Rattle.meaning.specs.Learn.{insertPackage};
 ghost use Rattle.learning.specs.Kept.{pairsIn, Pairs, KeptPackages};
 ghost use Rattle.learning.specs.News.{also, unlistedNews, listsService, sameNumbers};
-ghost use Rattle.learning.specs.Learnt.{before, taken, unlistedAs, PackagesAre, PltLearnt};
+ghost use Rattle.learning.specs.Learnt.{before, taken, PackagesAre, PltLearnt};
 use crate::Extent;
 use crate::News;
 use crate::changed;
@@ -85,23 +85,7 @@ fn take_package(fresh: &mut [u32; 255], n: usize, name: Named, carrier: Carrier)
     add_package(fresh, n, packed(service, id))
 }
 
-// Whether there was a service with no type 0 location, or this is one: it is not listed.
-fn unlisted_so_far(before: bool, name: Named, carrier: Carrier) -> bool
-    ensures { λ r. ⌜ r ≡ (before || unlistedAs name carrier) ⌝ }
-{
-    if before {
-        return true;
-    }
-    let Named::Service(_) = name else {
-        return false;
-    };
-    match carrier {
-        Carrier::By(_) => false,
-        Carrier::Nowhere => true,
-    }
-}
-
-// The packages of a PLT's body: how many are listed, and whether a service is not.
+// The packages of a PLT's body: how many are listed, and whether that is not all.
 pub enum Services {
     Read(usize, bool),
     Nothing,
@@ -115,20 +99,19 @@ fn packages_of(b: &[u8], fresh: &mut [u32; 255]) -> Services
     if b.len() == 0 {
         return Services::Nothing;
     }
-    let mut left = wide(b[0]);
+    let all = wide(b[0]);
+    let mut left = all;
     let mut from: usize = 1;
     let mut n: usize = 0;
-    let mut unlisted = false;
     while 0 < left {
         let Package::Entry { end, name, carrier } = package_at(b, from) else {
             return Services::Nothing;
         };
         from = end;
         left -= 1;
-        unlisted = unlisted_so_far(unlisted, name, carrier);
         n = take_package(fresh, n, name, carrier);
     }
-    Services::Read(n, unlisted)
+    Services::Read(n, n != all)
 }
 
 // Whether the first `n` of both are the same.
@@ -160,7 +143,7 @@ fn is_known(e: Extent, n: usize, fresh: &[u32; 255], packages: &[u32; 255]) -> b
     same_packages(fresh, packages, n)
 }
 
-// What is new, and whether a service stands there that is not listed.
+// What is new, and whether a package stands there that is not listed.
 fn with_unlisted(n: News, there: bool) -> News
     ensures { λ r. ⌜ r ≡ also n (unlistedNews there) ⌝ }
 {

@@ -55,7 +55,7 @@ module _ (s p : ℕ) where
       go false ea true eb = subst (λ (n : ℕ). rising (n ∷ firsts qs) ≡ true) (sym (eqb-true _ _ eb)) r
       go false ea false eb = insert-after (q .0) qs (lt-of-le-ne (ltb-false s (q .0) ea) (λ e. eqb-false s (q .0) eb (sym e))) r
 
-  insert-length : (qs : List (ℕ × ℕ)) → length (insertPackage s p qs) ≤ suc (length qs)
+  pub insert-length : (qs : List (ℕ × ℕ)) → length (insertPackage s p qs) ≤ suc (length qs)
   unfolding insertPackage
   insert-length [] = omega arith
   insert-length (q ∷ qs) = go (ltb s (q .0)) (eqb s (q .0)) (insert-length qs)

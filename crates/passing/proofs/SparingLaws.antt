@@ -1,6 +1,6 @@
 -- Where no wish is against anything that stands in a payload's tables, narrowing leaves it. Rests on `cuts` of specs/Passing, on `news` of
 -- `observing`, and on NewsLaws there.
-use Prim.Native.Nat.{ℕ, zero, suc}
+use Prim.Native.Nat.{ℕ, zero, suc, _+_, _≤_}
 use mathlib.Core.Path.{_≡_, refl, sym, ap, _∙_}
 use mathlib.Core.Bool.{Bool, true, false, cond, not, _&&_, _||_}
 use mathlib.Core.List.{List, [], _∷_}
@@ -24,8 +24,9 @@ use Rattle.meaning.specs.declared.Service.{Service}
 use Rattle.meaning.specs.declared.Limits.{Limits}
 use Rattle.meaning.specs.declared.Options.{Options}
 use Rattle.meaning.specs.declared.Modes.{Modes}
+use Rattle.meaning.proofs.SoundnessKept.{insert-length}
 use Rattle.meaning.proofs.ListLaws.{clash, and-both, and-true, or-neither}
-use Rattle.learning.specs.News.{noNews, also, changeNews, kindNews, kindsIn, isUnlisted, unlisted, listsService, pltNews, listNew}
+use Rattle.learning.specs.News.{noNews, also, changeNews, kindNews, kindsIn, unlisted, listsService, pltNews, listNew}
 use Rattle.learning.specs.declared.News.{News}
 use Rattle.observing.specs.News.{mptNew, newsTable, newsTables, newsMessage, newsMessages, newsBy, anything, news}
 use Rattle.observing.proofs.StepLaws.{not-plt}
@@ -69,23 +70,38 @@ stays-listed s (x ∷ xs) ps h = stays-listed s xs (addPackage (serviceOf (x .na
     go (some t) none = h
     go (some t) (some c) = insert-lists s t c ps ∙ or-late (eqb t s) (listsService s ps) h
 
--- one that is neither listed nor left out of the list stands in no entry
-last-none : (s : ℕ) (xs : List Package) (ps : List (ℕ × ℕ)) → unlisted xs ≡ false → listsService s (packagesIn xs ps) ≡ false → lastOf s xs none ≡ none
-unfolding unlisted packagesIn lastOf isService
-last-none s [] ps u l = refl
-last-none s (x ∷ xs) ps u l = go (serviceOf (x .name)) (x .carrier) (λ qs v m. last-none s xs qs v m) u l
+-- no more are listed than there are
+listed-few : (xs : List Package) (ps : List (ℕ × ℕ)) → length (packagesIn xs ps) ≤ length ps + length xs
+unfolding packagesIn
+listed-few [] ps = omega arith
+listed-few (x ∷ xs) ps =
+    let one : length (addPackage (serviceOf (x .name)) (x .carrier) ps) ≤ suc (length ps) = go (serviceOf (x .name)) (x .carrier) in
+    omega (arith, listed-few xs (addPackage (serviceOf (x .name)) (x .carrier) ps), one)
+  where
+    go : (v w : Option ℕ) → length (addPackage v w ps) ≤ suc (length ps)
+    go none w = omega arith
+    go (some t) none = omega arith
+    go (some t) (some c) = insert-length t c ps
+
+-- where all are listed, a service that is not listed stands in no entry
+last-none : (s : ℕ) (xs : List Package) (ps : List (ℕ × ℕ)) → length (packagesIn xs ps) ≡ length ps + length xs → listsService s (packagesIn xs ps) ≡ false → lastOf s xs none ≡ none
+unfolding packagesIn lastOf isService
+last-none s [] ps n l = refl
+last-none s (x ∷ xs) ps n l = go (serviceOf (x .name)) (x .carrier) (λ qs m k. last-none s xs qs m k) n l
   where
     Rest : Type 0
-    Rest = (qs : List (ℕ × ℕ)) → unlisted xs ≡ false → listsService s (packagesIn xs qs) ≡ false → lastOf s xs none ≡ none
+    Rest = (qs : List (ℕ × ℕ)) → length (packagesIn xs qs) ≡ length qs + length xs → listsService s (packagesIn xs qs) ≡ false → lastOf s xs none ≡ none
 
-    named : (t c : ℕ) (b : Bool) → eqb t s ≡ b → Rest → unlisted xs ≡ false → listsService s (packagesIn xs (insertPackage t c ps)) ≡ false → lastOf s xs (cond b (some (x .bytes-of)) none) ≡ none
-    named t c true e rest u l = clash (cc (l, stays-listed s xs (insertPackage t c ps) (insert-lists s t c ps ∙ rw e)))
-    named t c false e rest u l = rest (insertPackage t c ps) u l
+    named : (t c : ℕ) (b : Bool) → eqb t s ≡ b → Rest → length (packagesIn xs (insertPackage t c ps)) ≡ length ps + suc (length xs) → listsService s (packagesIn xs (insertPackage t c ps)) ≡ false
+        → lastOf s xs (cond b (some (x .bytes-of)) none) ≡ none
+    named t c true e rest n l = clash (cc (l, stays-listed s xs (insertPackage t c ps) (insert-lists s t c ps ∙ rw e)))
+    named t c false e rest n l = rest (insertPackage t c ps) (omega (arith, n, listed-few xs (insertPackage t c ps), insert-length t c ps)) l
 
-    go : (v w : Option ℕ) → Rest → (isUnlisted v w || unlisted xs) ≡ false → listsService s (packagesIn xs (addPackage v w ps)) ≡ false → lastOf s xs (cond (isService s v) (some (x .bytes-of)) none) ≡ none
-    go none w rest u l = rest ps u l
-    go (some t) none rest u l = clash (cc)
-    go (some t) (some c) rest u l = named t c (eqb t s) refl rest u l
+    go : (v w : Option ℕ) → Rest → length (packagesIn xs (addPackage v w ps)) ≡ length ps + suc (length xs) → listsService s (packagesIn xs (addPackage v w ps)) ≡ false
+        → lastOf s xs (cond (isService s v) (some (x .bytes-of)) none) ≡ none
+    go none w rest n l = absurd (omega (arith, n, listed-few xs ps))
+    go (some t) none rest n l = absurd (omega (arith, n, listed-few xs ps))
+    go (some t) (some c) rest n l = named t c (eqb t s) refl rest n l
 
 -- ---- a wish against one news or another
 
@@ -239,10 +255,12 @@ module _ (o : Options) (q : ℕ) (ps : List (ℕ × ℕ)) where
   -- ---- a PLT
 
   services-spared : (s : ℕ) (k : Known) (x : Out (List Package)) → ps ≡ k .packages → Listed s (pltNews x (k .plt-seen) (k .packages)) → pltKeeping s x ≡ none
+  unfolding unlisted
   services-spared s k none t h = refl
   services-spared s k (some (xs, more)) t h =
       let known : packagesIn xs [] ≡ k .packages = ap (λ (z : Known). z .packages) (plt-still (some (xs, more)) k (h .same)) in
-      rw (last-none s xs [] (h .all-listed) (ap (listsService s) (known ∙ sym t) ∙ h .not-listed))
+      let all-of-them : length (packagesIn xs []) ≡ length xs = eqb-true _ _ (not-false _ (h .all-listed)) in
+      rw (last-none s xs [] (omega (arith, all-of-them)) (ap (listsService s) (known ∙ sym t) ∙ h .not-listed))
 
   plt-spared : (v : Service) → o .service ≡ v → q ≡ 0 → (b : Bytes) (k : Known) → Tells k → Wanted o q (pltNews (plt b) (k .plt-seen) (k .packages)) ps → pltFor v b ≡ none
   unfolding pltOnly

@@ -35,8 +35,8 @@ use Rattle.passing.specs.Verdicts.{SignalsSome, ahead, PacketTo, packetA
 
 -- ---- one signalling packet
 
--- Whether the wanted service may stand in a PLT of the payload: where nothing changed its services are the packages that are known, and
--- those that are not listed.
+-- Whether the wanted service may stand in a PLT of the payload: where nothing changed its packages are those that are known, if all are
+-- listed.
 abbrev pub cutsPlt : Service → ℕ → News → List (ℕ × ℕ) → Bool
 cutsPlt Service.Every id n ps = false
 cutsPlt (Service.Only s) id n ps = eqb id 0 && (n .changed || (n .unlisted || listsService s ps))

@@ -117,8 +117,8 @@ fn against(there: bool, wanted: bool) -> bool
     false
 }
 
-// Whether the wanted service may stand in a PLT of the payload: in one on identifier 0 that changed what is known, or that has services
-// which are not listed; else only if it is listed.
+// Whether the wanted service may stand in a PLT of the payload: in one on identifier 0 that changed what is known, or of which not all
+// packages are listed; else only if it is listed.
 fn cuts_plt(service: Service, id: u16, e: Extent, packages: &[u32; 255]) -> bool
     requires { ⌜ (e .«package_count» ≤ 255) × (length (now packages) ≡ 255) ⌝ }
     ensures { λ r. ⌜ r ≡ cutsPlt service id (e .news) (pairsIn (e .«package_count») (now (packages .entry))) ⌝ }
@@ -158,8 +158,8 @@ fn cuts(o: Options, id: u16, e: Extent, packages: &[u32; 255]) -> bool
     cuts_plt(service, id, e, packages)
 }
 
-// Narrowed, or as it is where narrowing leaves it. Nearly no table has anything to cut, and learning has seen what stands in it, so
-// narrowing is asked only where a wish is against that.
+// Narrowed, or as it is where narrowing leaves it. Learning has been through the tables already: narrowing is asked only where a wish is
+// against what stands in them.
 fn narrowed(
     p: &[u8],
     payload: &[u8],

@@ -5,10 +5,10 @@ use Rattle.learning.proofs.packages.packages_of.Statement.{statement}
 use Rattle.learning.proofs.packages.packages_of.Tie as tie
 
 abbrev Inv-loop : tie.InvT-loop
-Inv-loop b fresh₀ left₀ from₀ n₀ unlisted₀ fresh left from n unlisted = Sofar b left from n fresh unlisted
+Inv-loop b fresh₀ all left₀ from₀ n₀ fresh left from n = Sofar b all left from n fresh
 
 abbrev μ-loop : tie.MeasureT-loop
-μ-loop b fresh₀ left₀ from₀ n₀ unlisted₀ fresh left from n unlisted = left
+μ-loop b fresh₀ all left₀ from₀ n₀ fresh left from n = left
 
 returns : tie.Need-returns Inv-loop μ-loop
 returns c = plt-none (c .before .before .args .b .now) (c .if1 .taken)
@@ -36,18 +36,15 @@ enum-told c = search needs
 returns-2 : tie.Need-returns-2 Inv-loop μ-loop
 returns-2 c =
     let l = c .before .before .before .before .loop in
-    broken (c .before .before .before .before .before .before .before .before .before .args .b .now) (l .left) (l .from) (l .n) (l .fresh) (l .unlisted) (l .inv) (omega arith)
+    broken (c .before .before .before .before .before .before .before .before .before .args .b .now) _ (l .left) (l .from) (l .n) (l .fresh) (l .inv) (omega arith)
     (rw (c .enum-told .given .1) at (c .before .before .package-at .ensures))
 
 sub-left : tie.Need-sub-left Inv-loop μ-loop
 sub-left c = search needs
 
-unlisted-so-far-requires : tie.Need-unlisted-so-far-requires Inv-loop μ-loop
-unlisted-so-far-requires c κs = search needs
-
 take-package-requires : tie.Need-take-package-requires Inv-loop μ-loop
 take-package-requires c κs =
-    let l = c .before .before .before .before .before .before .before .loop in
+    let l = c .before .before .before .before .before .before .loop in
     (omega (arith, l .inv .few), (_, l .inv .pairs))
 
 loop-less : tie.Need-loop-less Inv-loop μ-loop
@@ -55,15 +52,15 @@ loop-less c = omega arith
 
 loop-again : tie.Need-loop-again Inv-loop μ-loop
 loop-again c =
-    let l = c .before .before .before .before .before .before .before .before .loop in
-    turn (c .before .before .before .before .before .before .before .before .before .before .before .before .before .args .b .now) (l .left) (l .from) (l .n) (l .fresh) (l .unlisted) (l .inv) _ _ _ (omega arith)
-    (rw (c .before .before .before .before .end .given .1) at (c .before .before .before .before .before .before .package-at .ensures))
-    (c .take-package .result) (c .take-package .last .0) (c .take-package .ensures .0) (c .take-package .ensures .1) _ (c .before .before .unlisted-so-far .ensures)
+    let l = c .before .before .before .before .before .before .before .loop in
+    turn (c .before .before .before .before .before .before .before .before .before .before .before .before .args .b .now) _ (l .left) (l .from) (l .n) (l .fresh) (l .inv) _ _ _ (omega arith)
+    (rw (c .before .before .before .end .given .1) at (c .before .before .before .before .before .package-at .ensures))
+    (c .take-package .result) (c .take-package .last .0) (c .take-package .ensures .0) (c .take-package .ensures .1)
 
 returns-3 : tie.Need-returns-3 Inv-loop μ-loop
 returns-3 c =
     let l = c .before .loop in
-    all-read (c .before .before .before .before .before .before .args .b .now) (l .left) (l .from) (l .n) (l .fresh) (l .unlisted) (l .inv) (omega arith)
+    all-read (c .before .before .before .before .before .before .args .b .now) _ (l .left) (l .from) (l .n) (l .fresh) (l .inv) (omega arith)
 
 pub packages-of-spec : {M : Type 1} → statement M
-packages-of-spec = tie.close (tie.spec Inv-loop μ-loop returns shared-slice-read-wide wide-requires loop-holds package-at-requires enum-known-end enum-told returns-2 sub-left unlisted-so-far-requires take-package-requires loop-less loop-again returns-3)
+packages-of-spec = tie.close (tie.spec Inv-loop μ-loop returns shared-slice-read-wide wide-requires loop-holds package-at-requires enum-known-end enum-told returns-2 sub-left take-package-requires loop-less loop-again returns-3)
