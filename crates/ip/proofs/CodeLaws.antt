@@ -1,7 +1,7 @@
 -- Where the code meets the definitions: the turns of the loop, a field that is written, and what is worked out in a part of an output.
 use Prim.Native.Nat.{ℕ, zero, suc, _+_, _-_, _*_, _/_, _%_, _≤_, _<_}
 use mathlib.Core.Path.{_≡_, refl, sym, ap, ap₂, subst, _∙_}
-use mathlib.Core.Bool.{true, false}
+use mathlib.Core.Bool.{Bool, true, false, cond, _&&_}
 use mathlib.Core.List.{[], _∷_, _++_, append-assoc}
 use native.Mathlib.Nat.{add-zero, sub-zero, div-eq-of-lt, mod-eq-of-lt}
 use native.Mathlib.Omega.{arith}
@@ -15,9 +15,9 @@ use Rattle.meaning.proofs.Writes.{wrote-is, is-wrote}
 use Rattle.octets.proofs.ByteLaws.{rest-of}
 use Rattle.meaning.specs.Checksums.{onesSum, checksum, nonZero}
 use Rattle.meaning.proofs.ChecksumLaws.{words, folded, sum-is, words-append, words-put}
-use Rattle.meaning.proofs.FieldLaws.{with16-parts, with16-length}
+use Rattle.meaning.proofs.FieldLaws.{with16-parts, with16-length, read-behind}
 use Rattle.meaning.proofs.ReceiverLaws.{header-length, pseudo4-length, pseudo6-length}
-use Rattle.ip.specs.Words.{udpBy}
+use Rattle.ip.specs.Words.{udpBy, udpOrNone}
 use Rattle.meaning.proofs.AfreshLaws.{afresh-length}
 use Rattle.meaning.specs.Ip.{headerLength, pseudo4, pseudo6, addresses4, addresses6, udpLengthAfresh, headerAfresh, udpAfresh, udpChecksum, afresh4, afresh6, afresh, plain4, plain6, plainIp}
 
@@ -92,6 +92,15 @@ pub udp-steps : (h p w x c : ℕ) (s t u v : Bytes) → t ≡ udpLengthAfresh h 
 unfolding udpBy
 udp-steps h p w x c s t u v e f g i j k = cc (rest-of u h)
 
+-- the two ways of the code, by what it asked
+pub none-stays : (b : Bool) (p h : ℕ) (s t : Bytes) (r : Bool) → r ≡ (b && eqb (udpChecksum h s) 0) → r ≡ true → t ≡ udpLengthAfresh h s → t ≡ udpOrNone b p h s
+unfolding udpOrNone
+none-stays b p h s t r e f g = rw (sym e ∙ f) g
+
+pub summed : (b : Bool) (p h : ℕ) (s t : Bytes) (r : Bool) → r ≡ (b && eqb (udpChecksum h s) 0) → r ≡ false → t ≡ udpBy p h s → t ≡ udpOrNone b p h s
+unfolding udpOrNone
+summed b p h s t r e f g = rw (sym e ∙ f) g
+
 pseudo6-words : (s : Bytes) → 40 ≤ length s → length s ≤ 65575 → words (pseudo6 s) ≡ words (addresses6 s) + (17 + (length s - 40))
 unfolding pseudo6 put32 words
 pseudo6-words s l m =
@@ -107,25 +116,31 @@ pseudo6-words s l m =
     swap : (n : ℕ) → 0 + (n + 17) ≡ 17 + n
     swap n = omega arith
 
-pub steps-none : (h c : ℕ) (s t u : Bytes) → h ≡ headerLength s → c ≡ be16At s (h + 6) → c ≡ 0 → t ≡ headerAfresh h s → u ≡ udpLengthAfresh h t → u ≡ afresh4 s
-unfolding afresh4
-steps-none h c s t u e f z g i =
-    let b : eqb (udpChecksum (headerLength s) s) 0 ≡ true = eq-eqb _ 0 (ap (λ (k : ℕ). be16At s (k + 6)) (sym e) ∙ sym f ∙ z) in
-    rw b (i ∙ ap (udpLengthAfresh h) g ∙ ap (λ (k : ℕ). udpLengthAfresh k (headerAfresh k s)) e)
+-- working out the header leaves what stands behind it
+header-behind : (h j : ℕ) (s : Bytes) → 12 ≤ j → be16At (headerAfresh h s) j ≡ be16At s j
+unfolding headerAfresh
+header-behind h j s l =
+    let t : Bytes = with16 2 (length s) s in
+    let u : Bytes = with16 10 0 t in
+    read-behind 10 (checksum (take h u)) u j l ∙ read-behind 10 0 t j l ∙ read-behind 2 (length s) s j (omega arith)
 
-pub steps-4 : (h c p : ℕ) (s t u : Bytes) → h ≡ headerLength s → c ≡ be16At s (h + 6) → (c ≡ 0 → ⊥) → t ≡ headerAfresh h s → 20 ≤ length s → length s ≤ 65535
-    → p ≡ words (take 8 (drop 12 t)) + (17 + (length t - h)) → u ≡ udpBy p h t → u ≡ afresh4 s
-unfolding afresh4
-steps-4 h c p s t u e f z g l m q i =
-    let b : eqb (udpChecksum (headerLength s) s) 0 ≡ false = ne-eqb _ 0 (λ k. z (f ∙ ap (λ (k : ℕ). be16At s (k + 6)) e ∙ k)) in
+pub steps-4 : (h p : ℕ) (s t u : Bytes) → h ≡ headerLength s → t ≡ headerAfresh h s → 20 ≤ h → h + 8 ≤ length s → length s ≤ 65535
+    → p ≡ words (take 8 (drop 12 t)) + (17 + (length t - h)) → u ≡ udpOrNone true p h t → u ≡ afresh4 s
+unfolding afresh4 udpOrNone
+steps-4 h p s t u e g l r m q i =
     let n : length t ≡ length s = ap length g ∙ header-length h s in
+    let c : udpChecksum h t ≡ udpChecksum h s = ap (λ (x : Bytes). udpChecksum h x) g ∙ header-behind h (h + 6) s (omega arith) in
     let w : udpAfresh (pseudo4 h t) h t ≡ udpBy p h t =
     udp-by (pseudo4 h t) 6 h t (pseudo4-length h t (omega arith)) ∙ ap (λ (x : ℕ). udpBy x h t) (pseudo4-words h t (omega arith) (omega arith) ∙ sym q) in
-    rw b (i ∙ sym w ∙ ap (λ (x : Bytes). udpAfresh (pseudo4 h x) h x) g ∙ ap (λ (k : ℕ). udpAfresh (pseudo4 k (headerAfresh k s)) k (headerAfresh k s)) e)
+    i ∙ ap₂ (λ (k : ℕ) (x : Bytes). cond (eqb k 0) (udpLengthAfresh h t) x) c (sym w)
+    ∙ ap (λ (x : Bytes). cond (eqb (udpChecksum h s) 0) (udpLengthAfresh h x) (udpAfresh (pseudo4 h x) h x)) g ∙ ap (λ (k : ℕ). by k) e
+  where
+    by : ℕ → Bytes
+    by k = cond (eqb (udpChecksum k s) 0) (udpLengthAfresh k (headerAfresh k s)) (udpAfresh (pseudo4 k (headerAfresh k s)) k (headerAfresh k s))
 
 pub steps-6 : (p : ℕ) (s t u : Bytes) → t ≡ with16 4 (length s - 40) s → 48 ≤ length s → length s ≤ 65575
-    → p ≡ words (take 32 (drop 8 t)) + (17 + (length t - 40)) → u ≡ udpBy p 40 t → u ≡ afresh6 s
-unfolding afresh6
+    → p ≡ words (take 32 (drop 8 t)) + (17 + (length t - 40)) → u ≡ udpOrNone false p 40 t → u ≡ afresh6 s
+unfolding afresh6 udpOrNone
 steps-6 p s t u g l m q i =
     let n : length t ≡ length s = ap length g ∙ with16-length 4 (length s - 40) s in
     let w : udpAfresh (pseudo6 t) 40 t ≡ udpBy p 40 t =

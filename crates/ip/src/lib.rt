@@ -2,13 +2,15 @@
 // said in Ip.antt and Checksums.antt of `meaning`.
 ghost use mathlib.Core.Path.{_≡_};
 ghost use Prim.Native.Nat.{_+_, _-_, _*_, _≤_, _<_};
+ghost use mathlib.Core.Bool.{_&&_};
 ghost use lib.ListN.{length, take, drop};
+ghost use lib.Dec.{eqb};
 ghost use Rattle.meaning.specs.Bytes.{with16};
 ghost use Rattle.meaning.specs.Writing.{Wrote};
 ghost use Rattle.meaning.specs.Checksums.{onesSum, nonZero};
-ghost use Rattle.meaning.specs.Ip.{headerLength, isUdp, plain4, plain6, plainIp, headerAfresh, udpLengthAfresh, afresh4, afresh6, afresh};
+ghost use Rattle.meaning.specs.Ip.{headerLength, isUdp, plain4, plain6, plainIp, udpChecksum, headerAfresh, udpLengthAfresh, afresh4, afresh6, afresh};
 ghost use Rattle.meaning.proofs.ChecksumLaws.{words, folded};
-ghost use Rattle.ip.specs.Words.{udpBy};
+ghost use Rattle.ip.specs.Words.{udpBy, udpOrNone};
 ghost use Rattle.ip.specs.Room.{Room4, Room6, Room};
 use octets::be16;
 use octets::put16;
@@ -104,6 +106,29 @@ fn udp_afresh(s: &mut [u8], h: usize, pseudo: usize)
     set16(s, h + 6, c);
 }
 
+// Whether UDP has no checksum: it is optional, and zero.
+fn no_checksum(s: &[u8], h: usize, optional: bool) -> bool
+    requires { ⌜ h + 8 ≤ length (now s) ⌝ }
+    ensures { λ r. ⌜ r ≡ (optional && eqb (udpChecksum h (now (s .entry))) 0) ⌝ }
+{
+    if !optional {
+        return false;
+    }
+    be16(s, h + 6) == 0
+}
+
+// UDP afresh, but where it has no checksum it gets none.
+fn udp_or_none(s: &mut [u8], h: usize, pseudo: usize, optional: bool)
+    requires { ⌜ (h + 8 ≤ length (now s)) × (length (now s) ≤ 65575) × (pseudo ≤ 2097152) ⌝ }
+    ensures { λ _. ⌜ now (s .exit) ≡ udpOrNone optional pseudo h (now (s .entry)) ⌝ }
+{
+    if no_checksum(s, h, optional) {
+        udp_length_afresh(s, h);
+        return;
+    }
+    udp_afresh(s, h, pseudo);
+}
+
 // The words of the pseudo header: the addresses, which are from `a` to `e`, the protocol, and the length of what stands behind `h` bytes.
 fn pseudo(s: &[u8], a: usize, e: usize, h: usize) -> usize
     requires { ⌜ (a ≤ e) × (e ≤ a + 32) × (e ≤ length (now s)) × (h ≤ length (now s)) × (length (now s) ≤ 65575) ⌝ }
@@ -121,22 +146,18 @@ fn header_length(s: &[u8]) -> usize
     (s[0] % 16) as usize * 4
 }
 
-// A zero UDP checksum stays zero in IPv4.
+// In IPv4 the UDP checksum is optional.
 fn afresh4(s: &mut [u8])
     requires { ⌜ Room4 (now s) ⌝ }
     ensures { λ _. ⌜ now (s .exit) ≡ afresh4 (now (s .entry)) ⌝ }
 {
     let h = header_length(s);
-    let c = be16(s, h + 6);
     header_afresh(s, h);
-    if c == 0 {
-        udp_length_afresh(s, h);
-        return;
-    }
     let p = pseudo(s, 12, 20, h);
-    udp_afresh(s, h, p);
+    udp_or_none(s, h, p, true);
 }
 
+// In IPv6 it is not.
 fn afresh6(s: &mut [u8])
     requires { ⌜ Room6 (now s) ⌝ }
     ensures { λ _. ⌜ now (s .exit) ≡ afresh6 (now (s .entry)) ⌝ }
@@ -144,7 +165,7 @@ fn afresh6(s: &mut [u8])
     let n = s.len() - 40;
     set16(s, 4, n);
     let p = pseudo(s, 8, 40, 40);
-    udp_afresh(s, 40, p);
+    udp_or_none(s, 40, p, false);
 }
 
 // ---- which TLV payload may be rewritten
