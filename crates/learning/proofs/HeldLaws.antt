@@ -17,7 +17,7 @@ use Rattle.meaning.specs.Tables.{Entry, Mpt, entry, mptFront, mpt, kindNumber}
 use Rattle.meaning.specs.Learn.{Listed, assetNumbers, over, placeFor, listed}
 use Rattle.meaning.specs.Record.{pairOf}
 use Rattle.meaning.specs.declared.Part.{Part}
-use Rattle.meaning.proofs.ListLaws.{clash, and-both}
+use Rattle.meaning.proofs.ListLaws.{clash, and-both, and-true, and-false}
 use Rattle.meaning.proofs.SoundnessKept.{putHead, put-is}
 use Rattle.meaning.proofs.SpareLaws.{numbers-length}
 use Rattle.meaning.proofs.Reading.{many-none, many-next}
@@ -80,14 +80,6 @@ abbrev entriesHeld : Out (List Entry) → ℕ → List ℕ → Bool
 entriesHeld none n ns = false
 entriesHeld (some (es, more)) n ns = sameList (some n) (listed es) ns
 
-and-false : (a : Bool) → false ≡ (a && false)
-and-false true = refl
-and-false false = refl
-
-and-yes : (a : Bool) → (a && true) ≡ a
-and-yes true = refl
-and-yes false = refl
-
 and-moved : (w x y z : Bool) → (w && (x && (y && z))) ≡ ((x && y) && (w && z))
 and-moved w true true z = refl
 and-moved true true false z = refl
@@ -117,7 +109,7 @@ module _ (x : Entry) where
     entry-beside : (o : Out (List Entry)) (n a c : ℕ) (ns : List ℕ)
         → entriesHeld (one o) (suc n) (a ∷ c ∷ ns) ≡ ((eqb a p && eqb c (kindNumber (x .part))) && entriesHeld o n ns)
     unfolding listed sameNumbers assetNumbers
-    entry-beside none n a c ns = and-false (eqb a p && eqb c (kindNumber (x .part)))
+    entry-beside none n a c ns = sym (and-false (eqb a p && eqb c (kindNumber (x .part))))
     entry-beside (some (es, more)) n a c ns =
         let l : ℕ = length (listed es) in
         let e : 2 * suc l ≡ suc (suc (2 * l)) = omega arith in
@@ -156,7 +148,7 @@ module _ (held : Bool) (b : Bytes) (map-room : List ℕ) (from left at rest : �
 
   pub hold-end : left ≡ 0 → held ≡ eqb rest 0
   unfolding many sameNumbers listed assetNumbers
-  hold-end z = i .same ∙ rw z (and-yes (eqb rest 0))
+  hold-end z = i .same ∙ rw z (and-true (eqb rest 0))
 
   module _ (h : 0 < left) (e : ℕ) (part : Part) where
     abbrev found : Option ℕ → Entry

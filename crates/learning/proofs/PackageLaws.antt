@@ -23,7 +23,7 @@ use Rattle.tables.specs.Answers.{nameOf, carrierOf, PackageIs}
 use Rattle.tables.specs.declared.locations.Carrier.{Carrier}
 use Rattle.tables.specs.declared.packages.Named.{Named}
 use Rattle.tables.specs.declared.packages.Package as read
-use Rattle.meaning.proofs.ListLaws.{clash, and-both, and-true, or-right}
+use Rattle.meaning.proofs.ListLaws.{clash, and-both, both-true, or-right}
 use Rattle.meaning.proofs.SoundnessKept.{plt-holds}
 use Rattle.learning.specs.Kept.{pairsIn, Pairs, KeptPackages}
 use Rattle.learning.specs.News.{also, changeNews, unlistedNews, unlisted, listsService, pltNews, sameNumbers, samePairs}
@@ -256,7 +256,7 @@ module _ (b : Bytes) (e : Extent) (ps : List (ℕ × ℕ)) (xs : List ℕ) (k : 
             let count : e .«package_count» ≡ n = k .pairs .count ∙ ap length same ∙ sym (r .3 .count) in
             let are : fresh ≡ xs = r .3 .are ∙ ap (λ (z : List (ℕ × ℕ)). slots 255 (map packPair z)) (sym same) ∙ sym (k .pairs .are) in
             let t : sameNumbers (take n fresh) (take n xs) ≡ true = rw are (same-refl (take n xs)) in
-            let z : known ≡ true = and-true (e .seen) (eqb (e .«package_count») n && sameNumbers (take n fresh) (take n xs)) (u .0) (and-true (eqb (e .«package_count») n) (sameNumbers (take n fresh) (take n xs)) (eq-eqb (e .«package_count») n count) t) in
+            let z : known ≡ true = both-true (e .seen) (eqb (e .«package_count») n && sameNumbers (take n fresh) (take n xs)) (u .0) (both-true (eqb (e .«package_count») n) (sameNumbers (take n fresh) (take n xs)) (eq-eqb (e .«package_count») n count) t) in
             clash (cc (z, h))
 
     -- they are not

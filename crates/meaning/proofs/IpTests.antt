@@ -1,18 +1,14 @@
 -- The tests of the headers: one rule for each answer of the code.
 use Prim.Native.Nat.{ℕ, _+_, _-_, _≤_, _<_}
 use mathlib.Core.Path.{_≡_, refl}
-use mathlib.Core.Bool.{Bool, true, false, _&&_}
+use mathlib.Core.Bool.{Bool, true, false}
 use native.Mathlib.Omega.{arith}
 use lib.ListN.{length}
 use lib.Dec.{leb, eqb}
 use borrow.Author.Tests.{le-leb, lt-leb, leb-true, leb-false, eq-eqb, ne-eqb}
 use Rattle.meaning.specs.Bytes.{Bytes}
 use Rattle.meaning.specs.Ip.{version, headerLength, totalLength, fragmented, protocol, payloadLength, nextHeader, udpLength, isUdp, plain4, plain6}
-
--- one false test is enough, wherever it stands
-and-false : (a : Bool) → (a && false) ≡ false
-and-false true = refl
-and-false false = refl
+use Rattle.meaning.proofs.ListLaws.{and-false}
 
 -- ---- UDP
 

@@ -18,9 +18,29 @@ pub and-both : (a b : Bool) → (a && b) ≡ true → (a ≡ true) × (b ≡ tru
 and-both true b e = (refl, e)
 and-both false b e = clash (cc)
 
-pub and-true : (a b : Bool) → a ≡ true → b ≡ true → (a && b) ≡ true
-and-true true b ea eb = eb
-and-true false b ea eb = ea
+pub both-true : (a b : Bool) → a ≡ true → b ≡ true → (a && b) ≡ true
+both-true true b ea eb = eb
+both-true false b ea eb = ea
+
+pub or-true : (a : Bool) → (a || true) ≡ true
+or-true true = refl
+or-true false = refl
+
+pub or-false : (a : Bool) → (a || false) ≡ a
+or-false true = refl
+or-false false = refl
+
+pub and-true : (a : Bool) → (a && true) ≡ a
+and-true true = refl
+and-true false = refl
+
+pub and-false : (a : Bool) → (a && false) ≡ false
+and-false true = refl
+and-false false = refl
+
+pub or-assoc : (a b c : Bool) → ((a || b) || c) ≡ (a || (b || c))
+or-assoc true b c = refl
+or-assoc false b c = refl
 
 pub or-either : (a b : Bool) → (a || b) ≡ true → (a ≡ true) ⊎ (b ≡ true)
 or-either true b e = inl refl
@@ -84,7 +104,7 @@ module _ {A : Type 0} where
   all-under p q h [] e = refl
   all-under p q h (x ∷ xs) e =
       let b = and-both (p x) (all p xs) e in
-      and-true (q x) (all q xs) (h x (b .0)) (all-under p q h xs (b .1))
+      both-true (q x) (all q xs) (h x (b .0)) (all-under p q h xs (b .1))
 
   pub any-under : (p q : A → Bool) → Under p q → (xs : List A) → any p xs ≡ true → any q xs ≡ true
   unfolding any

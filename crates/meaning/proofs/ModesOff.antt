@@ -23,6 +23,7 @@ use Rattle.meaning.specs.Series.{Lent, callRefusal, Series, seriesOn, se
 use Rattle.meaning.specs.declared.Limits.{Limits}
 use Rattle.meaning.specs.declared.Options.{Options}
 use Rattle.meaning.specs.declared.Modes.{Modes}
+use Rattle.meaning.proofs.ListLaws.{or-false}
 use Rattle.meaning.proofs.PacketLaws.{rewritable-type}
 
 -- ---- as 01 has it
@@ -67,10 +68,6 @@ unfolding packetBytes afresh
 bytes-same p m y e =
     let rest : Bytes = take (length p - length (m .payload) - 4) (drop 4 p) ++ y in
     ap (λ (t : ℕ). take 2 p ++ (put16 (length rest) ++ cond (eqb t 0x01) (afresh4 rest) (cond (eqb t 0x02) (afresh6 rest) rest))) (eqb-true (getD p 1 0) 0x03 e)
-
-or-false : (b : Bool) → (b || false) ≡ b
-or-false true = refl
-or-false false = refl
 
 by-header : (M : Modes) (p : Bytes) (m : Mmtp) → (M .«plain_ip» && plainIp (getD p 1 0) (drop 4 p)) ≡ false → mayRewrite M p m ≡ m .rewritable
 unfolding mayRewrite

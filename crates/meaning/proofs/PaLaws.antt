@@ -18,7 +18,7 @@ use Rattle.meaning.specs.Tables.{Table, table, PaHead, paHead, paFrom, p
 use Rattle.meaning.specs.Narrow.{newBody, tableBytes, newTable, tableAfter, tableChanges, relength, paBytes, paFor, narrowPa}
 use Rattle.meaning.specs.Less.{Fewer}
 use Rattle.meaning.specs.declared.Options.{Options}
-use Rattle.meaning.proofs.ListLaws.{clash, and-both, and-true, or-either, or-left, or-right, or-neither}
+use Rattle.meaning.proofs.ListLaws.{clash, and-both, both-true, or-either, or-left, or-right, or-neither}
 use Rattle.meaning.proofs.Local.{table-local, raw-local, take-front}
 use Rattle.meaning.proofs.Framed.{before, Again, AllAgain, Framed, raw-framed, many-framed, many-again, Walked, walked, walk-again}
 use Rattle.meaning.proofs.TableLaws.{Narrows, withBody, table-again, table-split, narrowAt, table-narrows, body-narrows}
@@ -335,7 +335,7 @@ module _ {o₁ o₂ : Options} (fewer : Fewer o₁ o₂) (p : ℕ) where
       both : (ltb (length (left s h r e)) 4 && any (tableChanges o₂ p) (xs s h r e)) ≡ true → (ltb (length (left s h r e)) 4 && any (tableChanges o₁ p) (xs s h r e)) ≡ true
       both q =
           let b = and-both (ltb (length (left s h r e)) 4) (any (tableChanges o₂ p) (xs s h r e)) q in
-          and-true (ltb (length (left s h r e)) 4) (any (tableChanges o₁ p) (xs s h r e)) (b .0) (any-more fewer p (xs s h r e) (tables-walked s h r e .again) (b .1))
+          both-true (ltb (length (left s h r e)) 4) (any (tableChanges o₁ p) (xs s h r e)) (b .0) (any-more fewer p (xs s h r e) (tables-walked s h r e .again) (b .1))
 
       go : (a : Bool) → (ltb (length (left s h r e)) 4 && any (tableChanges o₂ p) (xs s h r e)) ≡ a
           → let z : Option Bytes = cond a (some (paBytes h (ts₂ s h r e) (left s h r e))) none in

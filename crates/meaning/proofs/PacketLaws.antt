@@ -17,7 +17,7 @@ use Rattle.meaning.specs.Ip.{plainIp, afresh4, afresh6, afresh}
 use Rattle.meaning.specs.Narrow.{mayRewrite, packetBytes}
 use Rattle.meaning.specs.Recount.{PlainRecounted}
 use Rattle.meaning.specs.declared.Modes.{Modes}
-use Rattle.meaning.proofs.ListLaws.{clash, and-both}
+use Rattle.meaning.proofs.ListLaws.{clash, and-both, or-true}
 use Rattle.meaning.proofs.Local.{Split, mmtpHeader-local}
 use Rattle.meaning.proofs.AfreshLaws.{front-length, front-byte}
 use Rattle.meaning.proofs.IpLaws.{rewritten, headers, Rewrites, rewrites, receiver, qualifies, cut-again}
@@ -237,10 +237,6 @@ module _ (s : Bytes) (at : ℕ) (h : MmtpHeader) (m : Mmtp) (inside : at ≤ len
 
       rest : (y : Bytes) → drop at (rewritten t s body y) ≡ drop at (take body s ++ y)
       rest y = ap (λ (i : ℕ). drop i (rewritten t s body y)) placed ∙ r .rest y ∙ ap (λ (i : ℕ). drop i (take body s ++ y)) (sym placed)
-
-      or-true : (b : Bool) → (b || true) ≡ true
-      or-true true = refl
-      or-true false = refl
 
 -- what was read of a packet: where its MMTP begins, and the header
 pub record Opened (t : ℕ) (s : Bytes) (m : Mmtp) : Type 0 where

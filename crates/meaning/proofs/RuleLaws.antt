@@ -17,13 +17,13 @@ use Rattle.meaning.specs.Less.{Fewer}
 use Rattle.meaning.specs.declared.Part.{Part}
 use Rattle.meaning.specs.declared.Service.{Service}
 use Rattle.meaning.specs.declared.Options.{Options}
-use Rattle.meaning.proofs.ListLaws.{and-both, and-true, or-either, or-left, or-right, contra, any-under}
+use Rattle.meaning.proofs.ListLaws.{and-both, both-true, or-either, or-left, or-right, contra, any-under}
 use Rattle.meaning.proofs.TableLaws.{wanted-under}
 
 -- ---- parts of a conjunction and a disjunction, one by one
 
 and-under : (a b c d : Bool) → (a ≡ true → c ≡ true) → (b ≡ true → d ≡ true) → (a && b) ≡ true → (c && d) ≡ true
-and-under a b c d f g e = let h = and-both a b e in and-true c d (f (h .0)) (g (h .1))
+and-under a b c d f g e = let h = and-both a b e in both-true c d (f (h .0)) (g (h .1))
 
 or-under : (a b c d : Bool) → (a ≡ true → c ≡ true) → (b ≡ true → d ≡ true) → (a || b) ≡ true → (c || d) ≡ true
 or-under a b c d f g e = elim (or-either a b e) [ inl h ↦ or-left c d (f h) | inr h ↦ or-right c d (g h) ]

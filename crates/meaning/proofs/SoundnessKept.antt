@@ -20,7 +20,7 @@ use Rattle.meaning.specs.Tables.{elsewhere, locationBody, location, Entr
 use Rattle.meaning.specs.Learn.{Fragment, Known, Listed, assetNumbers, over, learnt, placeFor, listAsset, listed, withList, mptFrom, learnMpt, insertPackage, addPackage, packagesIn, pltFrom, learnPlt, learnTable, learnTables, paTables, withData, learnMessage, learnMessages, withFragments, isOf, without, fragmentBytes, fragmentOf, grown, growIn, holdFirst, fits, middleOf, middle, joined, lastFor, last, byIndicator, observe, learnFrom, learn}
 use Rattle.meaning.specs.Soundness.{rising, distinct, firsts, identifiers, SecondsBelow, SmallFlags, HoldsPackages, HoldsMaps, HoldsFragments, Holds}
 use Rattle.meaning.specs.declared.Limits.{Limits}
-use Rattle.meaning.proofs.ListLaws.{and-both, and-true, or-neither, keep-length}
+use Rattle.meaning.proofs.ListLaws.{and-both, both-true, or-neither, keep-length}
 use Rattle.meaning.proofs.Framed.{before, many-framed}
 use Rattle.meaning.proofs.TableLaws.{u16-below, u8-split, mpt-split, package-framed}
 
@@ -210,7 +210,7 @@ put-once p n (m ∷ ms) d = go (eqb (m .0) p) refl (and-both (not (any (eqb (m .
         → (distinct (firsts ms) ≡ true → distinct (firsts (putHead p n ms)) ≡ true) → distinct (firsts (cond b ((p, n) ∷ ms) (m ∷ putHead p n ms))) ≡ true
     go true eb h ih = subst (λ (z : ℕ). (not (any (eqb z) (firsts ms)) && distinct (firsts ms)) ≡ true) (eqb-true _ _ eb) d
     go false eb h ih =
-        and-true (not (any (eqb (m .0)) (firsts (putHead p n ms)))) (distinct (firsts (putHead p n ms)))
+        both-true (not (any (eqb (m .0)) (firsts (putHead p n ms)))) (distinct (firsts (putHead p n ms)))
         (ap not (put-any (m .0) p n ms eb) ∙ h .0) (ih (h .1))
 
 -- no more assets are listed than entries

@@ -19,7 +19,7 @@ use Rattle.meaning.specs.Tables.{Table, table}
 use Rattle.meaning.specs.Narrow.{newBody, tableBytes, newTable, tableAfter, tableChanges, relength, paBytes}
 use Rattle.meaning.proofs.Statements.{same-wishes}
 use Rattle.meaning.specs.declared.Options.{Options}
-use Rattle.meaning.proofs.ListLaws.{clash}
+use Rattle.meaning.proofs.ListLaws.{clash, or-false, or-assoc}
 use Rattle.meaning.proofs.Local.{table-local}
 use Rattle.meaning.proofs.Framed.{raw-framed, walk-none}
 use Rattle.meaning.proofs.PaLaws.{Fours, head-split, relength-length, relength-fours, after-shorter}
@@ -96,17 +96,13 @@ change-start : (o : Options) (p : ℕ) (r : Bytes) → tablesChange o p r ≡ ch
 unfolding tablesChange changeFrom
 change-start o p r = refl
 
-or-assoc : (a b c : Bool) → (a || (b || c)) ≡ ((a || b) || c)
-or-assoc true b c = refl
-or-assoc false b c = refl
-
 change-turn : (o : Options) (p : ℕ) (changed : Bool) (s : Bytes) (at e : ℕ) (t : TableIs (table (drop at s)) s at (To e)) (now-changed : Bool)
     → now-changed ≡ (changed || isSome (newBody o p (getD s at 0) (take (e - at - 4) (drop (at + 4) s)))) → changeFrom o p changed (drop at s) ≡ changeFrom o p now-changed (drop e s)
 unfolding changeFrom any
 change-turn o p changed s at e t n q =
     rw (walk-next s at e t)
     (ap (λ (b : Bool). ltb (length (tablesIn (drop e s) .left)) 4 && b)
-    (or-assoc changed _ _ ∙ ap (λ (b : Bool). b || any (tableChanges o p) (tablesIn (drop e s) .found)) (ap (λ (b : Bool). changed || b) (changes-own s at e t o p) ∙ sym q)))
+    (sym (or-assoc changed _ _) ∙ ap (λ (b : Bool). b || any (tableChanges o p) (tablesIn (drop e s) .found)) (ap (λ (b : Bool). changed || b) (changes-own s at e t o p) ∙ sym q)))
 
 -- found now, or found before
 change-new : (o : Options) (p : ℕ) (s : Bytes) (at e : ℕ) (t : TableIs (table (drop at s)) s at (To e)) (was found : Bool) (change : BodyChange) → was ≡ false
@@ -122,10 +118,6 @@ change-kept o p s at e t was f = change-turn o p was s at e t was (rw f refl)
 change-cut : (o : Options) (p : ℕ) (changed : Bool) (r : Bytes) → table r ≡ none → 4 ≤ length r → changeFrom o p changed r ≡ false
 unfolding changeFrom
 change-cut o p changed r e h = rw (table-stop r e, le-ltb (length r) 4 h)
-
-or-false : (b : Bool) → (b || false) ≡ b
-or-false true = refl
-or-false false = refl
 
 change-done : (o : Options) (p : ℕ) (changed : Bool) (r : Bytes) → table r ≡ none → length r < 4 → changeFrom o p changed r ≡ changed
 unfolding changeFrom any

@@ -15,6 +15,7 @@ use Rattle.meaning.specs.Messages.{Message, indicator, aggregated, longLengths,
 use Rattle.meaning.specs.Tables.{Mpt, mpt, Package, plt, Table, isPlt, isMpt, pa}
 use Rattle.meaning.specs.Learn.{Fragment, Known, learnt, listed, placeFor, withList, mptFrom, learnMpt, pltFrom, learnPlt, learnTable, learnTables, paTables, withData, learnMessage, learnMessages, withFragments, without, fragmentOf, growIn, holdFirst, middle, joined, last, byIndicator, observe}
 use Rattle.meaning.specs.declared.Limits.{Limits}
+use Rattle.meaning.proofs.ListLaws.{or-true, or-false}
 use Rattle.fragments.specs.Fragments.{KeptFragments, GrewAt, GaveUp}
 use Rattle.fragments.proofs.FragmentLaws.{without-grown}
 use Rattle.learning.specs.Kept.{Keeps}
@@ -22,7 +23,7 @@ use Rattle.learning.specs.News.{noNews, also}
 use Rattle.learning.specs.Learnt.{withNews}
 use Rattle.learning.specs.declared.Extent.{Extent}
 use Rattle.learning.specs.declared.News.{News}
-use Rattle.learning.proofs.AlsoLaws.{or-false, or-true, also-none}
+use Rattle.learning.proofs.AlsoLaws.{also-none}
 use Rattle.observing.specs.News.{newsMessages, newsLast, newsBy, anything, news}
 use Rattle.observing.specs.Steps.{After}
 use Rattle.observing.specs.Observed.{Holding, Observed, withCount, wholeStep, wholeNew, lastStep, lastNew, byStep, byNew}
@@ -115,11 +116,11 @@ fragments-observed T k fs e n c p m o fragment-heads bodies h f =
 -- what is not read may be anything
 pub also-anything : (n : News) → record { changed = n .changed; caption = true; carousel = true; other = true; unlisted = true } ≡ also n anything
 also-anything n i = record {
-  changed = or-false (n .changed) i;
-  caption = or-true (n .caption) i;
-  carousel = or-true (n .carousel) i;
-  other = or-true (n .other) i;
-  unlisted = or-true (n .unlisted) i;
+  changed = sym (or-false (n .changed)) i;
+  caption = sym (or-true (n .caption)) i;
+  carousel = sym (or-true (n .carousel)) i;
+  other = sym (or-true (n .other)) i;
+  unlisted = sym (or-true (n .unlisted)) i;
 }
 
 -- nothing

@@ -20,6 +20,7 @@ use Rattle.meaning.specs.declared.Limits.{Limits}
 use Rattle.meaning.specs.declared.Options.{Options}
 use Rattle.meaning.specs.declared.Modes.{Modes}
 use Rattle.meaning.specs.declared.Counts.{Counts}
+use Rattle.meaning.proofs.ListLaws.{or-false}
 use Rattle.meaning.proofs.Writes.{wrote-none}
 use Rattle.meaning.proofs.Statements.{packet-shorter}
 use Rattle.tlv.specs.Answers.{PartIs}
@@ -29,7 +30,6 @@ use Rattle.learning.specs.News.{noNews}
 use Rattle.learning.specs.Learnt.{withNews}
 use Rattle.learning.specs.declared.Extent.{Extent}
 use Rattle.learning.specs.declared.News.{News}
-use Rattle.learning.proofs.AlsoLaws.{or-false}
 use Rattle.observing.specs.News.{news}
 use Rattle.observing.specs.Observed.{Holding, Observed}
 use Rattle.observing.proofs.NewsLaws.{still, drops-still, ready-still}
@@ -122,7 +122,7 @@ module _ (L : Limits) (M : Modes) (o : Options) (k : Known) {p payload : Bytes} 
   learns-as = ap (λ (m : Option Mmtp). learnFrom L m k) (h .read)
 
   withheld-as : (j : Known) → withheld o j (mmtpOf p) ≡ drops o j id
-  withheld-as j = ap (withheld o j) (h .read) ∙ sym (or-false (drops o j id))
+  withheld-as j = ap (withheld o j) (h .read) ∙ or-false (drops o j id)
 
   passes-as : pass L M o k (p ∷ []) ≡ passedOne
   unfolding pass

@@ -25,7 +25,7 @@ use Rattle.meaning.specs.declared.Limits.{Limits}
 use Rattle.meaning.specs.declared.Options.{Options}
 use Rattle.meaning.specs.declared.Modes.{Modes}
 use Rattle.meaning.proofs.SoundnessKept.{insert-length}
-use Rattle.meaning.proofs.ListLaws.{clash, and-both, and-true, or-neither}
+use Rattle.meaning.proofs.ListLaws.{clash, and-both, both-true, and-false, or-right, or-neither}
 use Rattle.learning.specs.News.{noNews, also, changeNews, kindNews, kindsIn, unlisted, listsService, pltNews, listNew}
 use Rattle.learning.specs.declared.News.{News}
 use Rattle.observing.specs.News.{mptNew, newsTable, newsTables, newsMessage, newsMessages, newsBy, anything, news}
@@ -61,14 +61,10 @@ unfolding packagesIn
 stays-listed s [] ps h = h
 stays-listed s (x ∷ xs) ps h = stays-listed s xs (addPackage (serviceOf (x .name)) (x .carrier) ps) (go (serviceOf (x .name)) (x .carrier))
   where
-    or-late : (a b : Bool) → b ≡ true → (a || b) ≡ true
-    or-late true b e = refl
-    or-late false b e = e
-
     go : (v w : Option ℕ) → listsService s (addPackage v w ps) ≡ true
     go none w = h
     go (some t) none = h
-    go (some t) (some c) = insert-lists s t c ps ∙ or-late (eqb t s) (listsService s ps) h
+    go (some t) (some c) = insert-lists s t c ps ∙ or-right (eqb t s) (listsService s ps) h
 
 -- no more are listed than there are
 listed-few : (xs : List Package) (ps : List (ℕ × ℕ)) → length (packagesIn xs ps) ≤ length ps + length xs
@@ -245,7 +241,7 @@ module _ (o : Options) (q : ℕ) (ps : List (ℕ × ℕ)) where
   entries-wanted [] h = refl
   entries-wanted (e ∷ es) h =
       let b = wanted-also (kindNews (e .part)) (kindsIn es) h in
-      and-true (wanted o (e .part)) (all (wantedEntry o) es) (kind-wanted (e .part) (b .0)) (entries-wanted es (b .1))
+      both-true (wanted o (e .part)) (all (wantedEntry o) es) (kind-wanted (e .part) (b .0)) (entries-wanted es (b .1))
 
   mpt-spared : (k : Known) (x : Out Mpt) → Wanted o q (mptNew q x (k .map-heads) (k .map-room)) ps → mptKeeping o x ≡ none
   mpt-spared k none h = refl
@@ -292,10 +288,6 @@ module _ (o : Options) (q : ℕ) (ps : List (ℕ × ℕ)) where
       rw (table-spared (t .0) k w (b .0)) (tables-spared ts (learnTable q (t .0) k .known) (tells-next (t .0) k w (b .0)) (b .1))
 
   -- ---- a PA message
-
-  and-false : (a : Bool) → (a && false) ≡ false
-  and-false true = refl
-  and-false false = refl
 
   pa-spared : (x : Option (PaHead × Walk (Table × Bytes))) (k : Known) → Tells k → Wanted o q (newsTables q (paTables x) k) ps → paFor o q x ≡ none
   pa-spared none k w h = refl

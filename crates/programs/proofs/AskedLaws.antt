@@ -16,6 +16,7 @@ use Rattle.meaning.specs.declared.Refusal.{Refusal}
 use Rattle.meaning.specs.declared.Refusal.the-variants.{Input, Wishes}
 use Rattle.meaning.specs.declared.Service.{Service}
 use Rattle.meaning.specs.declared.Service.the-variants.{Every, Only}
+use Rattle.meaning.proofs.ListLaws.{or-true}
 use Rattle.programs.specs.declared.asked.Asked.{Asked}
 use Rattle.programs.specs.Asked.{askedOf}
 
@@ -33,10 +34,6 @@ unfolding optionsOf
 options-with flags s x e = ap (with-service flags) e
 
 -- ---- a head
-
-or-true : (a : Bool) → (a || true) ≡ true
-or-true true = refl
-or-true false = refl
 
 refused-short : (s : Bytes) → length s < 3 → inputRefused s ≡ true
 unfolding inputRefused

@@ -14,7 +14,7 @@ use Rattle.meaning.specs.Writing.{Wrote}
 use Rattle.meaning.specs.Packets.{sizeOf, candidate, followed, stepOf, Cut, cut, hold, accept}
 use Rattle.meaning.specs.declared.Step.{Step}
 use Rattle.meaning.specs.declared.Step.the-variants.{Packet, Skip, Keep}
-use Rattle.meaning.proofs.ListLaws.{clash, and-both, and-true, or-left}
+use Rattle.meaning.proofs.ListLaws.{clash, and-both, both-true, or-left}
 use Rattle.meaning.proofs.CutLaws.{View, view, size-four, step-nil, cut-keep, cut-packet}
 use Rattle.tlv.proofs.Laws.{packet-here}
 use Rattle.passing.proofs.RunLaws.{ahead-none}
@@ -82,7 +82,7 @@ module _ (P : ℕ) (s : Bytes) (four : 4 ≤ length s) (starts : (candidate P s 
   own-step =
       let c : candidate P p ≡ true = taken-start P s n (size-four s) ∙ and-both (candidate P s) (followed s) starts .0 in
       let f : followed p ≡ true = ends-followed p (own-size ∙ sym own-length) in
-      packet-here P p (omega (arith, own-length, size-four s)) (and-true _ _ c f) (omega (arith, own-length, own-size)) ∙ ap Packet own-size
+      packet-here P p (omega (arith, own-length, size-four s)) (both-true _ _ c f) (omega (arith, own-length, own-size)) ∙ ap Packet own-size
 
   own-cut : cut P p ≡ accept p (hold [])
   own-cut =

@@ -17,8 +17,9 @@ use Rattle.meaning.specs.Learn.{Listed, assetsIn}
 use Rattle.meaning.specs.Rules.{listsIt}
 use Rattle.meaning.specs.declared.Part.{Part}
 use Rattle.meaning.specs.declared.Part.the-variants.{Other}
+use Rattle.meaning.proofs.ListLaws.{or-false, or-assoc, and-true, and-false}
 use Rattle.rules.specs.Changes.{Changed}
-use Rattle.rules.proofs.MemberLaws.{or-false, or-assoc, and-true, and-false, Way, changed-same, changed-none, changed-then}
+use Rattle.rules.proofs.MemberLaws.{Way, changed-same, changed-none, changed-then}
 
 -- a kind's number past the two
 pub kind-other : (n : ℕ) → (n ≡ 0 → ⊥) → (n ≡ 1 → ⊥) → kindOf n ≡ Other

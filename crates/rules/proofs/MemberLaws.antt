@@ -9,30 +9,11 @@ use lib.Dec.{eqb}
 use lib.ListN.{length, getD, replicate, length-set}
 use borrow.Author.Tests.{eqb-true, eqb-false}
 use Rattle.meaning.specs.Sets.{Words, inSet, withId, withoutId}
+use Rattle.meaning.proofs.ListLaws.{or-true, or-false, and-true, and-false, or-assoc}
 use Rattle.meaning.proofs.SetLaws.{insert-same, insert-other, remove-same, remove-other}
 use Rattle.rules.specs.Changes.{Changed, comes, goes, Inserts, Removes}
 
 -- ---- Bool
-
-pub or-true : (a : Bool) → (a || true) ≡ true
-or-true true = refl
-or-true false = refl
-
-pub or-false : (a : Bool) → (a || false) ≡ a
-or-false true = refl
-or-false false = refl
-
-pub and-true : (a : Bool) → (a && true) ≡ a
-and-true true = refl
-and-true false = refl
-
-pub and-false : (a : Bool) → (a && false) ≡ false
-and-false true = refl
-and-false false = refl
-
-pub or-assoc : (a b c : Bool) → ((a || b) || c) ≡ (a || (b || c))
-or-assoc true b c = refl
-or-assoc false b c = refl
 
 and-not-or : (a b c : Bool) → ((a && not b) && not c) ≡ (a && not (b || c))
 and-not-or true true c = refl

@@ -15,10 +15,9 @@ use Rattle.meaning.specs.Learn.{placeFor}
 use Rattle.meaning.specs.Rules.{listOf}
 use Rattle.meaning.specs.Record.{pairOf}
 use Rattle.meaning.specs.Soundness.{rising, firsts}
-use Rattle.meaning.proofs.ListLaws.{and-both, and-true, or-neither}
+use Rattle.meaning.proofs.ListLaws.{and-both, both-true, and-false, or-false, or-neither}
 use Rattle.learning.specs.Kept.{pairsIn}
 use Rattle.rules.specs.Changes.{listsAt, hasList}
-use Rattle.rules.proofs.MemberLaws.{or-false, and-false}
 use Rattle.rules.proofs.AssetRules.{any-more}
 use Rattle.rules.proofs.PackageRules.{list-found, list-none, pairs-more}
 
@@ -37,7 +36,7 @@ has-list n map-heads map-room x l =
 all-more : {A : Type 0} (f : A → Bool) (xs : List A) (x : A) → all f xs ≡ true → f x ≡ true → all f (xs ++ x ∷ []) ≡ true
 unfolding all
 all-more f [] x e h = rw h
-all-more f (y ∷ xs) x e h = let b = and-both (f y) (all f xs) e in and-true (f y) (all f (xs ++ x ∷ [])) (b .0) (all-more f xs x (b .1) h)
+all-more f (y ∷ xs) x e h = let b = and-both (f y) (all f xs) e in both-true (f y) (all f (xs ++ x ∷ [])) (b .0) (all-more f xs x (b .1) h)
 
 module _ (f : ℕ × ℕ → Bool) where
   pub all-begin : (xs : List ℕ) → all f (pairsIn 0 xs) ≡ true

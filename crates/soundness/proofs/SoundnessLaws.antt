@@ -16,8 +16,9 @@ use Rattle.meaning.specs.Sets.{Words, inSet, withId}
 use Rattle.meaning.specs.Lists.{all, any, sum}
 use Rattle.meaning.specs.Record.{pairOf}
 use Rattle.meaning.specs.Soundness.{rising, distinct}
+use Rattle.meaning.proofs.ListLaws.{and-true, and-false}
 use Rattle.meaning.proofs.SetLaws.{insert-same, insert-other}
-use Rattle.rules.proofs.MemberLaws.{and-true, and-false, empty}
+use Rattle.rules.proofs.MemberLaws.{empty}
 use Rattle.soundness.specs.Parts.{rest}
 
 -- ---- what is still to be read

@@ -17,7 +17,7 @@ use Rattle.meaning.specs.Tables.{clockRelation, locationBody, location, asset, 
 use Rattle.meaning.specs.Tables as meant
 use Rattle.meaning.specs.declared.Part.{Part}
 use Rattle.meaning.specs.declared.Part.the-variants.{Caption, Carousel, Other}
-use Rattle.meaning.proofs.ListLaws.{clash, and-both, and-true}
+use Rattle.meaning.proofs.ListLaws.{clash, and-both, both-true, and-true}
 use Rattle.meaning.proofs.Local.{asset-local}
 use Rattle.meaning.proofs.Framed.{progress}
 use Rattle.meaning.proofs.Reading.{u8-none, u8-some, u16-at, bytes-at, bytes-none, counted8-none}
@@ -147,10 +147,6 @@ four-at s at h =
     let next : (i j : ℕ) → j ≡ suc i → i < length s → drop i s ≡ getD s i 0 ∷ drop j s = λ i j e k. rw e (drop-cons s i 0 k) in
     rw (next at (at + 1) (omega arith) (omega arith), next (at + 1) (at + 2) (omega arith) (omega arith), next (at + 2) (at + 3) (omega arith) (omega arith), next (at + 3) (at + 4) (omega arith) (omega arith))
 
-and-nothing : (a : Bool) → (a && true) ≡ a
-and-nothing true = refl
-and-nothing false = refl
-
 -- the number that they make
 four-number : (s : Bytes) (at : ℕ) → ((i : ℕ) → getD s i 0 < 256)
     → be32At s at ≡ getD s at 0 * 16777216 + getD s (at + 1) 0 * 65536 + getD s (at + 2) 0 * 256 + getD s (at + 3) 0
@@ -178,7 +174,7 @@ four-same w x y z a b c d hw hx hy hz ha hb hc hd =
     (omega (arith, eqb-true w a (p .0), eqb-true x b (q .0), eqb-true y c (r .0), eqb-true z d (r .1))))
     (λ t.
     let e : w * 16777216 + x * 65536 + y * 256 + z ≡ a * 16777216 + b * 65536 + c * 256 + d = eqb-true _ _ t in
-    and-true _ _ (eq-eqb w a (omega arith)) (and-true _ _ (eq-eqb x b (omega arith)) (and-true _ _ (eq-eqb y c (omega arith)) (eq-eqb z d (omega arith)))))
+    both-true _ _ (eq-eqb w a (omega arith)) (both-true _ _ (eq-eqb x b (omega arith)) (both-true _ _ (eq-eqb y c (omega arith)) (eq-eqb z d (omega arith)))))
 
 module _ (s : Bytes) (at : ℕ) (h : at + 4 ≤ length s) (small : (i : ℕ) → getD s i 0 < 256) where
   -- the test of the four by their number
@@ -186,7 +182,7 @@ module _ (s : Bytes) (at : ℕ) (h : at + 4 ≤ length s) (small : (i : ℕ) →
       → sameBytes (take 4 (drop at s)) (a ∷ b ∷ 0x70 ∷ 0x70 ∷ []) ≡ eqb (be32At s at) n
   unfolding sameBytes
   same-number a b n ha hb is =
-      rw (four-at s at h, four-number s at small, and-nothing, is)
+      rw (four-at s at h, four-number s at small, and-true, is)
       (four-same _ _ _ _ a b 0x70 0x70 (small at) (small (at + 1)) (small (at + 2)) (small (at + 3)) ha hb (omega arith) (omega arith))
 
   -- the kind by it
