@@ -8,7 +8,7 @@ use native.Mathlib.Omega.{arith}
 use lib.ListN.{length, take, drop, getD, length-drop, take-append-drop}
 use lib.Seq.{drop-cons, drop-drop, drop-length, length-take-le}
 use lib.Dec.{eqb}
-use borrow.Author.Tests.{eq-eqb, ne-eqb}
+use borrow.Author.Tests.{ne-eqb}
 use Rattle.meaning.specs.Bytes.{Bytes, be16, be16At, put16, put32, with16}
 use Rattle.meaning.specs.Writing.{Wrote}
 use Rattle.meaning.proofs.Writes.{wrote-is, is-wrote}
@@ -92,14 +92,10 @@ pub udp-steps : (h p w x c : ℕ) (s t u v : Bytes) → t ≡ udpLengthAfresh h 
 unfolding udpBy
 udp-steps h p w x c s t u v e f g i j k = cc (rest-of u h)
 
--- the two ways of the code, by what it asked
-pub none-stays : (b : Bool) (p h : ℕ) (s t : Bytes) (r : Bool) → r ≡ (b && eqb (udpChecksum h s) 0) → r ≡ true → t ≡ udpLengthAfresh h s → t ≡ udpOrNone b p h s
+-- either way of the code, by what was asked
+pub asked-so : (a b r : Bool) (p h : ℕ) (s t : Bytes) → r ≡ (b && eqb (udpChecksum h s) 0) → r ≡ a → t ≡ cond a (udpLengthAfresh h s) (udpBy p h s) → t ≡ udpOrNone b p h s
 unfolding udpOrNone
-none-stays b p h s t r e f g = rw (sym e ∙ f) g
-
-pub summed : (b : Bool) (p h : ℕ) (s t : Bytes) (r : Bool) → r ≡ (b && eqb (udpChecksum h s) 0) → r ≡ false → t ≡ udpBy p h s → t ≡ udpOrNone b p h s
-unfolding udpOrNone
-summed b p h s t r e f g = rw (sym e ∙ f) g
+asked-so a b r p h s t e f g = g ∙ ap (λ (x : Bool). cond x (udpLengthAfresh h s) (udpBy p h s)) (sym f ∙ e)
 
 pseudo6-words : (s : Bytes) → 40 ≤ length s → length s ≤ 65575 → words (pseudo6 s) ≡ words (addresses6 s) + (17 + (length s - 40))
 unfolding pseudo6 put32 words

@@ -1,5 +1,5 @@
-use Rattle.ip.proofs.CodeLaws.{steps-4}
 use native.Mathlib.Omega.{arith}
+use Rattle.ip.proofs.CodeLaws.{steps-4}
 use borrow.Author.Needs.{needs}
 use Rattle.ip.proofs.afresh4.Statement.{statement}
 use Rattle.ip.proofs.afresh4.Tie as tie

@@ -1,4 +1,5 @@
-use Rattle.ip.proofs.CodeLaws.{none-stays, summed}
+use mathlib.Core.Bool.{true, false}
+use Rattle.ip.proofs.CodeLaws.{asked-so}
 use borrow.Author.Needs.{needs}
 use Rattle.ip.proofs.udp_or_none.Statement.{statement}
 use Rattle.ip.proofs.udp_or_none.Tie as tie
@@ -13,7 +14,7 @@ same-length : tie.Need-same-length
 same-length c = search needs
 
 returns : tie.Need-returns
-returns c = none-stays _ _ _ _ _ _ (c .before .before .before .before .before .no-checksum .ensures) (c .before .before .before .before .if1 .taken) (c .before .before .udp-length-afresh .ensures)
+returns c = asked-so true _ _ _ _ _ _ (c .before .before .before .before .before .no-checksum .ensures) (c .before .before .before .before .if1 .taken) (c .before .before .udp-length-afresh .ensures)
 
 udp-afresh-requires : tie.Need-udp-afresh-requires
 udp-afresh-requires c κs = search needs
@@ -22,7 +23,7 @@ same-length-2 : tie.Need-same-length-2
 same-length-2 c = search needs
 
 returns-2 : tie.Need-returns-2
-returns-2 c = summed _ _ _ _ _ _ (c .before .before .before .before .before .no-checksum .ensures) (c .before .before .before .before .if1 .left) (c .before .before .udp-afresh .ensures)
+returns-2 c = asked-so false _ _ _ _ _ _ (c .before .before .before .before .before .no-checksum .ensures) (c .before .before .before .before .if1 .left) (c .before .before .udp-afresh .ensures)
 
 pub udp-or-none-spec : {M : Type 1} → statement M
 udp-or-none-spec =
