@@ -9,7 +9,7 @@ use face::{Modes, Part};
 
 use crate::measure::Row;
 use crate::passage::Passage;
-use crate::streams::{MAXIMUM, NEITHER};
+use crate::streams::{MAXIMUM, NEITHER, TOTAL};
 
 /// How many bytes come one by one. More would hold more than about nothing in the first row.
 const BYTES: usize = 256;
@@ -30,6 +30,7 @@ fn row(name: &str, held: usize) -> Row {
         stream: stream.into(),
         options: NEITHER,
         modes: Modes::OFF,
+        total: TOTAL,
         first,
         size: 1,
     };

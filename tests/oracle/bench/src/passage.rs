@@ -13,14 +13,7 @@ use crate::measure::Turn;
 
 /// The rooms of 01 at their greatest, but for the fragments.
 const WORK: usize = 131_078;
-const BODIES: usize = 1 << 20;
 const MAPS: usize = 32_768;
-const LIMITS: Limits = Limits {
-    work: WORK,
-    total: BODIES,
-    most: BODIES,
-    maps: MAPS,
-};
 
 unsafe extern "C" {
     fn driver_stream(
@@ -49,6 +42,8 @@ pub struct Passage {
     pub stream: Rc<[u8]>,
     pub options: Options,
     pub modes: Modes,
+    /// The length of the fragment room.
+    pub total: usize,
     pub first: usize,
     pub size: usize,
 }
@@ -63,7 +58,7 @@ impl Passage {
     /// Compares what both filters write, all of it; answers how many bytes that is. In a mode that the original does not
     /// know the second filter takes its place.
     pub fn compared(&self, name: &str) -> usize {
-        let mut rooms = Rooms::new(self.stream.len());
+        let mut rooms = Rooms::new(self.total, self.stream.len());
         let mut out = Vec::new();
         if self.modes.all_off() {
             self.by_original(true, &mut out);
@@ -80,8 +75,9 @@ impl Passage {
         Box::new(move || passage.by_original(false, &mut out))
     }
 
+    /// Its rooms are there before the first turn: to make them is no work of the filter's.
     pub fn proved(&self) -> Turn {
-        let (passage, mut rooms) = (self.clone(), Rooms::new(0));
+        let (passage, mut rooms) = (self.clone(), Rooms::new(self.total, 0));
         Box::new(move || rooms.pass(&passage, false))
     }
 
@@ -99,7 +95,13 @@ impl Passage {
     }
 
     fn by_plain(&self, out: &mut Vec<u8>) {
-        let mut filter = Plain::start(LIMITS, self.options, self.modes).expect("a start");
+        let limits = Limits {
+            work: WORK,
+            total: self.total,
+            most: self.total,
+            maps: MAPS,
+        };
+        let mut filter = Plain::start(limits, self.options, self.modes).expect("a start");
         let (first, rest) = self.stream.split_at(self.first);
         for chunk in first
             .chunks(first.len().max(1))
@@ -123,11 +125,11 @@ struct Rooms {
 }
 
 impl Rooms {
-    /// With an output for the bytes of one call, and so many more.
-    fn new(more: usize) -> Self {
+    /// With a fragment room of T bytes, and an output for the bytes of one call and so many more.
+    fn new(total: usize, more: usize) -> Self {
         Self {
             work: vec![0; WORK],
-            bodies: vec![0; BODIES],
+            bodies: vec![0; total],
             maps: vec![0; MAPS],
             out: vec![0; 2 * WORK + more],
         }

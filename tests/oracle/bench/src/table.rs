@@ -12,9 +12,11 @@ const CHUNKS: [usize; 6] = [188, 1_316, 4_096, 8_192, 32_768, 65_536];
 const SHORT: usize = 32_768;
 /// Fewer runs than of a row: there are many lines, and a turn is long.
 const RUNS: usize = 61;
+/// The width of the column of names.
+const NAME: usize = 38;
 
 pub struct Line {
-    name: &'static str,
+    name: String,
     passage: Passage,
 }
 
@@ -42,7 +44,7 @@ impl Line {
         let speed = |nth: usize| figure(bytes / medians[nth]);
         let call = |nth: usize| figure(medians[nth] / calls);
         println!(
-            "{:32}{:>7}{:>9}{:>10}{:>9}{:>13}{:>11}{:>8}",
+            "{:NAME$}{:>7}{:>9}{:>10}{:>9}{:>13}{:>11}{:>8}",
             self.name,
             self.passage.size,
             speed(0),
@@ -57,11 +59,12 @@ impl Line {
 
 pub fn lines() -> Vec<Line> {
     let line = |stream: &Stream, size| Line {
-        name: stream.name,
+        name: stream.name.clone(),
         passage: Passage {
             stream: stream.bytes.clone(),
             options: stream.options,
             modes: stream.modes,
+            total: stream.total,
             first: 0,
             size,
         },
@@ -79,11 +82,11 @@ pub fn print(lines: &[Line]) {
         "whole streams, median of {RUNS} runs; ratio: how many times faster the proved code is than the original"
     );
     println!(
-        "{:32}{:>7}{:>28}{:>24}{:>8}",
+        "{:NAME$}{:>7}{:>28}{:>24}{:>8}",
         "", "", "GB/s", "ns a call", ""
     );
     println!(
-        "{:32}{:>7}{:>9}{:>10}{:>9}{:>13}{:>11}{:>8}",
+        "{:NAME$}{:>7}{:>9}{:>10}{:>9}{:>13}{:>11}{:>8}",
         "stream", "chunk", "memcpy", "original", "proved", "original", "proved", "ratio"
     );
     for line in lines {

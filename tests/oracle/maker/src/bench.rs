@@ -208,24 +208,43 @@ pub(crate) fn media(seed: u64, part: Part, packet: usize, size: usize) -> Vec<u8
     stream.bytes
 }
 
-pub(crate) fn fragmented(seed: u64, identifiers: u16, size: usize) -> Vec<u8> {
-    let mut stream = Stream::new(Rng::new(seed, 7), size);
+pub(crate) fn fragmented(seed: u64, identifiers: u16, body: usize, size: usize) -> Vec<u8> {
+    in_thirds(Rng::new(seed, 7), identifiers, body, size, |_| 0)
+}
+
+pub(crate) fn staggered(seed: u64, identifiers: u16, body: usize, size: usize) -> Vec<u8> {
+    in_thirds(Rng::new(seed, 15), identifiers, body, size, |nth| nth % 3)
+}
+
+/// Steps, in each of which every identifier sends the next third of its message, from the step on at which it begins.
+fn in_thirds(
+    rng: Rng,
+    identifiers: u16,
+    body: usize,
+    size: usize,
+    begins: impl Fn(usize) -> usize,
+) -> Vec<u8> {
+    let mut stream = Stream::new(rng, size);
     stream.burst();
+    let mut messages = vec![Vec::new(); usize::from(identifiers)];
+    let mut step = 0;
     while stream.bytes.len() < size {
-        let messages: Vec<_> = (0..identifiers).map(|_| thirds(&mut stream.rng)).collect();
-        for nth in 0..3 {
-            for (identifier, thirds) in (FRAGMENTED..).zip(&messages) {
-                let packet = stream.packet(identifier, SIGNALLING, &thirds[nth]);
-                stream.bytes.extend(packet);
+        let begun = messages.iter_mut().enumerate();
+        for (nth, message) in begun.filter(|(nth, _)| begins(*nth) <= step) {
+            let third = (step - begins(nth)) % 3;
+            if third == 0 {
+                *message = thirds(&mut stream.rng, body);
             }
+            let packet = stream.packet(FRAGMENTED + nth as u16, SIGNALLING, &message[third]);
+            stream.bytes.extend(packet);
         }
+        step += 1;
     }
     stream.bytes
 }
 
-/// The payloads of a message that fills three packets of a broadcast, and teaches nothing.
-fn thirds(rng: &mut Rng) -> Vec<Vec<u8>> {
-    let third = AIR_PACKET - HEADERS - 2;
+/// The payloads of a message in three fragments with bodies of this length, which teaches nothing.
+fn thirds(rng: &mut Rng, third: usize) -> Vec<Vec<u8>> {
     let body = rng.bytes(3 * third - 5);
     let message = messages::message(UNREAD, &body);
     messages::fragments(0, &message, &[third, 2 * third])

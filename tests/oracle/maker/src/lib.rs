@@ -154,10 +154,16 @@ pub fn media(seed: u64, part: Part, packet: usize, size: usize) -> Vec<u8> {
     bench::media(seed, part, packet, size)
 }
 
-/// A clean stream of at least `size` bytes: the tables of `air` once, then rounds of messages in three packets of 1,400
-/// bytes, a message for each of so many identifiers: all their firsts, then all their middles, then all their lasts.
-pub fn fragmented(seed: u64, identifiers: u16, size: usize) -> Vec<u8> {
-    bench::fragmented(seed, identifiers, size)
+/// A clean stream of at least `size` bytes: the tables of `air` once, then messages of so many identifiers, each in three
+/// fragments with bodies of `body` bytes: all firsts, then all middles, then all lasts, and so on.
+pub fn fragmented(seed: u64, identifiers: u16, body: usize, size: usize) -> Vec<u8> {
+    bench::fragmented(seed, identifiers, body, size)
+}
+
+/// The same, but each identifier begins its messages one step behind the one before it, the fourth with the first: firsts,
+/// middles and lasts alternate.
+pub fn staggered(seed: u64, identifiers: u16, body: usize, size: usize) -> Vec<u8> {
+    bench::staggered(seed, identifiers, body, size)
 }
 
 /// Random bytes. Some look like the start of a packet until the bytes behind them are there.

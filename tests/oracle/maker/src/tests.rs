@@ -15,7 +15,7 @@ use crate::tlv::{self, SYNC};
 use crate::{
     Case, Operation, air, calls, case, cases, cuts, dense, examples, fragmented, inputs, media,
     narrowing, nulls, plain_case, plain_ip_air, plain_ip_calls, plain_ip_inputs, plain_ip_plts,
-    plain_ip_uncut, wished_inputs,
+    plain_ip_uncut, staggered, wished_inputs,
 };
 
 const SEEDS: u64 = 2_000;
@@ -295,15 +295,34 @@ fn benchmark_streams_are_of_packets_that_are_alike() {
     }
 }
 
+/// Of each fragment of a stream for benchmarks, its identifier's number and which third it is.
+fn thirds(stream: &[u8], body: usize) -> Vec<(usize, usize)> {
+    let fragments = &packets(stream)[7..];
+    assert!(fragments.iter().all(|packet| packet[21..].len() == body));
+    let third = |packet: &&[u8]| (packet[10].into(), usize::from(packet[19] >> 6) - 1);
+    fragments.iter().map(third).collect()
+}
+
 #[test]
 fn fragments_take_turns() {
-    let stream = fragmented(7, 16, 100_000);
-    let fragments = &packets(&stream)[7..];
-    assert!(fragments.iter().all(|packet| packet.len() == 1_400));
-    assert_eq!(fragments.len(), 2 * 3 * 16);
-    for (nth, packet) in fragments.iter().enumerate() {
-        assert_eq!(usize::from(packet[10]), nth % 16);
-        assert_eq!(usize::from(packet[19] >> 6), nth / 16 % 3 + 1);
+    let thirds = thirds(&fragmented(7, 16, 150, 20_000), 150);
+    assert_eq!(thirds.len(), 7 * 16);
+    for (nth, third) in thirds.into_iter().enumerate() {
+        assert_eq!(third, (nth % 16, nth / 16 % 3));
+    }
+}
+
+#[test]
+fn staggered_fragments_alternate() {
+    let thirds = thirds(&staggered(7, 16, 1_400, 200_000), 1_400);
+    // Six identifiers begin, then five more, then all are under way.
+    let (begun, under_way) = thirds.split_at(6 + 11);
+    assert!(begun[..6].iter().all(|(nth, third)| nth % 3 + third == 0));
+    assert_eq!(under_way.len() % 16, 0);
+    for (step, thirds) in (2..).zip(under_way.chunks(16)) {
+        for (nth, third) in thirds.iter().enumerate() {
+            assert_eq!(*third, (nth, (step - nth % 3) % 3));
+        }
     }
 }
 
