@@ -3,6 +3,7 @@
 
 use face::Limits;
 
+use crate::crowd;
 use crate::limits;
 use crate::messages::{self, Pa, Place};
 use crate::rng::Rng;
@@ -11,7 +12,7 @@ use crate::stage::Stage;
 use crate::tags::Tag;
 
 /// The length of the shortest message that `news` makes.
-const NEWS_LEAST: usize = 77;
+pub(crate) const NEWS_LEAST: usize = 77;
 /// Identifiers of fragments that only take up room.
 const PARKED: u16 = 0x2000;
 const HELD_MOST: u16 = 256;
@@ -27,7 +28,8 @@ pub(crate) fn limits(rng: &mut Rng) -> Limits {
     }
 }
 
-/// Shows both sides of each limit, in some order, and after each what was learned.
+/// Shows both sides of each limit, in some order, and after each what was learned. None leaves anything held, so that a
+/// crowd finds all of the room.
 pub(crate) fn edges(stage: &mut Stage, limits: &Limits) {
     stage.announce_plainly();
     for _ in 0..stage.rng.within(4..=8) {
@@ -40,6 +42,10 @@ pub(crate) fn edges(stage: &mut Stage, limits: &Limits) {
             5 => refused_first(stage, limits),
             _ => disorder(stage),
         }
+        stage.probe();
+    }
+    if stage.rng.chance(70) {
+        crowd::crowd(stage, limits);
         stage.probe();
     }
     let steps = stage.rng.within(5..=60);
@@ -66,7 +72,7 @@ fn disorder(stage: &mut Stage) {
 }
 
 /// A message of exactly this length about some service, different from what was sent before.
-fn news(stage: &mut Stage, length: usize) -> (u16, Vec<u8>) {
+pub(crate) fn news(stage: &mut Stage, length: usize) -> (u16, Vec<u8>) {
     let table = signalling::news(&mut stage.rng, &stage.broadcast);
     let mut pa = Pa::of(vec![table]);
     pa.after = stage.rng.bytes(length - pa.write().len());
@@ -97,7 +103,7 @@ fn send_as_first(stage: &mut Stage, identifier: u16, content: &[u8]) {
 }
 
 /// Holds this many bytes in fragments of identifiers that nobody names, often most of them in one.
-fn park(stage: &mut Stage, mut bytes: usize) {
+pub(crate) fn park(stage: &mut Stage, mut bytes: usize) {
     let alone = stage.rng.chance(50);
     for nth in 0..3 {
         let size = if nth == 2 || alone {
@@ -113,7 +119,7 @@ fn park(stage: &mut Stage, mut bytes: usize) {
 }
 
 /// Gives the parked bytes back; a whole payload ends the fragment of its identifier.
-fn unpark(stage: &mut Stage) {
+pub(crate) fn unpark(stage: &mut Stage) {
     for nth in 0..3 {
         stage.signal(PARKED + nth, &[0]);
     }

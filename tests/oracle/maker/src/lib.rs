@@ -1,17 +1,19 @@
 //! Makes test streams for filters of MMT/TLV recordings: whole cases with limits, options and cuts, series of
 //! calls, inputs for narrowing alone, and clean streams for benchmarks. Each follows from its seed alone. Beside them
-//! stand the checksums that packets of plain IP have.
+//! stand the checksums that packets of plain IP have, and the room that fragments need.
 
 mod bench;
 mod broadcast;
 mod calls;
 mod cases;
+mod crowd;
 mod cuts;
 mod damage;
 mod edges;
 mod examples;
 mod foreseen;
 mod fragments;
+pub mod holding;
 mod ip;
 mod limits;
 mod messages;

@@ -195,6 +195,12 @@ tags! {
     FragmentsFull 100 0,
     FragmentsPast 60 0,
     FragmentRenewed 40 0,
+    CrowdMet 60 0,
+    CrowdPassed 60 0,
+    CrowdMany 60 0,
+    CrowdGrownInside 100 0,
+    CrowdFirstAgain 100 0,
+    CrowdWhole 100 0,
     // chunks and outputs
     CutsLongest 200 0 300 0,
     CutsAny 200 0,

@@ -13,6 +13,7 @@
 use face::{Kind, Limits, Modes, Options};
 
 use crate::named::{self, Requested};
+use crate::orders;
 
 /// The rooms of the port's program: what a case may ask for at most.
 const WORK: usize = 131_200;
@@ -242,6 +243,15 @@ pub fn named() -> Vec<u8> {
             Requested::Narrowing(case) => writer.narrowing(&Narrowing::with_modes(&case.input)),
             Requested::Calls(calls) => writer.calls(&Calls::from(&calls.case)),
         }
+    }
+    writer.bytes
+}
+
+/// The cases of all orders in which fragments can come, as bytes.
+pub fn orders() -> Vec<u8> {
+    let mut writer = Writer::default();
+    for ordered in orders::orders() {
+        writer.calls(&Calls::from(&ordered.case));
     }
     writer.bytes
 }

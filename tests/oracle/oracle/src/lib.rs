@@ -11,6 +11,7 @@ pub mod datagrams;
 pub mod engine;
 pub mod named;
 pub mod narrow;
+pub mod orders;
 pub mod programs;
 pub mod run;
 pub mod theorems;

@@ -38,6 +38,8 @@ const USAGE: &str = "usage: oracle COMMAND
                               place, and narrowings with modes; with --other those that want other
                               assets alone, or those that do not
   cases --named               the named cases: what the port's program answers stores
+  cases --orders              messages in fragments in all orders in which these can come, with a
+                              fragment room that is just long enough, and a byte too short
   answers [--by FILTER]       the answers to the cases on standard input
   checksums CASES ANSWERS     recounts lengths and checksums of the plain IP packets that answers to
                               these cases have rewritten; both are files
@@ -83,7 +85,7 @@ fn dispatch(command: &str, words: impl Iterator<Item = String>) -> Answer {
         "input" => input_command(&read(&["seed"], &[])?),
         "run" => run_command(&read(RUN, &[])?),
         "narrow" => narrow_command(&read(NARROW, &["hex"])?),
-        "cases" => cases_command(&read(CASES, &["named", "calls"])?),
+        "cases" => cases_command(&read(CASES, &["named", "orders", "calls"])?),
         "answers" => answers_command(&read(&["by"], &[])?),
         "checksums" => checksums_command(&read(&[], &[])?),
         "theorems" => theorems_command(&read(THEOREMS, &[])?),
@@ -166,9 +168,14 @@ fn narrow_command(arguments: &Arguments) -> Answer {
 
 fn cases_command(arguments: &Arguments) -> Answer {
     let mut output = io::stdout().lock();
-    if arguments.has("named") {
-        output.write_all(&cases::named()).map_err(text)?;
-        return Ok(ExitCode::SUCCESS);
+    for (name, made) in [
+        ("named", cases::named as fn() -> _),
+        ("orders", cases::orders),
+    ] {
+        if arguments.has(name) {
+            output.write_all(&made()).map_err(text)?;
+            return Ok(ExitCode::SUCCESS);
+        }
     }
     let selection = Selection {
         series: arguments.number("streams", 1)? > 0,

@@ -10,6 +10,7 @@ mod calls;
 mod captions;
 mod damaged;
 mod examples;
+mod growing;
 mod packets;
 mod plain_ip;
 mod readings;
@@ -57,6 +58,7 @@ pub fn requested() -> Vec<Requested> {
             [plain_ip::plain_ip(), worked_out::worked_out()].concat(),
             relay::relay(),
         ),
+        of_request(Vec::new(), growing::growing()),
     ]
     .concat()
 }

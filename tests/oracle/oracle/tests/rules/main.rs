@@ -12,6 +12,7 @@ mod learning;
 mod messages;
 mod named;
 mod narrowing;
+mod orders;
 mod packets;
 mod plain_ip;
 mod programs;

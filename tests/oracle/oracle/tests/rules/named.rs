@@ -80,14 +80,13 @@ fn answers_are_those_that_stand_beside_the_streams() {
 }
 
 /// What a filter answers to calls. After a refused push as much is held as before it.
-fn asked(filter: &Subject, calls: &NamedCalls) -> Result<Vec<Reply>, u8> {
-    let case = &calls.case;
+pub fn asked(filter: &Subject, name: &str, case: &maker::Calls) -> Result<Vec<Reply>, u8> {
     let mut run = (filter.start)(case.limits, case.options, case.modes)?;
     let answer = |operation: &Operation| match operation {
         Operation::Push { room, chunk } => {
             let held = run.held();
             let call = run.push(chunk, *room);
-            assert!(call.is_ok() || run.held() == held, "{}", calls.name);
+            assert!(call.is_ok() || run.held() == held, "{name}");
             Reply::Push(call)
         }
         Operation::Dropped => Reply::Dropped(run.dropped()),
@@ -110,9 +109,9 @@ fn answers_are_those_that_stand_beside_the_cases_of_requests() {
                     assert_eq!(filter.answer(&input), answer, "{name}");
                 });
             }
-            Requested::Calls(calls) => {
-                each_knowing_both(calls.case.options, calls.case.modes, |filter| {
-                    assert_eq!(asked(filter, &calls), calls.answer, "{}", calls.name);
+            Requested::Calls(NamedCalls { name, case, answer }) => {
+                each_knowing_both(case.options, case.modes, |filter| {
+                    assert_eq!(asked(filter, &name, &case), answer, "{name}");
                 })
             }
         }
@@ -237,7 +236,7 @@ fn at_least_300_are_damaged_and_small() {
 }
 
 /// What the command `oracle cases` writes.
-fn cases(words: &[&str]) -> Vec<u8> {
+pub fn cases(words: &[&str]) -> Vec<u8> {
     let output = Command::new(env!("CARGO_BIN_EXE_oracle"))
         .arg("cases")
         .args(words)
