@@ -70,6 +70,13 @@ impl Passage {
         written
     }
 
+    /// The proved filter's fragment room, zeros before, after the stream.
+    pub fn room(&self) -> Vec<u8> {
+        let mut rooms = Rooms::new(self.total, 0);
+        rooms.pass(self, false);
+        rooms.bodies
+    }
+
     pub fn original(&self) -> Turn {
         let (passage, mut out) = (self.clone(), Vec::with_capacity(2 * WORK));
         Box::new(move || passage.by_original(false, &mut out))

@@ -83,7 +83,7 @@ fn usual() -> Vec<Stream> {
 /// Messages in fragments, of so many identifiers at a time. They teach nothing and all of them go out, whatever is held:
 /// where T is 65,536 the proved filter gives up what does not fit, as it is to; the original holds it, for it has no T that
 /// a stream of 1 MiB could pass. They grow one after the other in the order in which they began; staggered they do not.
-fn fragments() -> Vec<Stream> {
+pub fn fragments() -> Vec<Stream> {
     let stream = |name: String, total, bytes| Stream {
         total,
         ..neither(&name, bytes)
@@ -104,6 +104,56 @@ fn fragments() -> Vec<Stream> {
         streams.push(stream(name, MOST, bytes));
     }
     streams
+}
+
+/// A signalling payload.
+pub struct Piece<'a> {
+    pub identifier: u16,
+    /// Whole, first, middle or last: 0 to 3.
+    pub place: u8,
+    /// What is behind its first two bytes.
+    pub body: &'a [u8],
+}
+
+/// The signalling payloads of the whole packets in a stream, if all are of MMTP with a header of 12 bytes, in compressed IP.
+pub fn pieces(mut stream: &[u8]) -> Vec<Piece<'_>> {
+    let mut pieces = Vec::new();
+    while let [_, _, high, low, rest @ ..] = stream {
+        let length = u16::from_be_bytes([*high, *low]);
+        let Some((packet, behind)) = rest.split_at_checked(usize::from(length)) else {
+            break;
+        };
+        stream = behind;
+        // Three bytes of IP stand before the MMTP: type, identifier, payload.
+        if let [
+            _,
+            _,
+            _,
+            _,
+            2,
+            high,
+            low,
+            _,
+            _,
+            _,
+            _,
+            _,
+            _,
+            _,
+            _,
+            flags,
+            _,
+            body @ ..,
+        ] = packet
+        {
+            pieces.push(Piece {
+                identifier: u16::from_be_bytes([*high, *low]),
+                place: flags >> 6,
+                body,
+            });
+        }
+    }
+    pieces
 }
 
 fn plain_ip() -> Vec<Stream> {
@@ -140,7 +190,7 @@ mod tests {
 
     use original::Untouched;
 
-    use super::{Stream, fragments, streams};
+    use super::{Stream, fragments, pieces, streams};
 
     /// How much of a stream goes out, in percent.
     fn share(stream: &Stream) -> usize {
@@ -174,21 +224,6 @@ mod tests {
         assert_eq!(names.len(), streams.len());
     }
 
-    /// Of each fragment in a stream of the maker's: its identifier, and the length of its body.
-    fn fragments_of(mut stream: &[u8]) -> Vec<(&[u8], usize)> {
-        let mut fragments = Vec::new();
-        while let [_, _, high, low, rest @ ..] = stream {
-            let length = u16::from_be_bytes([*high, *low]);
-            let (packet, behind) = rest.split_at(usize::from(length));
-            stream = behind;
-            // Three bytes of compressed IP, twelve of MMTP, then the payload's own two.
-            if packet[15] >> 6 > 0 {
-                fragments.push((&packet[5..7], packet.len() - 17));
-            }
-        }
-        fragments
-    }
-
     /// The number in a name, with or without commas in it.
     fn number(word: &str) -> usize {
         word.replace(',', "").parse().expect("a number")
@@ -202,8 +237,11 @@ mod tests {
             let words: Vec<_> = stream.name.split(' ').collect();
             let unit = words.get(7).map_or(1, |_| 1 << 20);
             assert_eq!(stream.total, number(words[6]) * unit, "{}", stream.name);
-            let (identifiers, lengths): (BTreeSet<_>, BTreeSet<_>) =
-                fragments_of(&stream.bytes).into_iter().unzip();
+            let (identifiers, lengths): (BTreeSet<_>, BTreeSet<_>) = pieces(&stream.bytes)
+                .into_iter()
+                .filter(|piece| piece.place > 0)
+                .map(|piece| (piece.identifier, piece.body.len()))
+                .unzip();
             assert_eq!(identifiers.len(), number(words[2]), "{}", stream.name);
             assert_eq!(lengths, BTreeSet::from([number(words[4])]));
         }
