@@ -13,7 +13,8 @@ use Rattle.meaning.specs.Writing.{Wrote}
 use Rattle.meaning.specs.Wishes.{wantsAssets}
 use Rattle.meaning.specs.Rooms.{goodWorkRoom, goodFragmentRoom, goodMapRoom}
 use Rattle.meaning.specs.Refusals.{answerNumber}
-use Rattle.meaning.specs.Record.{State, Record, recordOf, stateOf, bodiesOf}
+use Rattle.meaning.specs.Record.{State, Record, recordOf, stateOf}
+use Rattle.meaning.specs.Leading.{leadingPushed}
 use Rattle.meaning.specs.Soundness.{sound, soundRefusal}
 use Rattle.meaning.specs.Calls.{countsOf, Called}
 use Rattle.meaning.specs.Start.{fresh, startRefusal, started}
@@ -23,7 +24,8 @@ use Rattle.meaning.specs.declared.Limits.{Limits}
 use Rattle.meaning.specs.declared.Options.{Options}
 use Rattle.meaning.specs.declared.Modes.{Modes}
 use Rattle.meaning.proofs.ListLaws.{and-both}
-use Rattle.meaning.proofs.SoundnessLaws.{HoldsState, fresh-holds, push-holds, good-limit, state-back, record-sound, refusal-same}
+use Rattle.meaning.proofs.SoundnessLaws.{HoldsState, fresh-holds, push-holds, good-limit, record-sound, refusal-same}
+use Rattle.meaning.proofs.SeriesLaws.{own-leading, fresh-back}
 use Rattle.recorder.specs.Filter.{recordIn}
 use Rattle.recorder.specs.Calls.{PushedAs, RoomsAfter}
 use Rattle.recorder.specs.declared.Pushed as pushed
@@ -37,7 +39,7 @@ pub record Good (L : Limits) : Type 0 where
 
 pub record Between (L : Limits) (M : Modes) (o : Options) (st : State) (s : Recorder) : Type 0 where
   pub good : Good L
-  pub record-is : s .handed ≡ recordOf L M o st
+  pub record-is : s .handed ≡ recordOf L M o (s .handed .leading) st
   pub state-is : stateOf (s .handed) (s .work) (s .bodies) (s .map-room) ≡ st
   pub holds : HoldsState L o st
   pub work-long : length (s .work) ≡ L .work
@@ -58,7 +60,7 @@ good-start L n o e = go (goodWorkRoom (L .work)) refl (goodFragmentRoom (L .tota
     go false p b q c s d e = absurd (omega (arith, e))
 
 started-handed : (L : Limits) (M : Modes) (o : Options) (map-room : List ℕ) → started L M o map-room .number ≡ 0
-    → (startRefusal (L .work) (L .total) (L .most) (length map-room) o ≡ 0) × (started L M o map-room .handed ≡ recordOf L M o (fresh map-room))
+    → (startRefusal (L .work) (L .total) (L .most) (length map-room) o ≡ 0) × (started L M o map-room .handed ≡ recordOf L M o 0 (fresh map-room))
 unfolding started
 started-handed L M o map-room e = (e, rw e)
 
@@ -72,21 +74,16 @@ few-fragments T M e =
 pub few-total : (L : Limits) → Good L → L .total ≤ 16777216
 few-total L g = few-fragments (L .total) (L .most) (g .fragments-good)
 
-state-fresh : (L : Limits) (M : Modes) (o : Options) (work bodies : Bytes) (map-room : List ℕ) → L .total ≤ 16777216 → HoldsState L o (fresh map-room)
-    → stateOf (recordOf L M o (fresh map-room)) work bodies map-room ≡ fresh map-room
-unfolding fresh bodiesOf
-state-fresh L M o work bodies map-room few h = state-back L M o (fresh map-room) few h work bodies
-
 pub begins : (L : Limits) (M : Modes) (o : Options) (s : Recorder) → Begun L M o s → Between L M o (fresh (s .map-room)) s
 begins L M o s b =
     let h = started-handed L M o (s .map-room) (sym (b .1 .answer-is) ∙ b .2) in
     let g = good-start L (length (s .map-room)) o (h .0) in
     let k = fresh-holds L o (s .map-room) (omega (arith, good-limit (L .work) (g .0 .work-good))) (g .1) (g .2) in
-    let r : s .handed ≡ recordOf L M o (fresh (s .map-room)) = b .3 ∙ b .1 .handed-is ∙ h .1 in
+    let r : s .handed ≡ recordOf L M o 0 (fresh (s .map-room)) = b .3 ∙ b .1 .handed-is ∙ h .1 in
     record {
       good = g .0;
-      record-is = r;
-      state-is = ap (λ (z : Record). stateOf z (s .work) (s .bodies) (s .map-room)) r ∙ state-fresh L M o (s .work) (s .bodies) (s .map-room) (few-total L (g .0)) k;
+      record-is = own-leading L M o 0 (fresh (s .map-room)) (s .handed) r;
+      state-is = ap (λ (z : Record). stateOf z (s .work) (s .bodies) (s .map-room)) r ∙ fresh-back L M o (s .work) (s .bodies) (s .map-room) (few-total L (g .0)) k;
       holds = k;
       work-long = sym (b .4);
       bodies-long = sym (b .5);
@@ -95,25 +92,26 @@ begins L M o s b =
 -- ---- a push
 
 -- What the definition says of a push on a state.
-abbrev after : Bool → Limits → Modes → Options → State → Record → Lent → Called
-after true L M o st r c = record { number = 0; out = push L M o st (c .0) .out; counts = push L M o st (c .0) .counts; handed = recordOf L M o (push L M o st (c .0) .state) }
-after false L M o st r c = record { number = callRefusal L st c; out = []; counts = countsOf 0; handed = r }
+abbrev after : Bool → Limits → Modes → Options → ℕ → State → Record → Lent → Called
+after true L M o leading st r c =
+    record { number = 0; out = push L M o st (c .0) .out; counts = push L M o st (c .0) .counts; handed = recordOf L M o (leadingPushed L o st (c .0) leading) (push L M o st (c .0) .state) }
+after false L M o leading st r c = record { number = callRefusal L st c; out = []; counts = countsOf 0; handed = r }
 
-abbrev pub form : ℕ → Limits → Modes → Options → State → Record → Bytes → Called
-form x L M o st r chunk =
+abbrev pub form : ℕ → Limits → Modes → Options → ℕ → State → Record → Bytes → Called
+form x L M o leading st r chunk =
     cond (eqb x 0)
-    (record { number = 0; out = push L M o st chunk .out; counts = push L M o st chunk .counts; handed = recordOf L M o (push L M o st chunk .state) })
+    (record { number = 0; out = push L M o st chunk .out; counts = push L M o st chunk .counts; handed = recordOf L M o (leadingPushed L o st chunk leading) (push L M o st chunk .state) })
     (record { number = x; out = []; counts = countsOf 0; handed = r })
 
 pub called-by : (r : Record) (work bodies : Bytes) (map-room : List ℕ) (chunk : Bytes) (n : ℕ)
     → called r work bodies map-room chunk n
-    ≡ form (pushRefusal r (length work) (length bodies) (length map-room) (length chunk) n) (r .limits) (r .modes) (r .options) (stateOf r work bodies map-room) r chunk
+    ≡ form (pushRefusal r (length work) (length bodies) (length map-room) (length chunk) n) (r .limits) (r .modes) (r .options) (r .leading) (stateOf r work bodies map-room) r chunk
 unfolding called
 called-by r work bodies map-room chunk n = refl
 
-limits-are : (L : Limits) (M : Modes) (o : Options) (st : State) (r : Record) → r ≡ recordOf L M o st → (r .limits ≡ L) × (r .modes ≡ M) × (r .options ≡ o)
+limits-are : (L : Limits) (M : Modes) (o : Options) (leading : ℕ) (st : State) (r : Record) → r ≡ recordOf L M o leading st → (r .limits ≡ L) × (r .modes ≡ M) × (r .options ≡ o)
 unfolding recordOf
-limits-are L M o st r e = (ap (λ (z : Record). z .limits) e, ap (λ (z : Record). z .modes) e, ap (λ (z : Record). z .options) e)
+limits-are L M o leading st r e = (ap (λ (z : Record). z .limits) e, ap (λ (z : Record). z .modes) e, ap (λ (z : Record). z .options) e)
 
 -- The state after a push, and the packets that it wrote.
 abbrev pub stateAfter : Limits → Modes → Options → State → Lent → State
@@ -134,17 +132,17 @@ module _ (L : Limits) (M : Modes) (o : Options) (st : State) (s : Recorder) (h :
   refusal-is : (c : Lent) → pushRefusal (s .handed) (length (s .work)) (length (s .bodies)) (length (s .map-room)) (length (c .0)) (c .1) ≡ callRefusal L st c
   refusal-is c =
       (λ i. pushRefusal (h .record-is i) (h .work-long i) (h .bodies-long i) (map-room-long i) (length (c .0)) (c .1))
-      ∙ refusal-same L M o st c (h .good .work-good) (h .good .fragments-good) (h .holds)
+      ∙ refusal-same L M o (s .handed .leading) st c (h .good .work-good) (h .good .fragments-good) (h .holds)
 
-  called-is : (c : Lent) (b : Bool) → eqb (callRefusal L st c) 0 ≡ b → called (s .handed) (s .work) (s .bodies) (s .map-room) (c .0) (c .1) ≡ after b L M o st (s .handed) c
+  called-is : (c : Lent) (b : Bool) → eqb (callRefusal L st c) 0 ≡ b → called (s .handed) (s .work) (s .bodies) (s .map-room) (c .0) (c .1) ≡ after b L M o (s .handed .leading) st (s .handed) c
   called-is c b e =
-      let l = limits-are L M o st (s .handed) (h .record-is) in
+      let l = limits-are L M o (s .handed .leading) st (s .handed) (h .record-is) in
       called-by (s .handed) (s .work) (s .bodies) (s .map-room) (c .0) (c .1)
-      ∙ (λ i. form (refusal-is c i) (l .0 i) (l .1 i) (l .2 i) (h .state-is i) (s .handed) (c .0))
+      ∙ (λ i. form (refusal-is c i) (l .0 i) (l .1 i) (l .2 i) (s .handed .leading) (h .state-is i) (s .handed) (c .0))
       ∙ go (eqb (callRefusal L st c) 0)
-      ∙ ap (λ (z : Bool). after z L M o st (s .handed) c) e
+      ∙ ap (λ (z : Bool). after z L M o (s .handed .leading) st (s .handed) c) e
     where
-      go : (b : Bool) → cond b (after true L M o st (s .handed) c) (after false L M o st (s .handed) c) ≡ after b L M o st (s .handed) c
+      go : (b : Bool) → cond b (after true L M o (s .handed .leading) st (s .handed) c) (after false L M o (s .handed .leading) st (s .handed) c) ≡ after b L M o (s .handed .leading) st (s .handed) c
       go true = refl
       go false = refl
 
@@ -157,7 +155,7 @@ module _ (L : Limits) (M : Modes) (o : Options) (st : State) (s : Recorder) (h :
 
     state-then : eqb (callRefusal L st c) 0 ≡ true → stateOf (t .handed) (t .work) (t .bodies) (t .map-room) ≡ push L M o st chunk .state
     state-then e =
-        let l = limits-are L M o st (s .handed) (h .record-is) in
+        let l = limits-are L M o (s .handed .leading) st (s .handed) (h .record-is) in
         ap (λ (z : Record). stateOf z (t .work) (t .bodies) (t .map-room)) (a .1)
         ∙ subst (λ (z : Called). RoomsAfter (eqb (z .number) 0) (push (s .handed .limits) (s .handed .modes) (s .handed .options) (stateOf (s .handed) (s .work) (s .bodies) (s .map-room)) chunk .state) (recordIn (x .filter)) (s .work) (s .bodies) (s .map-room) (t .work) (t .bodies) (t .map-room))
         (called-is c true e) (p .rooms)
@@ -181,7 +179,7 @@ module _ (L : Limits) (M : Modes) (o : Options) (st : State) (s : Recorder) (h :
               subst (λ (b : Bool). Between L M o (cond b (push L M o st chunk .state) st) t) (sym e)
                   (record {
                     good = h .good;
-                    record-is = a .1 ∙ p .handed-is ∙ ap (λ (z : Called). z .handed) q;
+                    record-is = own-leading L M o (leadingPushed L o st chunk (s .handed .leading)) (push L M o st chunk .state) (t .handed) (a .1 ∙ p .handed-is ∙ ap (λ (z : Called). z .handed) q);
                     state-is = state-then e;
                     holds = push-holds L M o st chunk (good-limit (L .work) (h .good .work-good)) (h .holds);
                     work-long = p .work-length ∙ h .work-long;
@@ -198,7 +196,7 @@ module _ (L : Limits) (M : Modes) (o : Options) (st : State) (s : Recorder) (h :
               subst (λ (b : Bool). Between L M o (cond b (push L M o st chunk .state) st) t) (sym e)
                   (record {
                     good = h .good;
-                    record-is = r ∙ h .record-is;
+                    record-is = own-leading L M o (s .handed .leading) st (t .handed) (r ∙ h .record-is);
                     state-is = (λ i. stateOf (r i) (same .0 i) (same .1 i) (same .2 i)) ∙ h .state-is;
                     holds = h .holds;
                     work-long = p .work-length ∙ h .work-long;
@@ -215,7 +213,7 @@ module _ (L : Limits) (M : Modes) (o : Options) (st : State) (s : Recorder) (h :
   unfolding soundRefusal
   sound-now =
       let e : sound (s .handed) (length (s .work)) (length (s .bodies)) (length (s .map-room)) ≡ true =
-      (λ i. sound (h .record-is i) (h .work-long i) (h .bodies-long i) (map-room-long i)) ∙ record-sound L M o st (h .good .work-good) (h .good .fragments-good) (h .holds) in
+      (λ i. sound (h .record-is i) (h .work-long i) (h .bodies-long i) (map-room-long i)) ∙ record-sound L M o (s .handed .leading) st (h .good .work-good) (h .good .fragments-good) (h .holds) in
       rw e
 
   pub asks : (x : dropped.Dropped) (t : Recorder) → Allows s Ask (Asked x) t → Between L M o st t × (answerNumber (x .answer) ≡ 0)

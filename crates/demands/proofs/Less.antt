@@ -105,9 +105,9 @@ push-accepted : (L : Limits) (M : Modes) (o : Options) → copiesAll o ≡ false
 unfolding push filtered
 push-accepted L M o e st chunk = rw e refl
 
-held-in : (L : Limits) (M : Modes) (o : Options) (st : State) → recordOf L M o st .held-count ≡ length (st .held)
+held-in : (L : Limits) (M : Modes) (o : Options) (leading : ℕ) (st : State) → recordOf L M o leading st .held-count ≡ length (st .held)
 unfolding recordOf
-held-in L M o st = refl
+held-in L M o leading st = refl
 
 held-before : (r : Record) (work bodies : Bytes) (map-room : List ℕ) → r .held-count ≤ length work → length (stateOf r work bodies map-room .held) ≡ r .held-count
 unfolding stateOf
@@ -178,7 +178,7 @@ module _ (s : Recorder) (chunk out : Bytes) (x : pushed.Pushed) (out′ : Bytes)
       let q = called-accepted s chunk out (eq-eqb (c .number) 0 (sym (a .0 .answer-is) ∙ e)) in
       let k = record-parts (s .handed) (length (s .work)) (length (s .bodies)) (length (s .map-room)) (q .0) in
       let counts : x .counts ≡ p .counts = a .0 .counts-are ∙ ap (λ (z : Called). z .counts) (q .1) in
-      let after : t .handed .held-count ≡ length (p .state .held) = ap (λ (r : Record). r .held-count) (a .1 ∙ a .0 .handed-is ∙ ap (λ (z : Called). z .handed) (q .1)) ∙ held-in (s .handed .limits) (s .handed .modes) (s .handed .options) (p .state) in
+      let after : t .handed .held-count ≡ length (p .state .held) = ap (λ (r : Record). r .held-count) (a .1 ∙ a .0 .handed-is ∙ ap (λ (z : Called). z .handed) (q .1)) ∙ held-in (s .handed .limits) (s .handed .modes) (s .handed .options) _ (p .state) in
       let before : length (st′ .held) ≡ s .handed .held-count = held-before (s .handed) (s .work) (s .bodies) (s .map-room) (omega (arith, k .held-few, limit-fits (length (s .work)))) in
       let packets : cut (packetLimit (s .handed .limits .work)) (st′ .held ++ chunk) .packets ≡ accepted s chunk = found-in (s .handed) (s .work) (s .bodies) (s .map-room) chunk (k .work-is) in
       let few = state-holds (s .handed) (s .work) (s .bodies) (s .map-room) (q .0) .known-holds .maps-hold .few in (

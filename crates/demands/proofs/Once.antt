@@ -6,15 +6,15 @@ use mathlib.Core.Bool.{Bool, true, false, cond}
 use mathlib.Core.List.{List, [], _∷_, _++_, map, flatten}
 use native.Mathlib.Nat.{zero-add, suc-add}
 use native.Mathlib.Omega.{arith}
-use lib.ListN.{length, take, drop}
-use lib.Seq.{take-take, take-add, take-nil}
+use lib.ListN.{length, take, drop, length-drop}
+use lib.Seq.{take-take, take-all, take-nil}
 use lib.Dec.{eqb}
 use Rattle.meaning.specs.Bytes.{Bytes}
 use Rattle.meaning.specs.Writing.{Wrote}
 use Rattle.meaning.specs.Lists.{sum}
 use Rattle.meaning.specs.Learn.{Fragment}
 use Rattle.meaning.specs.Refusals.{answerNumber}
-use Rattle.meaning.specs.Record.{State, Record, pairOf, fragmentIdentifier, fragmentFlags, fragmentLength, fragmentsIn, stateOf, bodiesOf}
+use Rattle.meaning.specs.Record.{State, Record, pairOf, fragmentIdentifier, fragmentFlags, fragmentLength, bodiesOf, lens, packedIn, fragmentsIn, stateOf}
 use Rattle.meaning.specs.Soundness.{soundRefusal}
 use Rattle.meaning.specs.Calls.{Called}
 use Rattle.meaning.specs.Rules.{dropped}
@@ -23,13 +23,14 @@ use Rattle.meaning.specs.Dropped.{droppedNow}
 use Rattle.meaning.specs.declared.Options.{Options}
 use Rattle.meaning.proofs.Writes.{wrote-one}
 use Rattle.meaning.proofs.AnswerLaws.{answer-told}
+use Rattle.meaning.proofs.LayoutLaws.{packed-bodies, apart}
 use Rattle.recorder.specs.Filter.{recordIn}
 use Rattle.recorder.specs.Calls.{RoomsAfter}
 use Rattle.recorder.specs.declared.Filter.{Filter}
 use Rattle.recorder.specs.declared.Started as started
 use Rattle.recorder.specs.declared.Pushed as pushed
 use Rattle.recorder.specs.declared.Dropped as asked
-use Rattle.demands.specs.Demands.{Recorder, Call, Push, Ask, Result, Pushed, Asked, Allows, Series, Same, Unique}
+use Rattle.demands.specs.Demands.{Recorder, Call, Push, Ask, Result, Pushed, Asked, Allows, Series, headsIn, leadingIn, othersIn, bodiesIn, Same, Unique}
 use Rattle.demands.proofs.Between.{form, called-by, asked-stays}
 use Rattle.demands.proofs.Refusing.{pushed-refused}
 use Rattle.demands.proofs.Narrowings.{narrow-unique}
@@ -48,6 +49,7 @@ filterOf r = record {
   «package_count» = r .package-count;
   «map_count» = r .map-count;
   «fragment_count» = r .fragment-count;
+  leading = r .leading;
   «data_set» = r .data-set;
   packages = r .packages;
   «map_heads» = r .map-heads;
@@ -68,35 +70,29 @@ drop-front zero m b = ap (λ (k : ℕ). take k b) (zero-add m)
 drop-front (suc n) m [] = ap (drop (suc n)) (take-nil (suc n + m)) ∙ sym (take-nil m)
 drop-front (suc n) m (x ∷ b) = ap (λ (k : ℕ). drop (suc n) (take k (x ∷ b))) (suc-add n m) ∙ drop-front n m b
 
-front-of : (hs : List ℕ) (b : Bytes) → bodiesOf (fragmentsIn hs b) ≡ take (sum (map fragmentLength hs)) b
-unfolding fragmentsIn bodiesOf flatten sum
-front-of [] b = refl
-front-of (h ∷ hs) b =
-    ap (λ (z : Bytes). take (fragmentLength h) b ++ z) (front-of hs (drop (fragmentLength h) b)) ∙ sym (take-add (fragmentLength h) (sum (map fragmentLength hs)) b)
-
-by-front : (hs : List ℕ) (b : Bytes) → fragmentsIn hs (take (sum (map fragmentLength hs)) b) ≡ fragmentsIn hs b
-unfolding fragmentsIn sum
+by-front : (hs : List ℕ) (b : Bytes) → packedIn hs (take (lens hs) b) ≡ packedIn hs b
+unfolding packedIn lens sum
 by-front [] b = refl
 by-front (h ∷ hs) b =
     let n = fragmentLength h in
-    let m = sum (map fragmentLength hs) in
+    let m = lens hs in
     ap₂ (λ (x : Bytes) (fs : List Fragment). record { identifier = fragmentIdentifier h; flags = fragmentFlags h; body = x } ∷ fs)
-    (take-take n (n + m) b (omega arith)) (ap (fragmentsIn hs) (drop-front n m b) ∙ by-front hs (drop n b))
+    (take-take n (n + m) b (omega arith)) (ap (packedIn hs) (drop-front n m b) ∙ by-front hs (drop n b))
 
 abbrev pub stateIn : Recorder → State
 stateIn s = stateOf (s .handed) (s .work) (s .bodies) (s .map-room)
 
--- The heads of the fragments that are held.
-abbrev heads : Record → List ℕ
-heads r = take (r .fragment-count) (r .fragment-heads)
-
 -- Equal rooms, as far as they are used, and equal records mean equal state.
 pub state-same : (s t : Recorder) → Same s t → stateIn s ≡ stateIn t
-unfolding stateOf
+unfolding stateOf fragmentsIn
 state-same s t e =
     let h = e .handed-same in
-    let f : fragmentsIn (heads (s .handed)) (s .bodies) ≡ fragmentsIn (heads (t .handed)) (t .bodies) =
-    sym (by-front (heads (s .handed)) (s .bodies)) ∙ (λ i. fragmentsIn (heads (h i)) (e .used-same .1 i)) ∙ by-front (heads (t .handed)) (t .bodies) in
+    let front : bodiesIn s .0 ≡ bodiesIn t .0 = ap (λ (x : Bytes × Bytes). x .0) (e .used-same .1) in
+    let back : bodiesIn s .1 ≡ bodiesIn t .1 = ap (λ (x : Bytes × Bytes). x .1) (e .used-same .1) in
+    let f : packedIn (leadingIn (s .handed)) (s .bodies) ≡ packedIn (leadingIn (t .handed)) (t .bodies) =
+    sym (by-front (leadingIn (s .handed)) (s .bodies)) ∙ ap₂ packedIn (ap leadingIn h) front ∙ by-front (leadingIn (t .handed)) (t .bodies) in
+    let g : packedIn (othersIn (s .handed)) (drop (length (s .bodies) - lens (othersIn (s .handed))) (s .bodies))
+    ≡ packedIn (othersIn (t .handed)) (drop (length (t .bodies) - lens (othersIn (t .handed))) (t .bodies)) = ap₂ packedIn (ap othersIn h) back in
     λ i. record {
       held = e .used-same .0 i;
       known = record {
@@ -105,21 +101,31 @@ state-same s t e =
         map-heads = map pairOf (take (h i .map-count) (h i .map-heads));
         map-room = e .map-room-same i;
         data-set = h i .data-set;
-        fragments = f i;
+        fragments = f i ++ g i;
       };
     }
 
--- And the other way.
+-- And the other way: the bodies at the front, and those at the end.
+front-told : (s : Recorder) → bodiesOf (take (s .handed .leading) (stateIn s .known .fragments)) ≡ bodiesIn s .0
+unfolding stateOf fragmentsIn
+front-told s = ap bodiesOf (apart (s .handed .leading) (headsIn (s .handed)) (s .bodies) .0) ∙ packed-bodies (leadingIn (s .handed)) (s .bodies)
+
+back-told : (s : Recorder) → bodiesOf (drop (s .handed .leading) (stateIn s .known .fragments)) ≡ bodiesIn s .1
+unfolding stateOf fragmentsIn
+back-told s =
+    let n = length (s .bodies) - lens (othersIn (s .handed)) in
+    ap bodiesOf (apart (s .handed .leading) (headsIn (s .handed)) (s .bodies) .1) ∙ packed-bodies (othersIn (s .handed)) (drop n (s .bodies))
+    ∙ take-all (lens (othersIn (s .handed))) (drop n (s .bodies)) (omega (arith, length-drop n (s .bodies)))
+
 pub state-tells : (s t : Recorder) → s .handed ≡ t .handed → stateIn s ≡ stateIn t → length (s .work) ≡ length (t .work) → length (s .bodies) ≡ length (t .bodies) → Same s t
 unfolding stateOf
 state-tells s t r e w b =
+    let front = sym (front-told s) ∙ (λ i. bodiesOf (take (r i .leading) (e i .known .fragments))) ∙ front-told t in
+    let back = sym (back-told s) ∙ (λ i. bodiesOf (drop (r i .leading) (e i .known .fragments))) ∙ back-told t in
     record {
       handed-same = r;
       map-room-same = ap (λ (x : State). x .known .map-room) e;
-      used-same = (
-        ap (λ (x : State). x .held) e,
-        sym (front-of (heads (s .handed)) (s .bodies)) ∙ ap (λ (x : State). bodiesOf (x .known .fragments)) e ∙ front-of (heads (t .handed)) (t .bodies),
-      );
+      used-same = (ap (λ (x : State). x .held) e, λ i. (front i, back i));
       lengths-same = (w, b);
     }
 
@@ -131,7 +137,7 @@ module _ (s t : Recorder) (e : Same s t) (chunk : Bytes) (n : ℕ) where
       called-by (s .handed) (s .work) (s .bodies) (s .map-room) chunk n
       ∙ (λ i. form
       (pushRefusal (e .handed-same i) (e .lengths-same .0 i) (e .lengths-same .1 i) (length (e .map-room-same i)) (length chunk) n)
-      (e .handed-same i .limits) (e .handed-same i .modes) (e .handed-same i .options) (state-same s t e i) (e .handed-same i) chunk)
+      (e .handed-same i .limits) (e .handed-same i .modes) (e .handed-same i .options) (e .handed-same i .leading) (state-same s t e i) (e .handed-same i) chunk)
       ∙ sym (called-by (t .handed) (t .work) (t .bodies) (t .map-room) chunk n)
 
 module _ (s t : Recorder) (e : Same s t) (chunk out : Bytes) (x y : pushed.Pushed) (d₁ d₂ : Bytes) (u v : Recorder)

@@ -3,19 +3,19 @@
 use Prim.Native.Nat.{ℕ, zero, suc, _+_, _-_, _≤_}
 use mathlib.Core.Path.{_≡_, refl, sym, ap, _∙_, subst}
 use mathlib.Core.Bool.{Bool, true, false, cond}
-use mathlib.Core.List.{List, [], _∷_, _++_, flatten, append-nil}
+use mathlib.Core.List.{List, [], _++_, flatten, append-nil}
 use native.Mathlib.Omega.{arith}
 use lib.ListN.{length, drop, length-append, length-drop}
 use lib.Dec.{eqb, leb}
 use borrow.Author.Tests.{eqb-true}
 use Rattle.meaning.specs.Bytes.{Bytes}
 use Rattle.meaning.specs.Writing.{Wrote}
-use Rattle.meaning.specs.Lists.{sum}
 use Rattle.meaning.specs.Wishes.{wantsAssets, copiesAll}
 use Rattle.meaning.specs.Rooms.{packetLimit, goodWorkRoom, goodFragmentRoom, goodMapRoom}
-use Rattle.meaning.specs.Learn.{Fragment, fragmentBytes}
+use Rattle.meaning.specs.Learn.{fragmentBytes}
 use Rattle.meaning.specs.Refusals.{numberOf, answerNumber}
-use Rattle.meaning.specs.Record.{State, Record, recordOf, stateOf, bodiesOf}
+use Rattle.meaning.specs.Record.{State, Record, recordOf, roomOf, stateOf}
+use Rattle.meaning.specs.Leading.{leadingPushed}
 use Rattle.meaning.specs.Soundness.{sound, soundRefusal}
 use Rattle.meaning.specs.Calls.{countsOf, Called}
 use Rattle.meaning.specs.Start.{startRefusal, started}
@@ -30,6 +30,7 @@ use Rattle.meaning.specs.declared.Answer.{Answer}
 use Rattle.meaning.specs.declared.Answer.the-variants.{Done, Refused}
 use Rattle.meaning.specs.declared.Refusal.the-variants.{WorkRoom, FragmentRoom, MapRoom, Unsound, Long, Short, Tally, Input, Wishes}
 use Rattle.meaning.proofs.Writes.{wrote-none}
+use Rattle.meaning.proofs.LayoutLaws.{room-size}
 use Rattle.meaning.proofs.SoundnessLaws.{state-holds, push-holds, state-back, good-limit}
 use Rattle.recorder.specs.Filter.{recordIn}
 use Rattle.recorder.specs.Calls.{RoomsAfter}
@@ -109,11 +110,6 @@ bytes-are L M o st chunk = go (copiesAll o) refl
     go true e = rw e (ap length (sym (append-nil chunk)))
     go false e = rw e refl
 
-bodies-length : (fs : List Fragment) → length (bodiesOf fs) ≡ fragmentBytes fs
-unfolding bodiesOf fragmentBytes flatten sum
-bodies-length [] = refl
-bodies-length (f ∷ fs) = length-append (f .body) (bodiesOf fs) ∙ ap (λ (n : ℕ). length (f .body) + n) (bodies-length fs)
-
 -- A room that begins with these bytes, as long as it was.
 over-front : (y d : Bytes) → length y ≤ length d → length (y ++ drop (length y) d) ≡ length d
 over-front y d h = omega (arith, h, length-append y (drop (length y) d), length-drop (length y) d)
@@ -154,29 +150,34 @@ module _ (s : Recorder) (chunk out : Bytes) where
   abbrev st : State
   st = push (r .limits) (r .modes) (r .options) (stateOf r (s .work) (s .bodies) (s .map-room)) chunk .state
 
+  abbrev led : ℕ
+  led = leadingPushed (r .limits) (r .options) (stateOf r (s .work) (s .bodies) (s .map-room)) chunk (r .leading)
+
+  -- the fragment room: what the bodies leave free is what stood behind as many bytes
   abbrev kept : Bytes
-  kept = bodiesOf (st .known .fragments)
+  kept = roomOf led (st .known .fragments) (drop (fragmentBytes (st .known .fragments)) (s .bodies))
 
   -- what is long enough
   record Fits : Type 0 where
     work-fits : length (st .held) ≤ length (s .work)
-    bodies-fit : length kept ≤ length (s .bodies)
-    back : stateOf (recordOf (r .limits) (r .modes) (r .options) st) (st .held ++ drop (length (st .held)) (s .work)) (kept ++ drop (length kept) (s .bodies)) (st .known .map-room) ≡ st
+    bodies-fit : length kept ≡ length (s .bodies)
+    back : stateOf (recordOf (r .limits) (r .modes) (r .options) led st) (st .held ++ drop (length (st .held)) (s .work)) kept (st .known .map-room) ≡ st
 
   fits : sound r (length (s .work)) (length (s .bodies)) (length (s .map-room)) ≡ true → Fits
   fits e =
       let p = record-parts r (length (s .work)) (length (s .bodies)) (length (s .map-room)) e in
       let four : 4 ≤ packetLimit (r .limits .work) = subst (λ (n : ℕ). 4 ≤ packetLimit n) (sym (p .work-is)) (good-limit (length (s .work)) (p .work-good)) in
       let h = push-holds (r .limits) (r .modes) (r .options) (stateOf r (s .work) (s .bodies) (s .map-room)) chunk four (state-holds r (s .work) (s .bodies) (s .map-room) e) in
+      let fs = st .known .fragments in
       record {
         work-fits = omega (arith, h .held-few, limit-fits (r .limits .work), p .work-is);
-        bodies-fit = omega (arith, bodies-length (st .known .fragments), h .known-holds .fragments-hold .within, p .total-is);
-        back = state-back (r .limits) (r .modes) (r .options) st (omega (arith, p .total-is, p .total-few)) h (drop (length (st .held)) (s .work)) (drop (length kept) (s .bodies));
+        bodies-fit = omega (arith, room-size led fs (drop (fragmentBytes fs) (s .bodies)), length-drop (fragmentBytes fs) (s .bodies), h .known-holds .fragments-hold .within, p .total-is);
+        back = state-back (r .limits) (r .modes) (r .options) led st (omega (arith, p .total-is, p .total-few)) h (drop (length (st .held)) (s .work)) (drop (fragmentBytes fs) (s .bodies));
       }
 
   pub called-accepted : eqb (c .number) 0 ≡ true
       → (sound r (length (s .work)) (length (s .bodies)) (length (s .map-room)) ≡ true)
-      × (c ≡ record { number = 0; out = push (r .limits) (r .modes) (r .options) (stateOf r (s .work) (s .bodies) (s .map-room)) chunk .out; counts = push (r .limits) (r .modes) (r .options) (stateOf r (s .work) (s .bodies) (s .map-room)) chunk .counts; handed = recordOf (r .limits) (r .modes) (r .options) st })
+      × (c ≡ record { number = 0; out = push (r .limits) (r .modes) (r .options) (stateOf r (s .work) (s .bodies) (s .map-room)) chunk .out; counts = push (r .limits) (r .modes) (r .options) (stateOf r (s .work) (s .bodies) (s .map-room)) chunk .counts; handed = recordOf (r .limits) (r .modes) (r .options) led st })
   called-accepted e =
       let z : eqb (pushRefusal r (length (s .work)) (length (s .bodies)) (length (s .map-room)) (length chunk) (length out)) 0 ≡ true =
       ap (λ (n : ℕ). eqb n 0) (sym (called-number r (s .work) (s .bodies) (s .map-room) chunk (length out))) ∙ e in
@@ -185,10 +186,10 @@ module _ (s : Recorder) (chunk out : Bytes) where
       x : ℕ
       x = pushRefusal r (length (s .work)) (length (s .bodies)) (length (s .map-room)) (length chunk) (length out)
 
-      done : eqb x 0 ≡ true → form x (r .limits) (r .modes) (r .options) (stateOf r (s .work) (s .bodies) (s .map-room)) r chunk
-          ≡ record { number = 0; out = push (r .limits) (r .modes) (r .options) (stateOf r (s .work) (s .bodies) (s .map-room)) chunk .out; counts = push (r .limits) (r .modes) (r .options) (stateOf r (s .work) (s .bodies) (s .map-room)) chunk .counts; handed = recordOf (r .limits) (r .modes) (r .options) st }
+      done : eqb x 0 ≡ true → form x (r .limits) (r .modes) (r .options) (r .leading) (stateOf r (s .work) (s .bodies) (s .map-room)) r chunk
+          ≡ record { number = 0; out = push (r .limits) (r .modes) (r .options) (stateOf r (s .work) (s .bodies) (s .map-room)) chunk .out; counts = push (r .limits) (r .modes) (r .options) (stateOf r (s .work) (s .bodies) (s .map-room)) chunk .counts; handed = recordOf (r .limits) (r .modes) (r .options) led st }
       done z = ap (λ (b : Bool). cond b
-          (record { number = 0; out = push (r .limits) (r .modes) (r .options) (stateOf r (s .work) (s .bodies) (s .map-room)) chunk .out; counts = push (r .limits) (r .modes) (r .options) (stateOf r (s .work) (s .bodies) (s .map-room)) chunk .counts; handed = recordOf (r .limits) (r .modes) (r .options) st })
+          (record { number = 0; out = push (r .limits) (r .modes) (r .options) (stateOf r (s .work) (s .bodies) (s .map-room)) chunk .out; counts = push (r .limits) (r .modes) (r .options) (stateOf r (s .work) (s .bodies) (s .map-room)) chunk .counts; handed = recordOf (r .limits) (r .modes) (r .options) led st })
           (record { number = x; out = []; counts = countsOf 0; handed = r })) z
 
       sound-of : eqb x 0 ≡ true → sound r (length (s .work)) (length (s .bodies)) (length (s .map-room)) ≡ true
@@ -199,7 +200,7 @@ module _ (s : Recorder) (chunk out : Bytes) where
       let q = called-accepted e in
       let f = fits (q .0) in
       let work : Bytes = st .held ++ drop (length (st .held)) (s .work) in
-      let bodies : Bytes = kept ++ drop (length kept) (s .bodies) in
+      let bodies : Bytes = kept in
       let y : Bytes = flatten (c .out) in
       let n : c .counts .bytes ≡ length y = ap (λ (z : Called). z .counts .bytes) (q .1) ∙ bytes-are (r .limits) (r .modes) (r .options) (stateOf r (s .work) (s .bodies) (s .map-room)) chunk ∙ ap (λ (z : Called). length (flatten (z .out))) (sym (q .1)) in (
         Pushed (record { answer = a .0; counts = c .counts; filter = filterOf (c .handed) }) (y ++ drop (c .counts .bytes) out),
@@ -213,7 +214,7 @@ module _ (s : Recorder) (chunk out : Bytes) where
             rooms = subst (λ (b : Bool). RoomsAfter b st (recordIn (filterOf (c .handed))) (s .work) (s .bodies) (s .map-room) work bodies (st .known .map-room)) (sym e)
                 (ap (λ (z : Record). stateOf z work bodies (st .known .map-room)) (record-of (c .handed) ∙ ap (λ (z : Called). z .handed) (q .1)) ∙ f .back);
             work-length = over-front (st .held) (s .work) (f .work-fits);
-            bodies-length = over-front kept (s .bodies) (f .bodies-fit);
+            bodies-length = f .bodies-fit;
           },
           sym (record-of (c .handed)),
         ),

@@ -5,16 +5,15 @@ use mathlib.Core.Path.{_≡_}
 use mathlib.Core.Bool.{Bool, true, false, cond, not}
 use mathlib.Core.List.{List, [], _∷_, _++_, map, flatten, List·Memᴰ}
 use mathlib.Core.Option.{Option, none, some}
-use lib.ListN.{length, take}
+use lib.ListN.{length, take, drop}
 use lib.Dec.{eqb, ltb}
 use Rattle.meaning.specs.Bytes.{Bytes}
-use Rattle.meaning.specs.Lists.{sum}
 use Rattle.meaning.specs.Packets.{cut}
 use Rattle.meaning.specs.Wishes.{wantsAssets, copiesAll, captionsOnly}
 use Rattle.meaning.specs.Narrow.{Change, narrowedPacket, changeTable, changePayload, changePacket, narrowRefusal, noneOfEach}
 use Rattle.meaning.specs.Rooms.{packetLimit, goodWorkRoom, goodFragmentRoom, goodMapRoom}
 use Rattle.meaning.specs.Refusals.{answerNumber, narrowingNumber, narrowingChanged, narrowingLength}
-use Rattle.meaning.specs.Record.{Record, fragmentLength, stateOf}
+use Rattle.meaning.specs.Record.{Record, lens, stateOf}
 use Rattle.meaning.specs.Soundness.{sound, firsts}
 use Rattle.meaning.specs.Calls.{countsOf}
 use Rattle.meaning.specs.Start.{blank}
@@ -131,8 +130,19 @@ pub record Total : Type 0 where
 abbrev pub heldIn : Recorder → Bytes
 heldIn s = take (s .handed .held-count) (s .work)
 
-abbrev pub bodiesIn : Recorder → Bytes
-bodiesIn s = take (sum (map fragmentLength (take (s .handed .fragment-count) (s .handed .fragment-heads)))) (s .bodies)
+-- The heads of the fragments that are held; of those that lead, and of the others.
+abbrev pub headsIn : Record → List ℕ
+headsIn r = take (r .fragment-count) (r .fragment-heads)
+
+abbrev pub leadingIn : Record → List ℕ
+leadingIn r = take (r .leading) (headsIn r)
+
+abbrev pub othersIn : Record → List ℕ
+othersIn r = drop (r .leading) (headsIn r)
+
+-- The bodies of those that lead stand at the front of the fragment room, the others' at its end.
+abbrev pub bodiesIn : Recorder → Bytes × Bytes
+bodiesIn s = (take (lens (leadingIn (s .handed))) (s .bodies), drop (length (s .bodies) - lens (othersIn (s .handed))) (s .bodies))
 
 pub record Same (s t : Recorder) : Type 0 where
   pub handed-same : s .handed ≡ t .handed

@@ -1,25 +1,208 @@
--- The public functions on fragments, each from what its callees promise: a fragment dropped, a first held, a further body joined within the
--- limits. Rests on RoomLaws, and on SoundnessKept of `meaning` for what a sound state keeps to.
-use Prim.Native.Nat.{ℕ, _+_, _-_, _≤_, _<_}
+-- The functions on fragments, each from what its callees promise: a fragment given up or dropped, a first held, a further body joined within
+-- the limits. Rests on RoomLaws and OnceLaws, and on SoundnessKept of `meaning` for what a sound state keeps to.
+use Prim.Native.Nat.{ℕ, _+_, _-_, _*_, _%_, _≤_, _<_}
 use mathlib.Core.Path.{_≡_, refl, sym, ap, ap₂, _∙_, subst}
 use mathlib.Core.Bool.{Bool, true, false, cond, _&&_}
-use mathlib.Core.List.{List, _++_}
+use mathlib.Core.List.{List, [], _∷_, _++_}
 use mathlib.Core.Option.{Option, some, Option·some-injective}
 use native.Mathlib.Omega.{arith}
-use lib.ListN.{length, take, drop, getD}
-use lib.Dec.{leb}
-use borrow.Author.Tests.{leb-true, leb-false, le-leb, lt-leb}
+use lib.ListN.{length, take, drop, getD, set}
+use lib.Dec.{leb, ltb}
+use borrow.Author.Tests.{ltb-true, ltb-false, leb-true, leb-false, le-leb, lt-leb}
 use Rattle.meaning.specs.Bytes.{Bytes}
-use Rattle.meaning.specs.Learn.{Fragment, without, growIn, fits, middleOf, middle}
-use Rattle.meaning.specs.Record.{fragmentFlags, fragmentLength}
+use Rattle.meaning.specs.Writing.{Wrote}
+use Rattle.meaning.specs.Learn.{Fragment, without, fragmentOf, growIn, holdFirst, fits, middleOf, middle}
+use Rattle.meaning.specs.Record.{fragmentFlags, fragmentLength, lens}
+use Rattle.meaning.specs.Leading.{indexOf, leadingAfter}
 use Rattle.meaning.specs.Soundness.{HoldsFragments}
 use Rattle.meaning.specs.declared.Limits.{Limits}
 use Rattle.meaning.proofs.ListLaws.{and-both}
+use Rattle.meaning.proofs.MoveLaws.{once-none}
 use Rattle.meaning.proofs.SoundnessKept.{first-holds, middle-holds}
-use Rattle.fragments.specs.Fragments.{lens, indexIn, KeptFragments, KeepsFragments, Numbers, Drops, GivesUp, HoldsFirst, PutsBehind, Lengthens, GrowsWithin, GrowsAtIndex, LearnsMiddle}
+use Rattle.fragments.specs.Fragments.{indexIn, othersOf, lengthAt, TakesOut, FreeMoved, Packed, KeptFragments, KeepsFragments, Numbers, HeldAfter, Nearest, GivesUp, DropsAt, Drops, GivesBack, heldBehind, PutsBehind, HoldsFirst, Lengthens, GrewAt, GrowsWithin, GrowsAtIndex, LearnsMiddle}
+use Rattle.fragments.specs.declared.Held.{Held}
 use Rattle.fragments.specs.declared.Grown.{Grown}
-use Rattle.fragments.proofs.FragmentLaws.{lens-turn, lens-less, missing}
-use Rattle.fragments.proofs.RoomLaws.{numbers, sum-is, index-is, There, there}
+use Rattle.fragments.proofs.FragmentLaws.{lens-turn, lens-less, missing, own-turn, own-ends, others-count, index-grown, grown-length, without-grown, not-found, leading-gone, leading-none, leading-grown, leading-behind}
+use Rattle.fragments.proofs.RoomLaws.{numbers, sum-is, index-is, nearest-kept, free-moved, There, there, left-last, left-next, grown-in, others-bytes, put-kept, held-so, full-so, short-so}
+use Rattle.fragments.proofs.OnceLaws.{once-moved, once-grown, once-put}
+
+pub some-numbers : (n leading : ℕ) (fragment-heads bodies : List ℕ) → KeepsFragments n leading fragment-heads bodies → Numbers n fragment-heads bodies
+some-numbers n leading fragment-heads bodies k = numbers (k .0) (k .1) n leading fragment-heads bodies (k .2)
+
+-- The numbers by which the free bytes move, from the sums that the code has taken.
+pub free-numbers : (fragment-heads : List ℕ) (n leading to old new all total : ℕ) → leading ≤ n → to ≤ n → lens (take n fragment-heads) ≤ total → old ≡ lens (take leading fragment-heads)
+    → new ≡ lens (take to fragment-heads) → all ≡ lens (take n fragment-heads)
+    → (leading < to → old ≤ new) × (to ≤ leading → new ≤ old) × (old ≤ all) × (new ≤ all) × (all ≤ total)
+free-numbers fragment-heads n leading to old new all total low high within eo en ea = (
+  λ h. omega (arith, eo, en, lens-less fragment-heads leading to (omega arith)),
+  λ h. omega (arith, eo, en, lens-less fragment-heads to leading h),
+  omega (arith, eo, ea, lens-less fragment-heads leading n low),
+  omega (arith, en, ea, lens-less fragment-heads to n high),
+  omega (arith, ea, within),
+)
+
+-- ---- given up, and dropped
+
+-- beside it they are among the fragments
+pub to-low : (index n leading to : ℕ) → index < n → leading ≤ n → (index < leading → to ≡ index + 1) → (leading ≤ index → to ≡ index) → to ≤ n
+to-low index n leading to lt low led not-led = go (ltb index leading) refl
+  where
+    go : (x : Bool) → ltb index leading ≡ x → to ≤ n
+    go true e = omega (arith, led (ltb-true index leading e))
+    go false e = omega (arith, not-led (ltb-false index leading e))
+
+-- the free bytes were brought beside it
+pub given-up : (index n leading to : ℕ) (fragment-heads bodies : List ℕ) (old new all : ℕ) (fragment-heads′ bodies′ : List ℕ) → index < n → leading ≤ n → Numbers n fragment-heads bodies
+    → (index < leading → to ≡ index + 1) → (leading ≤ index → to ≡ index) → old ≡ lens (take leading fragment-heads) → new ≡ lens (take to fragment-heads)
+    → all ≡ lens (take n fragment-heads) → FreeMoved leading to old new all bodies bodies′
+    → Wrote (take (n - 1 - index) (drop (index + 1) fragment-heads) ++ (0 ∷ [])) fragment-heads index fragment-heads′ n
+    → GivesUp index n leading fragment-heads bodies (record { count = n - 1; leading = index }) fragment-heads′ bodies′
+given-up index n leading to fragment-heads bodies old new all fragment-heads′ bodies′ lt low ns led not-led eo en ea m w = record {
+  left = λ T p fs at k. go (ltb index leading) refl T p fs at (free-moved T fs n leading fragment-heads bodies k to old new all bodies′ low high eo en ea m);
+  leading-is = refl;
+  once = let f = free-numbers fragment-heads n leading to old new all (length bodies) low high (ns .within) eo en ea in once-moved leading to old new all bodies bodies′ (f .0) (f .1) (f .2) (f .3) (f .4) m;
+}
+  where
+    high : to ≤ n
+    high = to-low index n leading to lt low led not-led
+
+    go : (x : Bool) → ltb index leading ≡ x → (T p : ℕ) (fs : List Fragment) → index ≡ indexOf p fs → KeptFragments T fs n to fragment-heads bodies′
+        → KeptFragments T (without p fs) (n - 1) index fragment-heads′ bodies′
+    go true e T p fs at k = left-last T p fs index n to fragment-heads bodies′ at lt k fragment-heads′ w (led (ltb-true index leading e))
+    go false e T p fs at k = left-next T p fs index n to fragment-heads bodies′ at lt k fragment-heads′ w (not-led (ltb-false index leading e))
+
+module _ (index n leading : ℕ) (fragment-heads bodies : List ℕ) where
+  pub dropped-at : (near : ℕ) (r : Held) (fragment-heads′ bodies′ : List ℕ) → index < n → Nearest n leading near → GivesUp index n near fragment-heads bodies r fragment-heads′ bodies′
+      → DropsAt index n leading fragment-heads bodies r fragment-heads′ bodies′
+  dropped-at near r fragment-heads′ bodies′ lt m g = record {
+    left = λ T p fs at k.
+        record {
+          kept = g .left T p fs at (nearest-kept T fs n leading fragment-heads bodies k near m);
+          leading-is = g .leading-is ∙ at ∙ sym (leading-gone p fs leading (omega (arith, k .heads .count)));
+        };
+    once = g .once;
+  }
+
+  pub none-at : n ≤ index → DropsAt index n leading fragment-heads bodies (record { count = n; leading = leading }) fragment-heads bodies
+  none-at h = record {
+    left = λ T p fs at k.
+        let l : length fs ≤ indexOf p fs = omega (arith, k .heads .count) in
+        let e : fs ≡ without p fs = sym (missing p fs l .0) in
+        record {
+          kept = subst (λ (z : List Fragment). KeptFragments T z n leading fragment-heads bodies) e k;
+          leading-is = sym (leading-none p fs leading l) ∙ ap (λ (z : List Fragment). leadingAfter p fs z leading) e;
+        };
+    once = λ b. once-none bodies b;
+  }
+
+module _ (p n leading : ℕ) (fragment-heads bodies : List ℕ) where
+  pub dropped : (i : ℕ) (r : Held) (fragment-heads′ bodies′ : List ℕ) → i ≡ indexIn p (take n fragment-heads) → DropsAt i n leading fragment-heads bodies r fragment-heads′ bodies′
+      → Drops p n leading fragment-heads bodies r fragment-heads′ bodies′
+  dropped i r fragment-heads′ bodies′ e g = record {
+    left = λ T fs k. g .left T p fs (e ∙ index-is T fs n leading fragment-heads bodies k p) k;
+    once = g .once;
+  }
+
+-- ---- given back
+
+pub given-back : (n leading : ℕ) (fragment-heads fragment-heads′ : List ℕ) → 0 < leading → leading ≤ n
+    → Wrote (take (n - 1 - (leading - 1)) (drop (leading - 1 + 1) fragment-heads) ++ (0 ∷ [])) fragment-heads (leading - 1) fragment-heads′ n
+    → GivesBack n leading fragment-heads (record { count = n - 1; leading = leading - 1 }) fragment-heads′
+given-back n leading fragment-heads fragment-heads′ h low w =
+    (refl, λ T p fs bodies e k. left-last T p fs (leading - 1) n leading fragment-heads bodies (omega (arith, e)) (omega arith) k fragment-heads′ w (omega arith))
+
+-- ---- a first
+
+module _ (index n : ℕ) where
+  others-low : index ≤ n → index < 256 → n ≤ 256 → othersOf index n < 256
+  unfolding othersOf
+  others-low le few l = go (ltb index n) refl
+    where
+      go : (x : Bool) → ltb index n ≡ x → cond x (n - 1) n < 256
+      go true e = omega (arith, ltb-true index n e)
+      go false e = omega (arith, ltb-false index n e)
+
+pub others-small : (index n count : ℕ) → index ≤ n → index < 256 → n ≤ 256 → count ≡ othersOf index n → count < 256
+others-small index n count le few l e = omega (arith, e, others-low index n le few l)
+
+module _ (index p flags : ℕ) (b : Bytes) (n leading : ℕ) (fragment-heads bodies : List ℕ) (le : index ≤ n) (few : index < 256) (low : leading ≤ n) (ns : Numbers n fragment-heads bodies)
+    (fit : lens (take n fragment-heads) - lengthAt index n fragment-heads + length b ≤ length bodies) (start own old all : ℕ) (es : start ≡ lens (take index fragment-heads))
+    (ew : own ≡ lengthAt index n fragment-heads) (eo : old ≡ lens (take leading fragment-heads)) (ea : all ≡ lens (take n fragment-heads)) where
+  -- where it stands, for what packs the others
+  pub own-stands : (start ≤ start + own) × (start + own ≤ all) × (old ≤ all) × (all ≤ length bodies) × (index < leading → start + own ≤ old) × (leading ≤ index → old ≤ start)
+  own-stands = (
+    omega arith,
+    omega (arith, own-ends fragment-heads index n le),
+    omega (arith, lens-less fragment-heads leading n low),
+    omega (arith, ns .within),
+    λ h. omega (arith, own-turn fragment-heads index n (omega arith), lens-less fragment-heads (index + 1) leading (omega arith)),
+    λ h. omega (arith, lens-less fragment-heads leading index h),
+  )
+
+  pub put : (mid : Bytes) (rest count q head : ℕ) (fragment-heads₁ bodies′ : List ℕ) → rest ≡ all - own → count ≡ othersOf index n → length bodies′ ≡ length mid
+      → Packed index leading start (start + own) old all bodies mid → Wrote b mid rest bodies′ q → TakesOut index n fragment-heads fragment-heads₁
+      → head ≡ p * 281474976710656 + flags % 64 * 1099511627776 + length b
+      → PutsBehind index p flags b n leading fragment-heads bodies (record { count = count + 1; leading = count + 1 }) (set fragment-heads₁ count head) bodies′
+  put mid rest count q head fragment-heads₁ bodies′ er ec same m w out eh = record {
+    held = λ L fs at k.
+        let T : ℕ = L .total in
+        let small : count < 256 = others-small index n count le few (ns .few) ec in
+        let c : othersOf index n ≡ length (without p fs) = out p fs (k .hold .once) at (k .heads) .count in
+        let bytes = others-bytes T p fs index n leading fragment-heads bodies at le k in
+        let e : holdFirst L p flags b fs ≡ heldBehind p flags b fs = held-so L p flags b fs (omega arith) (omega (arith, k .total)) in
+        let hold : HoldsFragments T (heldBehind p flags b fs) = subst (HoldsFragments T) e (first-holds L p flags b fs (k .hold)) in (
+          subst (λ (l : List Fragment). KeptFragments T l (count + 1) (count + 1) (set fragment-heads₁ count head) bodies′) (sym e)
+              (put-kept T p fs index n leading fragment-heads bodies at le k low start (start + own) old all mid es (ap (λ (z : ℕ). start + z) ew) eo ea m flags b rest count q fragment-heads₁
+              (set fragment-heads₁ count head) bodies′ (er ∙ ap (λ (z : ℕ). all - z) ew) ec small same w out (ap (set fragment-heads₁ count) eh) hold),
+          e,
+        );
+    leading-is = ap (λ (z : ℕ). z + 1) ec;
+    once = let s = own-stands in
+        once-put index leading start (start + own) old all bodies mid b bodies′ q (s .0) (s .1) (s .2) (s .3) (s .4) (s .5) (omega arith) m
+        (subst (λ (z : ℕ). Wrote b mid z bodies′ q) (let z : rest ≡ all - (start + own - start) = omega arith in z) w);
+  }
+
+pub first-room : (index : ℕ) (b : Bytes) (rest : ℕ) (bodies : Bytes) → (ltb index 256 && leb (rest + length b) (length bodies)) ≡ true → (index < 256) × (rest + length b ≤ length bodies)
+first-room index b rest bodies e =
+    let h = and-both (ltb index 256) (leb (rest + length b) (length bodies)) e in
+    (ltb-true index 256 (h .0), leb-true (rest + length b) (length bodies) (h .1))
+
+-- by the bytes of the others
+module _ (index p flags : ℕ) (b : Bytes) (n leading : ℕ) (fragment-heads bodies : List ℕ) (e : index ≡ indexIn p (take n fragment-heads)) (le : index ≤ n) (rest : ℕ)
+    (er : rest ≡ lens (take n fragment-heads) - lengthAt index n fragment-heads) where
+  pub first-held : (near : ℕ) (r : Held) (fragment-heads′ bodies′ : List ℕ) → Nearest n leading near → PutsBehind index p flags b n near fragment-heads bodies r fragment-heads′ bodies′
+      → HoldsFirst p flags b n leading fragment-heads bodies r fragment-heads′ bodies′
+  first-held near r fragment-heads′ bodies′ m g = record {
+    held = λ L fs k.
+        let at : index ≡ indexOf p fs = e ∙ index-is (L .total) fs n leading fragment-heads bodies k p in
+        let h = g .held L fs at (nearest-kept (L .total) fs n leading fragment-heads bodies k near m) in
+        record {
+          kept = h .0;
+          leading-is = g .leading-is ∙ ap (λ (z : ℕ). z + 1) (others-count index n p fs (k .heads .count) at (k .hold .once))
+              ∙ sym (leading-behind p fs leading (record { identifier = p; flags = flags % 64; body = b }) refl) ∙ ap (λ (l : List Fragment). leadingAfter p fs l leading) (sym (h .1));
+        };
+    once = g .once;
+  }
+
+  pub first-not-held : (r : Held) (fragment-heads′ bodies′ : List ℕ) → n ≤ 256 → (ltb index 256 && leb (rest + length b) (length bodies)) ≡ false
+      → DropsAt index n leading fragment-heads bodies r fragment-heads′ bodies′ → HoldsFirst p flags b n leading fragment-heads bodies r fragment-heads′ bodies′
+  first-not-held r fragment-heads′ bodies′ few test g = record {
+    held = λ L fs k.
+        let at : index ≡ indexOf p fs = e ∙ index-is (L .total) fs n leading fragment-heads bodies k p in
+        subst (λ (l : List Fragment). HeldAfter (L .total) p fs l leading r fragment-heads′ bodies′) (sym (gone (ltb index 256) refl L fs at k)) (g .left (L .total) p fs at k);
+    once = g .once b;
+  }
+    where
+      gone : (x : Bool) → ltb index 256 ≡ x → (L : Limits) (fs : List Fragment) → index ≡ indexOf p fs → KeptFragments (L .total) fs n leading fragment-heads bodies
+          → holdFirst L p flags b fs ≡ without p fs
+      gone true q L fs at k =
+          let z : leb (rest + length b) (length bodies) ≡ false = subst (λ (x : Bool). (x && leb (rest + length b) (length bodies)) ≡ false) q test in
+          let bytes = others-bytes (L .total) p fs index n leading fragment-heads bodies at le k in
+          short-so L p flags b fs (omega (arith, er, leb-false (rest + length b) (length bodies) z, k .total))
+      gone false q L fs at k =
+          let h : 256 ≤ index = ltb-false index 256 q in
+          let l : length fs ≤ indexOf p fs = omega (arith, k .heads .count) in
+          full-so L p flags b fs (omega (arith, ap length (missing p fs l .0), k .heads .count))
 
 -- ---- whether a further body fits
 
@@ -27,120 +210,167 @@ module _ (m old most all total : ℕ) where
   pub fits-not : most < old + m → false ≡ (leb (old + m) most && leb (all + m) total)
   fits-not h = rw (lt-leb (old + m) most h) refl
 
-  pub fits-rest : old + m ≤ most → all ≤ total → leb m (total - all) ≡ (leb (old + m) most && leb (all + m) total)
-  fits-rest h l = rw (le-leb (old + m) most h) (go (leb m (total - all)) refl)
+  pub room-left : all ≤ total → leb m (total - all) ≡ leb (all + m) total
+  room-left l = go (leb m (total - all)) refl
     where
       go : (a : Bool) → leb m (total - all) ≡ a → a ≡ leb (all + m) total
       go true e = sym (le-leb (all + m) total (omega (arith, leb-true m (total - all) e)))
       go false e = sym (lt-leb (all + m) total (omega (arith, leb-false m (total - all) e)))
 
--- ---- dropped, and a first
-
-pub some-numbers : (n : ℕ) (fragment-heads bodies : List ℕ) → KeepsFragments n fragment-heads bodies → Numbers n fragment-heads bodies
-some-numbers n fragment-heads bodies k = numbers (k .0) (k .1) n fragment-heads bodies (k .2)
-
-module _ (p n : ℕ) (fragment-heads bodies : List ℕ) where
-  pub dropped : (i r : ℕ) (fragment-heads′ bodies′ : List ℕ) → i ≡ indexIn p (take n fragment-heads) → GivesUp i n fragment-heads bodies r fragment-heads′ bodies′ → Drops p n fragment-heads bodies r fragment-heads′ bodies′
-  dropped i r fragment-heads′ bodies′ e g T fs k = g T p fs (e ∙ index-is T fs n fragment-heads bodies k p) k
-
-  pub not-there : (i : ℕ) → i ≡ indexIn p (take n fragment-heads) → n ≤ i → Drops p n fragment-heads bodies n fragment-heads bodies
-  not-there i e h T fs k =
-      subst (λ (l : List Fragment). KeptFragments T l n fragment-heads bodies) (sym (missing p fs (omega (arith, e, index-is T fs n fragment-heads bodies k p, k .count)) .0)) k
-
-  pub dropped-numbers : (r : ℕ) (fragment-heads′ bodies′ : List ℕ) → KeepsFragments n fragment-heads bodies → Drops p n fragment-heads bodies r fragment-heads′ bodies′ → Numbers r fragment-heads′ bodies′
-  dropped-numbers r fragment-heads′ bodies′ k d = numbers (k .0) (without p (k .1)) r fragment-heads′ bodies′ (d (k .0) (k .1) (k .2))
-
-  pub first-held : (flags : ℕ) (b : Bytes) (m : ℕ) (fragment-heads₁ bodies₁ : List ℕ) (r : ℕ) (fragment-heads′ bodies′ : List ℕ) → Drops p n fragment-heads bodies m fragment-heads₁ bodies₁
-      → PutsBehind p flags b m fragment-heads₁ bodies₁ r fragment-heads′ bodies′ → HoldsFirst p flags b n fragment-heads bodies r fragment-heads′ bodies′
-  first-held flags b m fragment-heads₁ bodies₁ r fragment-heads′ bodies′ d q L fs k = q L fs (d (L .total) fs k) (first-holds L p flags b fs (k .hold))
+  pub fits-rest : old + m ≤ most → all ≤ total → leb m (total - all) ≡ (leb (old + m) most && leb (all + m) total)
+  fits-rest h l = rw (le-leb (old + m) most h) (room-left l)
 
 -- ---- a further body
 
+pub lengthened : (index : ℕ) (b : Bytes) (n leading : ℕ) (fragment-heads bodies : List ℕ) (old end all : ℕ) (mid fragment-heads′ bodies′ : List ℕ) (q : ℕ) → index < n → leading ≤ n → Numbers n fragment-heads bodies
+    → lens (take n fragment-heads) + length b ≤ length bodies → old ≡ lens (take leading fragment-heads) → end ≡ lens (take (index + 1) fragment-heads) → all ≡ lens (take n fragment-heads)
+    → FreeMoved leading (index + 1) old end all bodies mid → length bodies′ ≡ length mid → Wrote b mid end bodies′ q → fragment-heads′ ≡ set fragment-heads index (getD fragment-heads index 0 + length b)
+    → Lengthens index b n leading fragment-heads bodies fragment-heads′ bodies′
+lengthened index b n leading fragment-heads bodies old end all mid fragment-heads′ bodies′ q lt low ns fit eo ee ea m same w eh = record {
+  grows = λ T p fs at k hold.
+      let k′ = free-moved T fs n leading fragment-heads bodies k (index + 1) old end all mid low (omega arith) eo ee ea m in
+      grown-in T p fs index n (index + 1) fragment-heads mid at lt k′ b fragment-heads′ bodies′ q refl (omega (arith, m .same)) same
+      (subst (λ (z : ℕ). Wrote b mid z bodies′ q) ee w) eh hold;
+  once = let f = free-numbers fragment-heads n leading (index + 1) old end all (length bodies) low (omega arith) (ns .within) eo ee ea in
+      once-grown leading (index + 1) old end all bodies mid (f .0) (f .1) (f .2) (f .3) (f .4) m b bodies′ q (omega (arith, ea)) w;
+}
+
 -- by the length that its head tells and by that of all
-module _ (index most : ℕ) (b : Bytes) (n : ℕ) (fragment-heads bodies : List ℕ) (old all : ℕ) (eo : old ≡ fragmentLength (getD fragment-heads index 0)) (ea : all ≡ lens (take n fragment-heads)) where
+module _ (index most : ℕ) (b : Bytes) (n leading : ℕ) (fragment-heads bodies : List ℕ) (old all : ℕ) (eo : old ≡ fragmentLength (getD fragment-heads index 0)) (ea : all ≡ lens (take n fragment-heads)) where
   abbrev test : Bool
   test = leb (old + length b) most && leb (all + length b) (length bodies)
 
   pub fits-room : test ≡ true → lens (take n fragment-heads) + length b ≤ length bodies
   fits-room ok = omega (arith, leb-true (all + length b) (length bodies) (and-both (leb (old + length b) most) (leb (all + length b) (length bodies)) ok .1))
 
-  fits-is : (L : Limits) (p : ℕ) (fs : List Fragment) → L .most ≡ most → KeptFragments (L .total) fs n fragment-heads bodies → (t : There p fs index fragment-heads)
+  fits-is : (L : Limits) (p : ℕ) (fs : List Fragment) → L .most ≡ most → KeptFragments (L .total) fs n leading fragment-heads bodies → (t : There p fs index fragment-heads)
       → fits L (t .fragment) b fs ≡ test
   unfolding fits
   fits-is L p fs em k t =
       let f = t .fragment in
       let e : length (f .body) ≡ old = sym (eo ∙ ap fragmentLength (t .head-is) ∙ t .tells .length-is) in
       ap₂ (λ (x y : Bool). x && y) (ap₂ (λ (x y : ℕ). leb (x + length b) y) e em)
-      (ap₂ (λ (x y : ℕ). leb (x + length b) y) (sym (ea ∙ sum-is (L .total) fs n fragment-heads bodies k)) (sym (k .total)))
+      (ap₂ (λ (x y : ℕ). leb (x + length b) y) (sym (ea ∙ sum-is (L .total) fs n leading fragment-heads bodies k)) (sym (k .total)))
 
-  pub grew : (start end flags : ℕ) (fragment-heads′ bodies′ : List ℕ) → index < n → Numbers n fragment-heads bodies → start ≡ lens (take index fragment-heads)
-      → end ≡ lens (take (index + 1) fragment-heads) + length b → flags ≡ fragmentFlags (getD fragment-heads index 0) → test ≡ true → length bodies′ ≡ length bodies
-      → Lengthens index b n fragment-heads bodies fragment-heads′ bodies′ → GrowsAtIndex index most b n fragment-heads bodies (Grown.At start end flags) fragment-heads′ bodies′
-  grew start end flags fragment-heads′ bodies′ lt ns es ee ef ok same u L p fs at em k =
-      let t = there (L .total) fs n fragment-heads bodies p index k at lt in
-      let f = t .fragment in
-      let fit : fits L f b fs ≡ true = fits-is L p fs em k t ∙ ok in
-      let hold : HoldsFragments (L .total) (growIn p b fs) =
-      subst (λ (a : Bool). HoldsFragments (L .total) (cond a (growIn p b fs) (without p fs))) fit (middle-holds L p b fs (some f) (k .hold)) in
-      let g = u (L .total) p fs at k hold in
-      let one : g .fragment ≡ f = Option·some-injective _ _ (sym (g .found) ∙ t .found) in
-      let len : fragmentLength (getD fragment-heads index 0) ≡ length (f .body) = ap fragmentLength (t .head-is) ∙ t .tells .length-is in
-      let turn : lens (take (index + 1) fragment-heads) ≡ lens (take index fragment-heads) + fragmentLength (getD fragment-heads index 0) = lens-turn fragment-heads index (omega (arith, ns .few, ns .slots-all)) in
-      let less : lens (take (index + 1) fragment-heads) ≤ lens (take n fragment-heads) = lens-less fragment-heads (index + 1) n (omega arith) in
-      let room-fits : lens (take n fragment-heads) + length b ≤ length bodies = fits-room ok in
-      let m : end - start ≡ length (f .body) + length b = omega arith in
-      record {
-        fragment = f;
-        found = t .found;
-        fitting = fit;
-        kept = g .kept;
-        flags-are = ef ∙ ap fragmentFlags (t .head-is) ∙ t .tells .flags-are;
-        ordered = omega arith;
-        inside = omega arith;
-        body-is = ap₂ (λ (j i : ℕ). take j (drop i bodies′)) m es
-            ∙ subst (λ (h : Fragment). take (length (h .body) + length b) (drop (lens (take index fragment-heads)) bodies′) ≡ h .body ++ b) one (g .body-is);
-      }
+  pub grew : (near start end flags : ℕ) (fragment-heads′ bodies′ : List ℕ) → index < n → Numbers n fragment-heads bodies → Nearest n leading near → start ≡ lens (take index fragment-heads)
+      → end ≡ lens (take (index + 1) fragment-heads) + length b → flags ≡ fragmentFlags (getD fragment-heads index 0) → test ≡ true
+      → Lengthens index b n near fragment-heads bodies fragment-heads′ bodies′
+      → GrowsAtIndex index most b n leading fragment-heads bodies (Grown.At start end flags (record { count = n; leading = index + 1 })) fragment-heads′ bodies′
+  grew near start end flags fragment-heads′ bodies′ lt ns m es ee ef ok u = record {
+    is = λ L p fs at em k.
+        let t = there (L .total) p fs index n leading fragment-heads bodies at lt k in
+        let f = t .fragment in
+        let fit : fits L f b fs ≡ true = fits-is L p fs em k t ∙ ok in
+        let hold : HoldsFragments (L .total) (growIn p b fs) =
+        subst (λ (a : Bool). HoldsFragments (L .total) (cond a (growIn p b fs) (without p fs))) fit (middle-holds L p b fs (some f) (k .hold)) in
+        let g = u .grows (L .total) p fs at (nearest-kept (L .total) fs n leading fragment-heads bodies k near m) hold in
+        let one : g .fragment ≡ f = Option·some-injective _ _ (sym (g .found) ∙ t .found) in
+        let len : fragmentLength (getD fragment-heads index 0) ≡ length (f .body) = ap fragmentLength (t .head-is) ∙ t .tells .length-is in
+        let turn : lens (take (index + 1) fragment-heads) ≡ lens (take index fragment-heads) + fragmentLength (getD fragment-heads index 0) = lens-turn fragment-heads index (omega (arith, ns .few, ns .slots-all)) in
+        let less : lens (take (index + 1) fragment-heads) ≤ lens (take n fragment-heads) = lens-less fragment-heads (index + 1) n (omega arith) in
+        let room-fits : lens (take n fragment-heads) + length b ≤ length bodies = fits-room ok in
+        let size : end - start ≡ length (f .body) + length b = omega arith in
+        record {
+          fragment = f;
+          found = t .found;
+          fitting = fit;
+          kept = g .kept;
+          leading-is = ap (λ (z : ℕ). z + 1) at;
+          leading-low = omega arith;
+          flags-are = ef ∙ ap fragmentFlags (t .head-is) ∙ t .tells .flags-are;
+          ordered = omega arith;
+          inside = omega (arith, g .kept .total, k .total);
+          body-is = ap₂ (λ (j i : ℕ). take j (drop i bodies′)) size es
+              ∙ subst (λ (h : Fragment). take (length (h .body) + length b) (drop (lens (take index fragment-heads)) bodies′) ≡ h .body ++ b) one (g .body-is);
+        };
+    once = u .once;
+  }
 
-  pub discarded : (m : ℕ) (fragment-heads′ bodies′ : List ℕ) → index < n → test ≡ false → GivesUp index n fragment-heads bodies m fragment-heads′ bodies′
-      → GrowsAtIndex index most b n fragment-heads bodies (Grown.Discarded m) fragment-heads′ bodies′
-  discarded m fragment-heads′ bodies′ lt wrong u L p fs at em k =
-      let t = there (L .total) fs n fragment-heads bodies p index k at lt in
-      record {
-        fragment = t .fragment;
-        found = t .found;
-        fitting = fits-is L p fs em k t ∙ wrong;
-        kept = u (L .total) p fs at k;
-      }
+  pub discarded : (r : Held) (fragment-heads′ bodies′ : List ℕ) → index < n → test ≡ false → DropsAt index n leading fragment-heads bodies r fragment-heads′ bodies′
+      → GrowsAtIndex index most b n leading fragment-heads bodies (Grown.Discarded r) fragment-heads′ bodies′
+  discarded r fragment-heads′ bodies′ lt wrong u = record {
+    is = λ L p fs at em k.
+        let t = there (L .total) p fs index n leading fragment-heads bodies at lt k in
+        record {
+          fragment = t .fragment;
+          found = t .found;
+          fitting = fits-is L p fs em k t ∙ wrong;
+          left = u .left (L .total) p fs at k;
+        };
+    once = u .once b;
+  }
 
-module _ (p most : ℕ) (b : Bytes) (n : ℕ) (fragment-heads bodies : List ℕ) where
-  pub grows-there : (i : ℕ) (r : Grown) (fragment-heads′ bodies′ : List ℕ) → i ≡ indexIn p (take n fragment-heads) → GrowsAtIndex i most b n fragment-heads bodies r fragment-heads′ bodies′
-      → GrowsWithin p most b n fragment-heads bodies r fragment-heads′ bodies′
-  grows-there i r fragment-heads′ bodies′ e g L fs em k = g L p fs (e ∙ index-is (L .total) fs n fragment-heads bodies k p) em k
+module _ (p most : ℕ) (b : Bytes) (n leading : ℕ) (fragment-heads bodies : List ℕ) where
+  pub grows-there : (i : ℕ) (r : Grown) (fragment-heads′ bodies′ : List ℕ) → i ≡ indexIn p (take n fragment-heads) → GrowsAtIndex i most b n leading fragment-heads bodies r fragment-heads′ bodies′
+      → GrowsWithin p most b n leading fragment-heads bodies r fragment-heads′ bodies′
+  grows-there i r fragment-heads′ bodies′ e g = record {
+    is = λ L fs em k. g .is L p fs (e ∙ index-is (L .total) fs n leading fragment-heads bodies k p) em k;
+    once = g .once;
+  }
 
-  pub absent : (i : ℕ) → i ≡ indexIn p (take n fragment-heads) → n ≤ i → GrowsWithin p most b n fragment-heads bodies Grown.Absent fragment-heads bodies
-  absent i e h L fs em k = (missing p fs (omega (arith, e, index-is (L .total) fs n fragment-heads bodies k p, k .count)) .1, refl, refl)
+  pub absent : (i : ℕ) → i ≡ indexIn p (take n fragment-heads) → n ≤ i → GrowsWithin p most b n leading fragment-heads bodies Grown.Absent fragment-heads bodies
+  absent i e h = record {
+    is = λ L fs em k. (missing p fs (omega (arith, e, index-is (L .total) fs n leading fragment-heads bodies k p, k .heads .count)) .1, refl, refl);
+    once = once-none bodies b;
+  }
 
   -- ---- a middle
 
-  pub middle-joined : (start end flags : ℕ) (fragment-heads′ bodies′ : List ℕ) → GrowsWithin p most b n fragment-heads bodies (Grown.At start end flags) fragment-heads′ bodies′
-      → LearnsMiddle p most b n fragment-heads bodies n fragment-heads′ bodies′
+  middle-is : (L : Limits) (fs : List Fragment) (f : Fragment) (a : Bool) → fragmentOf p fs ≡ some f → fits L f b fs ≡ a → middle L p b fs ≡ cond a (growIn p b fs) (without p fs)
   unfolding middle
-  middle-joined start end flags fragment-heads′ bodies′ u L fs em k =
-      let g = u L fs em k in
-      subst (λ (l : List Fragment). KeptFragments (L .total) l n fragment-heads′ bodies′)
-      (sym (ap (λ (o : Option Fragment). middleOf o L p b fs) (g .found) ∙ ap (λ (a : Bool). cond a (growIn p b fs) (without p fs)) (g .fitting))) (g .kept)
+  middle-is L fs f a found fitting = ap (λ (o : Option Fragment). middleOf o L p b fs) found ∙ ap (λ (x : Bool). cond x (growIn p b fs) (without p fs)) fitting
 
-  pub middle-discarded : (m : ℕ) (fragment-heads′ bodies′ : List ℕ) → GrowsWithin p most b n fragment-heads bodies (Grown.Discarded m) fragment-heads′ bodies′
-      → LearnsMiddle p most b n fragment-heads bodies m fragment-heads′ bodies′
-  unfolding middle
-  middle-discarded m fragment-heads′ bodies′ u L fs em k =
-      let g = u L fs em k in
-      subst (λ (l : List Fragment). KeptFragments (L .total) l m fragment-heads′ bodies′)
-      (sym (ap (λ (o : Option Fragment). middleOf o L p b fs) (g .found) ∙ ap (λ (a : Bool). cond a (growIn p b fs) (without p fs)) (g .fitting))) (g .kept)
+  pub middle-joined : (start end flags : ℕ) (h : Held) (fragment-heads′ bodies′ : List ℕ) → GrowsWithin p most b n leading fragment-heads bodies (Grown.At start end flags h) fragment-heads′ bodies′
+      → LearnsMiddle p most b n leading fragment-heads bodies h fragment-heads′ bodies′
+  middle-joined start end flags h fragment-heads′ bodies′ u = record {
+    learned = λ L fs em k.
+        let g = u .is L fs em k in
+        let e : growIn p b fs ≡ middle L p b fs = sym (middle-is L fs (g .fragment) true (g .found) (g .fitting)) in
+        let i : indexOf p fs < length fs = omega (arith, g .leading-is, g .leading-low, g .kept .heads .count, grown-length p b fs) in
+        subst (λ (l : List Fragment). HeldAfter (L .total) p fs l leading h fragment-heads′ bodies′) e
+        (record { kept = g .kept; leading-is = g .leading-is ∙ sym (leading-grown p fs leading b i) });
+    once = u .once;
+  }
 
-  pub middle-absent : (fragment-heads′ bodies′ : List ℕ) → GrowsWithin p most b n fragment-heads bodies Grown.Absent fragment-heads′ bodies′ → LearnsMiddle p most b n fragment-heads bodies n fragment-heads′ bodies′
+  pub middle-discarded : (h : Held) (fragment-heads′ bodies′ : List ℕ) → GrowsWithin p most b n leading fragment-heads bodies (Grown.Discarded h) fragment-heads′ bodies′
+      → LearnsMiddle p most b n leading fragment-heads bodies h fragment-heads′ bodies′
+  middle-discarded h fragment-heads′ bodies′ u = record {
+    learned = λ L fs em k.
+        let g = u .is L fs em k in
+        subst (λ (l : List Fragment). HeldAfter (L .total) p fs l leading h fragment-heads′ bodies′) (sym (middle-is L fs (g .fragment) false (g .found) (g .fitting))) (g .left);
+    once = u .once;
+  }
+
+  pub middle-absent : (fragment-heads′ bodies′ : List ℕ) → GrowsWithin p most b n leading fragment-heads bodies Grown.Absent fragment-heads′ bodies′
+      → LearnsMiddle p most b n leading fragment-heads bodies (record { count = n; leading = leading }) fragment-heads′ bodies′
   unfolding middle
-  middle-absent fragment-heads′ bodies′ u L fs em k =
-      let g = u L fs em k in
-      subst (λ (l : List Fragment). KeptFragments (L .total) l n fragment-heads′ bodies′) (sym (ap (λ (o : Option Fragment). middleOf o L p b fs) (g .0)))
-      (subst (λ (l : List ℕ). KeptFragments (L .total) fs n l bodies′) (sym (g .1)) (subst (λ (l : Bytes). KeptFragments (L .total) fs n fragment-heads l) (sym (g .2)) k))
+  middle-absent fragment-heads′ bodies′ u = record {
+    learned = λ L fs em k.
+        let g = u .is L fs em k in
+        let e : fs ≡ middle L p b fs = sym (ap (λ (o : Option Fragment). middleOf o L p b fs) (g .0)) in
+        subst (λ (l : List Fragment). HeldAfter (L .total) p fs l leading (record { count = n; leading = leading }) fragment-heads′ bodies′) e
+        (record {
+          kept = subst (λ (l : List ℕ). KeptFragments (L .total) fs n leading l bodies′) (sym (g .1)) (subst (λ (l : Bytes). KeptFragments (L .total) fs n leading fragment-heads l) (sym (g .2)) k);
+          leading-is = sym (leading-none p fs leading (not-found p fs (g .0)));
+        });
+    once = u .once;
+  }
+
+-- ---- a last that was joined: it grew, and is given back
+
+module _ (L : Limits) (p : ℕ) (b : Bytes) (fs : List Fragment) (start end flags : ℕ) (h : Held) (fragment-heads : List ℕ) (bodies : Bytes) (g : GrewAt L p b fs start end flags h fragment-heads bodies) where
+  pub grew-numbers : (0 < h .leading) × (h .leading ≤ h .count) × (h .count ≤ 256) × (length fragment-heads ≡ 256)
+  grew-numbers =
+      let ns = numbers (L .total) (growIn p b fs) (h .count) (h .leading) fragment-heads bodies (g .kept) in
+      (omega (arith, g .leading-is), g .leading-low, ns .few, ns .slots-all)
+
+  pub joined-gone : (r : Held) (fragment-heads′ : List ℕ) (leading : ℕ) → GivesBack (h .count) (h .leading) fragment-heads r fragment-heads′
+      → HeldAfter (L .total) p fs (without p fs) leading r fragment-heads′ bodies
+  joined-gone r fragment-heads′ leading w =
+      let same : indexOf p (growIn p b fs) ≡ indexOf p fs = index-grown p b fs .0 in
+      record {
+        kept = subst (λ (l : List Fragment). KeptFragments (L .total) l (r .count) (r .leading) fragment-heads′ bodies) (without-grown p b fs)
+            (w .1 (L .total) p (growIn p b fs) bodies (g .leading-is ∙ ap (λ (z : ℕ). z + 1) (sym same)) (g .kept));
+        leading-is = (let z : r .leading ≡ indexOf p fs = omega (arith, w .0, g .leading-is) in z)
+            ∙ sym (leading-gone p fs leading (omega (arith, g .leading-is, g .leading-low, g .kept .heads .count, grown-length p b fs)));
+      }

@@ -1,5 +1,5 @@
 -- One news after the other. Rests on specs/News.
-use mathlib.Core.Path.{_≡_, refl, sym, ap, _∙_}
+use mathlib.Core.Path.{_≡_, sym, ap, _∙_}
 use mathlib.Core.Bool.{Bool, true, false, _||_}
 use Rattle.meaning.specs.declared.Part.{Part}
 use Rattle.meaning.proofs.ListLaws.{or-true, or-false, or-assoc}

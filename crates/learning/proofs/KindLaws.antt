@@ -12,7 +12,7 @@ use Rattle.meaning.proofs.Reading.{many-next}
 use Rattle.tables.specs.Answers.{AssetIs}
 use Rattle.tables.specs.declared.assets.Asset.{Asset}
 use Rattle.tables.specs.declared.locations.Carrier.{Carrier}
-use Rattle.learning.specs.News.{noNews, also, kindNews, kindsIn}
+use Rattle.learning.specs.News.{also, kindNews, kindsIn}
 use Rattle.learning.specs.declared.News.{News}
 use Rattle.learning.proofs.AlsoLaws.{also-assoc, also-none}
 

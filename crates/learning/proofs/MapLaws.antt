@@ -2,7 +2,7 @@
 -- the entries read so far (Listing), and a list at its place. Rests on MapPairLaws and on Reading, SoundnessKept and SpareLaws of `meaning`.
 use Prim.Native.Nat.{ℕ, suc, max, _+_, _-_, _*_, _≤_, _<_}
 use mathlib.Core.Path.{_≡_, refl, sym, ap, ap₂, _∙_}
-use mathlib.Core.Bool.{Bool, true, false, _||_}
+use mathlib.Core.Bool.{Bool, true, false}
 use mathlib.Core.List.{List, [], _∷_, _++_, append-assoc, append-nil}
 use mathlib.Core.Option.{Option, none, some}
 use native.Mathlib.Nat.{add-zero}
@@ -174,7 +174,7 @@ module _ (b : Bytes) where
 
 -- an extent with another count of maps, and other news
 abbrev after : Extent → ℕ → News → Extent
-after e m n = record { seen = e .seen; «package_count» = e .«package_count»; «map_count» = m; «fragment_count» = e .«fragment_count»; lost = e .lost; news = n }
+after e m n = record { seen = e .seen; «package_count» = e .«package_count»; «map_count» = m; «fragment_count» = e .«fragment_count»; leading = e .leading; lost = e .lost; news = n }
 
 -- written there
 kept-list : (p : ℕ) (es : List Entry) (fresh : List ℕ) (e : Extent) (map-heads map-room : List ℕ) (ms : List (ℕ × ℕ)) → length es < 256 → placeFor p ms < 64 → KeptMaps ms (e .«map_count») map-heads

@@ -23,7 +23,7 @@ use Rattle.tables.specs.Answers.{nameOf, carrierOf, PackageIs}
 use Rattle.tables.specs.declared.locations.Carrier.{Carrier}
 use Rattle.tables.specs.declared.packages.Named.{Named}
 use Rattle.tables.specs.declared.packages.Package as read
-use Rattle.meaning.proofs.ListLaws.{clash, and-both, both-true, or-right}
+use Rattle.meaning.proofs.ListLaws.{clash, and-both, both-true}
 use Rattle.meaning.proofs.SoundnessKept.{plt-holds}
 use Rattle.learning.specs.Kept.{pairsIn, Pairs, KeptPackages}
 use Rattle.learning.specs.News.{also, changeNews, unlistedNews, unlisted, listsService, pltNews, sameNumbers, samePairs}
@@ -208,8 +208,8 @@ module _ (b : Bytes) where
 -- ---- what a PLT makes of what is known
 
 extent-is : (e : Extent) (s : Bool) (n : ℕ) (c : News) → e .seen ≡ s → e .«package_count» ≡ n → e .news ≡ c
-    → e ≡ record { seen = s; «package_count» = n; «map_count» = e .«map_count»; «fragment_count» = e .«fragment_count»; lost = e .lost; news = c }
-extent-is e s n c p q r = λ i. record { seen = p i; «package_count» = q i; «map_count» = e .«map_count»; «fragment_count» = e .«fragment_count»; lost = e .lost; news = r i }
+    → e ≡ record { seen = s; «package_count» = n; «map_count» = e .«map_count»; «fragment_count» = e .«fragment_count»; leading = e .leading; lost = e .lost; news = c }
+extent-is e s n c p q r = λ i. record { seen = p i; «package_count» = q i; «map_count» = e .«map_count»; «fragment_count» = e .«fragment_count»; leading = e .leading; lost = e .lost; news = r i }
 
 module _ (b : Bytes) (e : Extent) (ps : List (ℕ × ℕ)) (xs : List ℕ) (k : KeptPackages ps (e .«package_count») xs) where
   -- it cannot be read
@@ -260,12 +260,12 @@ module _ (b : Bytes) (e : Extent) (ps : List (ℕ × ℕ)) (xs : List ℕ) (k : 
             clash (cc (z, h))
 
     -- they are not
-    pub plt-new : known ≡ false → PltLearnt (plt b) ps e (record { seen = true; «package_count» = n; «map_count» = e .«map_count»; «fragment_count» = e .«fragment_count»; lost = e .lost; news = nowChanged met }) fresh
+    pub plt-new : known ≡ false → PltLearnt (plt b) ps e (record { seen = true; «package_count» = n; «map_count» = e .«map_count»; «fragment_count» = e .«fragment_count»; leading = e .leading; lost = e .lost; news = nowChanged met }) fresh
     plt-new h =
         let told : not (e .seen && samePairs ps found) ≡ true = rw (new h) in
         rw (r .2) (
           record { pairs = r .3; hold = plt-holds b (r .0) (r .1) (r .2) },
-          extent-is (record { seen = true; «package_count» = n; «map_count» = e .«map_count»; «fragment_count» = e .«fragment_count»; lost = e .lost; news = nowChanged met }) true (length found)
+          extent-is (record { seen = true; «package_count» = n; «map_count» = e .«map_count»; «fragment_count» = e .«fragment_count»; leading = e .leading; lost = e .lost; news = nowChanged met }) true (length found)
               _ refl (r .3 .count) (news-are true (nowChanged met) told (met-changed (e .news) (unlistedNews apart))),
         )
 

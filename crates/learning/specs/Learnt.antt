@@ -22,7 +22,7 @@ use Rattle.learning.specs.declared.lists.Held.{Held}
 use Rattle.learning.specs.declared.packages.Services.{Services}
 
 abbrev pub withNews : Extent → News → Extent
-withNews e n = record { seen = e .seen; «package_count» = e .«package_count»; «map_count» = e .«map_count»; «fragment_count» = e .«fragment_count»; lost = e .lost; news = n }
+withNews e n = record { seen = e .seen; «package_count» = e .«package_count»; «map_count» = e .«map_count»; «fragment_count» = e .«fragment_count»; leading = e .leading; lost = e .lost; news = n }
 
 -- ---- a PLT
 
@@ -53,6 +53,7 @@ PltLearnt (some (ys, more)) ps e r xs =
       «package_count» = length (packagesIn ys []);
       «map_count» = e .«map_count»;
       «fragment_count» = e .«fragment_count»;
+      leading = e .leading;
       lost = e .lost;
       news = also (e .news) (pltNews (some (ys, more)) (e .seen) ps);
     })
@@ -94,12 +95,13 @@ pub record HeadsAre (i p n : ℕ) (fresh : List ℕ) (e : Extent) (map-heads map
     «package_count» = e .«package_count»;
     «map_count» = max (e .«map_count») (i + 1);
     «fragment_count» = e .«fragment_count»;
+    leading = e .leading;
     lost = e .lost;
     news = record { changed = true; caption = e .news .caption; carousel = e .news .carousel; other = e .news .other; unlisted = e .news .unlisted };
   }
 
 abbrev pub lostOne : Extent → Extent
-lostOne e = record { seen = e .seen; «package_count» = e .«package_count»; «map_count» = e .«map_count»; «fragment_count» = e .«fragment_count»; lost = e .lost + 1; news = e .news }
+lostOne e = record { seen = e .seen; «package_count» = e .«package_count»; «map_count» = e .«map_count»; «fragment_count» = e .«fragment_count»; leading = e .leading; lost = e .lost + 1; news = e .news }
 
 -- Whether there is a place for it: its list takes the place, or it is lost.
 abbrev pub ListLearnt : Bool → ℕ → List Entry → List (ℕ × ℕ) → Extent → List ℕ → Extent → List ℕ → List ℕ → Type 0
@@ -111,6 +113,7 @@ ListLearnt true p es ms e map-room r xs map-room′ =
       «package_count» = e .«package_count»;
       «map_count» = r .«map_count»;
       «fragment_count» = e .«fragment_count»;
+      leading = e .leading;
       lost = e .lost;
       news = also (e .news) (listNews p es ms map-room);
     })

@@ -17,12 +17,14 @@ pub struct News {
     pub unlisted: bool,
 }
 
-// How much is known: how many packages, maps and fragments there are, and whether a PLT was seen. How many maps were lost on the way, and
-// what is new. The flags stand together: a gap behind each would be copied too, in pieces that wait for each other.
+// How much is known: how many packages, maps and fragments there are, and whether a PLT was seen. How many of the fragments lead: their
+// bodies stand at the front of the fragment room. How many maps were lost on the way, and what is new. The flags stand together: a gap
+// behind each would be copied too, in pieces that wait for each other.
 pub struct Extent {
     pub package_count: usize,
     pub map_count: usize,
     pub fragment_count: usize,
+    pub leading: usize,
     pub lost: usize,
     pub seen: bool,
     pub news: News,
@@ -62,6 +64,7 @@ pub fn with_news(e: Extent, news: News) -> Extent
         package_count: e.package_count,
         map_count: e.map_count,
         fragment_count: e.fragment_count,
+        leading: e.leading,
         lost: e.lost,
         news,
     }

@@ -175,6 +175,7 @@ fn keep_list(
         package_count: e.package_count,
         map_count: count_with(e.map_count, i),
         fragment_count: e.fragment_count,
+        leading: e.leading,
         lost: e.lost,
         news: changed(e.news),
     }
@@ -266,6 +267,7 @@ fn lose_one(e: Extent) -> Extent
         package_count: e.package_count,
         map_count: e.map_count,
         fragment_count: e.fragment_count,
+        leading: e.leading,
         lost: e.lost + 1,
         news,
     }

@@ -178,6 +178,7 @@ pub fn plt(b: &[u8], e: Extent, packages: &mut [u32; 255]) -> Extent
         package_count: n,
         map_count: known.map_count,
         fragment_count: known.fragment_count,
+        leading: known.leading,
         lost: known.lost,
         news: changed(known.news),
     }

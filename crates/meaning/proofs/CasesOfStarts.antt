@@ -34,6 +34,7 @@ started-record held-count = record {
   package-count = 0;
   map-count = 0;
   fragment-count = 0;
+  leading = 0;
   data-set = noWords;
   packages = zeros 255;
   map-heads = zeros 64;

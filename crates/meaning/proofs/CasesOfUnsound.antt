@@ -40,6 +40,7 @@ recording L o held-count packages map-heads fragment-heads = record {
   package-count = packages .0;
   map-count = map-heads .0;
   fragment-count = fragment-heads .0;
+  leading = 0;
   data-set = replicate 1024 0;
   packages = packages .1;
   map-heads = map-heads .1;

@@ -11,6 +11,7 @@ pub mod CasesOfTables
 pub mod CasesOfNarrowing
 pub mod CasesOfLearning
 pub mod CasesOfFragments
+pub mod CasesOfLeading
 pub mod CasesOfRules
 pub mod CasesOfRefusals
 pub mod CasesOfRecords
@@ -43,6 +44,8 @@ pub mod RuleLaws
 pub mod CountLaws
 pub mod LessIsLess
 pub mod SoundnessKept
+pub mod LayoutLaws
+pub mod MoveLaws
 pub mod SoundnessLaws
 pub mod SpareLaws
 pub mod SeriesLaws

@@ -9,7 +9,8 @@ use lib.ListN.{length}
 use lib.Dec.{eqb}
 use Rattle.meaning.specs.Bytes.{Bytes}
 use Rattle.meaning.specs.Rooms.{goodWorkRoom, goodFragmentRoom}
-use Rattle.meaning.specs.Record.{State, Record, recordOf, stateOf, bodiesOf}
+use Rattle.meaning.specs.Record.{State, Record, recordOf, stateOf}
+use Rattle.meaning.specs.Leading.{leadingPushed}
 use Rattle.meaning.specs.Calls.{countsOf, Called}
 use Rattle.meaning.specs.Start.{fresh}
 use Rattle.meaning.specs.Push.{Outcome, push, pushRefusal, called}
@@ -19,6 +20,7 @@ use Rattle.meaning.specs.declared.Limits.{Limits}
 use Rattle.meaning.specs.declared.Options.{Options}
 use Rattle.meaning.specs.declared.Modes.{Modes}
 use Rattle.meaning.specs.declared.Counts.{Counts}
+use Rattle.meaning.proofs.LayoutLaws.{room-none}
 use Rattle.meaning.proofs.SoundnessLaws.{HoldsState, state-back, refusal-same}
 
 -- ---- counts
@@ -75,36 +77,42 @@ module _ (L : Limits) (M : Modes) (o : Options) where
 
 -- ---- the record of a state, with rooms that hold it
 
+-- It tells how many fragments lead.
+pub own-leading : (L : Limits) (M : Modes) (o : Options) (leading : ℕ) (st : State) (r : Record) → r ≡ recordOf L M o leading st → r ≡ recordOf L M o (r .leading) st
+unfolding recordOf
+own-leading L M o leading st r e = e ∙ ap (λ (n : ℕ). recordOf L M o n st) (sym (ap (λ (z : Record). z .leading) e))
+
 -- A start: whatever stands in work and fragment room.
 pub fresh-back : (L : Limits) (M : Modes) (o : Options) (work bodies : Bytes) (map-room : List ℕ) → L .total ≤ 16777216 → HoldsState L o (fresh map-room)
-    → stateOf (recordOf L M o (fresh map-room)) work bodies map-room ≡ fresh map-room
-unfolding fresh bodiesOf
-fresh-back L M o work bodies map-room few h = state-back L M o (fresh map-room) few h work bodies
+    → stateOf (recordOf L M o 0 (fresh map-room)) work bodies map-room ≡ fresh map-room
+unfolding fresh
+fresh-back L M o work bodies map-room few h =
+    ap (λ (b : Bytes). stateOf (recordOf L M o 0 (fresh map-room)) work b map-room) (sym (room-none bodies)) ∙ state-back L M o 0 (fresh map-room) few h work bodies
 
-module _ (L : Limits) (M : Modes) (o : Options) (st : State) (work-good : goodWorkRoom (L .work) ≡ true) (fragments-good : goodFragmentRoom (L .total) (L .most) ≡ true) (h : HoldsState L o st) where
-  -- its limits, modes and options
-  record-says : (r : Record) → r ≡ recordOf L M o st → (r .limits ≡ L) × (r .modes ≡ M) × (r .options ≡ o)
+module _ (L : Limits) (M : Modes) (o : Options) (leading : ℕ) (st : State) (work-good : goodWorkRoom (L .work) ≡ true) (fragments-good : goodFragmentRoom (L .total) (L .most) ≡ true) (h : HoldsState L o st) where
+  -- its limits, modes and options, and how many lead
+  record-says : (r : Record) → r ≡ recordOf L M o leading st → (r .limits ≡ L) × (r .modes ≡ M) × (r .options ≡ o) × (r .leading ≡ leading)
   unfolding recordOf
-  record-says r e = (ap (λ (z : Record). z .limits) e, ap (λ (z : Record). z .modes) e, ap (λ (z : Record). z .options) e)
+  record-says r e = (ap (λ (z : Record). z .limits) e, ap (λ (z : Record). z .modes) e, ap (λ (z : Record). z .options) e, ap (λ (z : Record). z .leading) e)
 
-  abbrev answered : ℕ → Limits → Modes → Options → State → Record → Bytes → Called
-  answered x L M o st r c =
+  abbrev answered : ℕ → Limits → Modes → Options → ℕ → State → Record → Bytes → Called
+  answered x L M o leading st r c =
       cond (eqb x 0)
-      (record { number = 0; out = push L M o st c .out; counts = push L M o st c .counts; handed = recordOf L M o (push L M o st c .state) })
+      (record { number = 0; out = push L M o st c .out; counts = push L M o st c .counts; handed = recordOf L M o (leadingPushed L o st c leading) (push L M o st c .state) })
       (record { number = x; out = []; counts = countsOf 0; handed = r })
 
   called-by : (r : Record) (work bodies : Bytes) (map-room : List ℕ) (c : Lent)
       → called r work bodies map-room (c .0) (c .1)
-      ≡ answered (pushRefusal r (length work) (length bodies) (length map-room) (length (c .0)) (c .1)) (r .limits) (r .modes) (r .options) (stateOf r work bodies map-room) r (c .0)
+      ≡ answered (pushRefusal r (length work) (length bodies) (length map-room) (length (c .0)) (c .1)) (r .limits) (r .modes) (r .options) (r .leading) (stateOf r work bodies map-room) r (c .0)
   unfolding called
   called-by r work bodies map-room c = refl
 
   -- A call on the record that is not refused is the call on the state.
-  pub called-taken : (r : Record) (work bodies : Bytes) (map-room : List ℕ) (c : Lent) → r ≡ recordOf L M o st → stateOf r work bodies map-room ≡ st
+  pub called-taken : (r : Record) (work bodies : Bytes) (map-room : List ℕ) (c : Lent) → r ≡ recordOf L M o leading st → stateOf r work bodies map-room ≡ st
       → length work ≡ L .work → length bodies ≡ L .total → length map-room ≡ 32768 → callRefusal L st c ≡ 0
       → called r work bodies map-room (c .0) (c .1)
-      ≡ record { number = 0; out = push L M o st (c .0) .out; counts = push L M o st (c .0) .counts; handed = recordOf L M o (push L M o st (c .0) .state) }
+      ≡ record { number = 0; out = push L M o st (c .0) .out; counts = push L M o st (c .0) .counts; handed = recordOf L M o (leadingPushed L o st (c .0) leading) (push L M o st (c .0) .state) }
   called-taken r work bodies map-room c e s w b m q =
       let l = record-says r e in
-      let x = (λ i. pushRefusal (e i) (w i) (b i) (m i) (length (c .0)) (c .1)) ∙ refusal-same L M o st c work-good fragments-good h ∙ q in
-      called-by r work bodies map-room c ∙ (λ i. answered (x i) (l .0 i) (l .1 i) (l .2 i) (s i) r (c .0))
+      let x = (λ i. pushRefusal (e i) (w i) (b i) (m i) (length (c .0)) (c .1)) ∙ refusal-same L M o leading st c work-good fragments-good h ∙ q in
+      called-by r work bodies map-room c ∙ (λ i. answered (x i) (l .0 i) (l .1 i) (l .2 i) (l .3 i) (s i) r (c .0))

@@ -13,7 +13,7 @@ use borrow.Author.Tests.{ltb-true, ltb-false, leb-true, eqb-true, eqb-false, lt-
 use Rattle.meaning.specs.Bytes.{Bytes}
 use Rattle.meaning.specs.Sets.{inSet}
 use Rattle.meaning.specs.Lists.{keep, any, sum}
-use Rattle.meaning.specs.Readers.{_>>=_, Out, Reader, give, byte, u8, u16, bytes, counted8, many, raw}
+use Rattle.meaning.specs.Readers.{_>>=_, Out, Reader, give, u8, u16, bytes, counted8, many, raw}
 use Rattle.meaning.specs.Mmtp.{Mmtp, mmtpOf, isSignalling}
 use Rattle.meaning.specs.Messages.{Message, messages, indicator}
 use Rattle.meaning.specs.Tables.{elsewhere, locationBody, location, Entry, Mpt, mpt, Package, packageFields, packageEntry, plt, serviceOf, Table, isMpt, isPlt, pa}

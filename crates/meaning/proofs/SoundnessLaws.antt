@@ -1,11 +1,11 @@
 -- Soundness is kept by every call: from a start or from any sound record, through any series of calls. And the record of a state says
 -- what the state is. Rests on SoundnessKept and CutLaws.
-use Prim.Native.Nat.{ℕ, suc, _+_, _-_, _/_, _%_, _≤_, _<_}
+use Prim.Native.Nat.{ℕ, zero, suc, _+_, _-_, _/_, _%_, _≤_, _<_}
 use mathlib.Core.Path.{_≡_, refl, sym, ap, ap₂, _∙_, subst}
 use mathlib.Core.Bool.{Bool, true, false, cond, not, _&&_, _||_}
-use mathlib.Core.List.{List, [], _∷_, _++_, map, append-assoc}
+use mathlib.Core.List.{List, [], _∷_, _++_, map, append-assoc, append-nil}
 use native.Mathlib.Omega.{arith}
-use lib.ListN.{length, take, drop, length-take, length-map, replicate}
+use lib.ListN.{length, take, drop, length-take, length-map, length-append, take-append-drop, replicate}
 use lib.Seq.{take-at, drop-at}
 use lib.Dec.{leb, ltb, eqb}
 use borrow.Author.Tests.{ltb-true, leb-true, eqb-true, lt-ltb, le-leb, eq-eqb}
@@ -17,7 +17,7 @@ use Rattle.meaning.specs.Wishes.{wantsAssets, copiesAll}
 use Rattle.meaning.specs.Narrow.{narrowPacket}
 use Rattle.meaning.specs.Rooms.{packetLimit, goodWorkRoom, goodFragmentRoom, goodMapRoom}
 use Rattle.meaning.specs.Learn.{Fragment, Known, learn, fragmentBytes}
-use Rattle.meaning.specs.Record.{State, slots, Record, packPair, pairOf, fragmentHead, fragmentIdentifier, fragmentFlags, fragmentLength, recordOf, fragmentsIn, stateOf, bodiesOf}
+use Rattle.meaning.specs.Record.{State, slots, Record, packPair, pairOf, fragmentHead, fragmentIdentifier, fragmentFlags, fragmentLength, recordOf, bodiesOf, roomOf, lens, packedIn, fragmentsIn, stateOf}
 use Rattle.meaning.specs.Soundness.{rising, distinct, soundRooms, soundHeld, soundPackages, soundMaps, soundFragments, sound, firsts, identifiers, SecondsBelow, SmallFlags, HoldsPackages, HoldsMaps, HoldsFragments, Holds}
 use Rattle.meaning.specs.Start.{fresh, blank}
 use Rattle.meaning.specs.Push.{withheld, passOne, pass, filtered, push, pushRefusal}
@@ -28,6 +28,7 @@ use Rattle.meaning.specs.declared.Modes.{Modes}
 use Rattle.meaning.proofs.ListLaws.{clash, and-both}
 use Rattle.meaning.proofs.CutLaws.{held-below}
 use Rattle.meaning.proofs.SoundnessKept.{held-next, learn-holds}
+use Rattle.meaning.proofs.LayoutLaws.{take-map, drop-map, bytes-of, identifiers-in, flags-in, length-in, bytes-in}
 
 -- What a sound state holds to.
 pub record HoldsState (L : Limits) (o : Options) (st : State) : Type 0 where
@@ -166,7 +167,7 @@ unfolding sum fragmentBytes
 lengths-of [] h = refl
 lengths-of (f ∷ fs) h = ap₂ (λ (a b : ℕ). a + b) (h .0 .length-is) (lengths-of fs (h .1))
 
-module _ (L : Limits) (M : Modes) (o : Options) (st : State) (work-good : goodWorkRoom (L .work) ≡ true) (fragments-good : goodFragmentRoom (L .total) (L .most) ≡ true) (h : HoldsState L o st) where
+module _ (L : Limits) (M : Modes) (o : Options) (leading : ℕ) (st : State) (work-good : goodWorkRoom (L .work) ≡ true) (fragments-good : goodFragmentRoom (L .total) (L .most) ≡ true) (h : HoldsState L o st) where
   rooms-sound : soundRooms L (L .work) (L .total) 32768 ≡ true
   unfolding soundRooms goodMapRoom
   rooms-sound = rw (eq-eqb (L .work) (L .work) refl, eq-eqb (L .total) (L .total) refl, work-good) fragments-good
@@ -208,7 +209,7 @@ module _ (L : Limits) (M : Modes) (o : Options) (st : State) (work-good : goodWo
       let tell = heads-tell (L .total) fs s total-small in
       rw (le-leb (length fs) 256 (s .few), used 256 fragmentHead fs, identifiers-of fs tell, lengths-of fs tell, s .once, le-leb (fragmentBytes fs) (L .total) (s .within))
 
-  pub record-sound : sound (recordOf L M o st) (L .work) (L .total) 32768 ≡ true
+  pub record-sound : sound (recordOf L M o leading st) (L .work) (L .total) 32768 ≡ true
   unfolding sound recordOf
   record-sound = rw (rooms-sound, h .wants-assets, held-sound, packages-sound, maps-sound) fragments-sound
 
@@ -239,26 +240,6 @@ counts-in (n ∷ ns) e =
 taken-few : {A : Type 0} (n m : ℕ) (xs : List A) → n ≤ m → length (take n xs) ≤ m
 taken-few n m xs h = simp length-take (omega arith)
 
-identifiers-in : (hs : List ℕ) (bodies : Bytes) → identifiers (fragmentsIn hs bodies) ≡ map fragmentIdentifier hs
-unfolding fragmentsIn
-identifiers-in [] bodies = refl
-identifiers-in (h ∷ hs) bodies = ap (λ (l : List ℕ). fragmentIdentifier h ∷ l) (identifiers-in hs (drop (fragmentLength h) bodies))
-
-flags-in : (hs : List ℕ) (bodies : Bytes) → SmallFlags (fragmentsIn hs bodies)
-unfolding fragmentsIn fragmentFlags
-flags-in [] bodies = tt
-flags-in (h ∷ hs) bodies = (omega arith, flags-in hs (drop (fragmentLength h) bodies))
-
-bytes-in : (hs : List ℕ) (bodies : Bytes) → fragmentBytes (fragmentsIn hs bodies) ≤ sum (map fragmentLength hs)
-unfolding fragmentsIn fragmentBytes sum
-bytes-in [] bodies = omega arith
-bytes-in (h ∷ hs) bodies = omega (arith, bytes-in hs (drop (fragmentLength h) bodies), taken-few (fragmentLength h) (fragmentLength h) bodies (omega arith))
-
-length-in : (hs : List ℕ) (bodies : Bytes) → length (fragmentsIn hs bodies) ≡ length hs
-unfolding fragmentsIn
-length-in [] bodies = refl
-length-in (h ∷ hs) bodies = ap suc (length-in hs (drop (fragmentLength h) bodies))
-
 module _ (n : ℕ) (xs : List ℕ) where
   packages-from : soundPackages n xs ≡ true → HoldsPackages (map pairOf (take n xs))
   unfolding soundPackages
@@ -281,16 +262,17 @@ module _ (n : ℕ) (xs : List ℕ) where
         small = counts-in (take n xs) (g .1);
       }
 
-  fragments-from : (T : ℕ) (bodies : Bytes) → soundFragments T n xs ≡ true → HoldsFragments T (fragmentsIn (take n xs) bodies)
-  unfolding soundFragments
-  fragments-from T bodies e =
+  fragments-from : (T leading : ℕ) (bodies : Bytes) → length bodies ≡ T → soundFragments T n xs ≡ true → HoldsFragments T (fragmentsIn leading (take n xs) bodies)
+  unfolding soundFragments lens
+  fragments-from T leading bodies t e =
       let h = and-both (leb n 256 && distinct (map fragmentIdentifier (take n xs))) (leb (sum (map fragmentLength (take n xs))) T) e in
       let g = and-both (leb n 256) (distinct (map fragmentIdentifier (take n xs))) (h .0) in
+      let w : lens (take n xs) ≤ T = leb-true (sum (map fragmentLength (take n xs))) T (h .1) in
       record {
-        few = omega (arith, length-in (take n xs) bodies, taken-few n 256 xs (leb-true n 256 (g .0)));
-        once = ap distinct (identifiers-in (take n xs) bodies) ∙ g .1;
-        flags = flags-in (take n xs) bodies;
-        within = omega (arith, bytes-in (take n xs) bodies, leb-true (sum (map fragmentLength (take n xs))) T (h .1));
+        few = omega (arith, length-in leading (take n xs) bodies, taken-few n 256 xs (leb-true n 256 (g .0)));
+        once = ap distinct (identifiers-in leading (take n xs) bodies) ∙ g .1;
+        flags = flags-in leading (take n xs) bodies;
+        within = omega (arith, bytes-in leading (take n xs) bodies (omega (arith, w)), w);
       }
 
 held-from : (L : Limits) (o : Options) (n : ℕ) (work : Bytes) → soundHeld L o n ≡ true
@@ -322,8 +304,8 @@ state-holds r work bodies map-room e =
       known-holds = record {
         packages-hold = packages-from (r .package-count) (r .packages) (h₂ .1);
         maps-hold = maps-from (r .map-count) (r .map-heads) (h₃ .1);
-        fragments-hold = subst (λ (t : ℕ). HoldsFragments t (fragmentsIn (take (r .fragment-count) (r .fragment-heads)) bodies)) (sym (rooms-are (h₀ .0) .0))
-            (fragments-from (r .fragment-count) (r .fragment-heads) T bodies (h₄ .1));
+        fragments-hold = subst (λ (t : ℕ). HoldsFragments t (fragmentsIn (r .leading) (take (r .fragment-count) (r .fragment-heads)) bodies)) (sym (rooms-are (h₀ .0) .0))
+            (fragments-from (r .fragment-count) (r .fragment-heads) T (r .leading) bodies refl (h₄ .1));
         map-room-all = rooms-are (h₀ .0) .1;
       };
     }
@@ -335,7 +317,7 @@ state-holds r work bodies map-room e =
         let c = and-both (eqb (r .limits .work) (length work) && eqb (r .limits .total) (length bodies)) (goodMapRoom (length map-room)) (b .0) in
         (eqb-true (r .limits .total) (length bodies) (and-both (eqb (r .limits .work) (length work)) (eqb (r .limits .total) (length bodies)) (c .0) .1), eqb-true (length map-room) 32768 (c .1))
 
--- ---- the record of a state, with rooms that begin with its bytes, holds that state
+-- ---- the record of a state, with rooms that hold its bytes, holds that state
 
 pairs-back : (ps : List (ℕ × ℕ)) → SecondsBelow 65536 ps → map pairOf (map packPair ps) ≡ ps
 pairs-back [] b = refl
@@ -347,10 +329,10 @@ packages-back ps h = pairs-back ps (h .small)
 pub maps-back : (ms : List (ℕ × ℕ)) → HoldsMaps ms → map pairOf (map packPair ms) ≡ ms
 maps-back ms h = pairs-back ms (below-wider ms (omega arith) (h .small))
 
-fragments-back : (fs : List Fragment) (spare : Bytes) → TellAll fs → fragmentsIn (map fragmentHead fs) (bodiesOf fs ++ spare) ≡ fs
-unfolding fragmentsIn bodiesOf
-fragments-back [] spare h = refl
-fragments-back (f ∷ fs) spare h =
+packed-back : (fs : List Fragment) (spare : Bytes) → TellAll fs → packedIn (map fragmentHead fs) (bodiesOf fs ++ spare) ≡ fs
+unfolding packedIn bodiesOf
+packed-back [] spare h = refl
+packed-back (f ∷ fs) spare h =
     let n : fragmentLength (fragmentHead f) ≡ length (f .body) = h .0 .length-is in
     let bodies : Bytes = (f .body ++ bodiesOf fs) ++ spare in
     let body : take (fragmentLength (fragmentHead f)) bodies ≡ f .body =
@@ -359,26 +341,58 @@ fragments-back (f ∷ fs) spare h =
     ap₂ (λ (k : ℕ) (z : Bytes). drop k z) n (append-assoc (f .body) (bodiesOf fs) spare) ∙ drop-at (f .body) (bodiesOf fs ++ spare) (length (f .body)) refl in
     ap₂ (λ (g : Fragment) (l : List Fragment). g ∷ l)
     (λ i. record { identifier = h .0 .identifier-is i; flags = h .0 .flags-are i; body = body i })
-    (ap (fragmentsIn (map fragmentHead fs)) rest ∙ fragments-back fs spare (h .1))
+    (ap (packedIn (map fragmentHead fs)) rest ∙ packed-back fs spare (h .1))
 
-module _ (L : Limits) (M : Modes) (o : Options) (st : State) (total-few : L .total ≤ 16777216) (h : HoldsState L o st) where
-  pub state-back : (work bodies : Bytes) → stateOf (recordOf L M o st) (st .held ++ work) (bodiesOf (st .known .fragments) ++ bodies) (st .known .map-room) ≡ st
+pub tell-take : (i : ℕ) (fs : List Fragment) → TellAll fs → TellAll (take i fs)
+tell-take zero fs h = tt
+tell-take (suc i) [] h = tt
+tell-take (suc i) (f ∷ fs) h = (h .0, tell-take i fs (h .1))
+
+pub tell-drop : (i : ℕ) (fs : List Fragment) → TellAll fs → TellAll (drop i fs)
+tell-drop zero fs h = h
+tell-drop (suc i) [] h = tt
+tell-drop (suc i) (f ∷ fs) h = tell-drop i fs (h .1)
+
+pub lens-heads : (fs : List Fragment) → TellAll fs → lens (map fragmentHead fs) ≡ length (bodiesOf fs)
+unfolding lens
+lens-heads fs h = lengths-of fs h ∙ bytes-of fs
+
+-- A room that holds fragments holds these alone.
+pub fragments-back : (leading : ℕ) (fs : List Fragment) (free : Bytes) → TellAll fs → fragmentsIn leading (map fragmentHead fs) (roomOf leading fs free) ≡ fs
+unfolding fragmentsIn roomOf
+fragments-back leading fs free h =
+    let xs : List Fragment = take leading fs in
+    let ys : List Fragment = drop leading fs in
+    let room : Bytes = bodiesOf xs ++ (free ++ bodiesOf ys) in
+    let l : lens (map fragmentHead ys) ≡ length (bodiesOf ys) = lens-heads ys (tell-drop leading fs h) in
+    let m : length (bodiesOf xs ++ free) ≡ length room - lens (map fragmentHead ys) =
+    omega (arith, length-append (bodiesOf xs) free, length-append (bodiesOf xs) (free ++ bodiesOf ys), length-append free (bodiesOf ys)) in
+    let back : drop (length room - lens (map fragmentHead ys)) room ≡ bodiesOf ys ++ [] =
+    ap (drop (length room - lens (map fragmentHead ys))) (sym (append-assoc (bodiesOf xs) free (bodiesOf ys)))
+    ∙ drop-at (bodiesOf xs ++ free) (bodiesOf ys) (length room - lens (map fragmentHead ys)) m ∙ sym (append-nil (bodiesOf ys)) in
+    ap₂ (λ (a b : List ℕ). packedIn a room ++ packedIn b (drop (length room - lens b) room)) (take-map fragmentHead leading fs) (drop-map fragmentHead leading fs)
+    ∙ ap₂ (λ (a b : List Fragment). a ++ b) (packed-back xs (free ++ bodiesOf ys) (tell-take leading fs h))
+    (ap (packedIn (map fragmentHead ys)) back ∙ packed-back ys [] (tell-drop leading fs h))
+    ∙ take-append-drop leading fs
+
+module _ (L : Limits) (M : Modes) (o : Options) (leading : ℕ) (st : State) (total-few : L .total ≤ 16777216) (h : HoldsState L o st) where
+  pub state-back : (work free : Bytes) → stateOf (recordOf L M o leading st) (st .held ++ work) (roomOf leading (st .known .fragments) free) (st .known .map-room) ≡ st
   unfolding stateOf recordOf
-  state-back work bodies =
+  state-back work free =
       let k = st .known in
       let s = h .known-holds in
       let tell = heads-tell (L .total) (k .fragments) (s .fragments-hold) total-few in
       let held = take-at (st .held) work (length (st .held)) refl in
       let packages = ap (map pairOf) (used 255 packPair (k .packages)) ∙ packages-back (k .packages) (s .packages-hold) in
       let map-heads = ap (map pairOf) (used 64 packPair (k .map-heads)) ∙ maps-back (k .map-heads) (s .maps-hold) in
-      let fragments = ap (λ (l : List ℕ). fragmentsIn l (bodiesOf (k .fragments) ++ bodies)) (used 256 fragmentHead (k .fragments)) ∙ fragments-back (k .fragments) bodies tell in
+      let fragments = ap (λ (l : List ℕ). fragmentsIn leading l (roomOf leading (k .fragments) free)) (used 256 fragmentHead (k .fragments)) ∙ fragments-back leading (k .fragments) free tell in
       λ i. record {
         held = held i;
         known = record { plt-seen = k .plt-seen; packages = packages i; map-heads = map-heads i; map-room = k .map-room; data-set = k .data-set; fragments = fragments i };
       }
 
 -- A call on the record of a state is refused as a call on the state is.
-pub refusal-same : (L : Limits) (M : Modes) (o : Options) (st : State) (c : Lent) → goodWorkRoom (L .work) ≡ true → goodFragmentRoom (L .total) (L .most) ≡ true → HoldsState L o st
-    → pushRefusal (recordOf L M o st) (L .work) (L .total) 32768 (length (c .0)) (c .1) ≡ callRefusal L st c
+pub refusal-same : (L : Limits) (M : Modes) (o : Options) (leading : ℕ) (st : State) (c : Lent) → goodWorkRoom (L .work) ≡ true → goodFragmentRoom (L .total) (L .most) ≡ true → HoldsState L o st
+    → pushRefusal (recordOf L M o leading st) (L .work) (L .total) 32768 (length (c .0)) (c .1) ≡ callRefusal L st c
 unfolding pushRefusal callRefusal recordOf
-refusal-same L M o st c w f h = rw (record-sound L M o st w f h)
+refusal-same L M o leading st c w f h = rw (record-sound L M o leading st w f h)

@@ -17,6 +17,8 @@ pub mod Learn
 pub mod Rules
 pub mod Refusals
 pub mod Record
+pub mod Leading
+pub mod Moves
 pub mod Soundness
 pub mod Calls
 pub mod Start

@@ -15,6 +15,7 @@ use Rattle.meaning.specs.Rooms.{packetLimit}
 use Rattle.meaning.specs.Learn.{Known, learn}
 use Rattle.meaning.specs.Rules.{drops, ready}
 use Rattle.meaning.specs.Record.{State, Record, recordOf, stateOf}
+use Rattle.meaning.specs.Leading.{leadingPushed}
 use Rattle.meaning.specs.Soundness.{sound}
 use Rattle.meaning.specs.Calls.{countsOf, Called}
 use Rattle.meaning.specs.declared.Options.{Options}
@@ -107,10 +108,12 @@ pushRefusal r W T map-length n out-length = cond (sound r W T map-length) (lengt
 
 -- A push takes the record and the rooms; refused, it hands the record back as it was.
 unfoldable pub called : Record → Bytes → Bytes → List ℕ → Bytes → ℕ → Called
-unfolding pushRefusal stateOf recordOf push
+unfolding pushRefusal stateOf recordOf push leadingPushed
 called r work bodies map-room chunk out-length =
     let x = pushRefusal r (length work) (length bodies) (length map-room) (length chunk) out-length in
-    let p = push (r .limits) (r .modes) (r .options) (stateOf r work bodies map-room) chunk in
+    let st = stateOf r work bodies map-room in
+    let p = push (r .limits) (r .modes) (r .options) st chunk in
+    let leading = leadingPushed (r .limits) (r .options) st chunk (r .leading) in
     cond (eqb x 0)
-    (record { number = 0; out = p .out; counts = p .counts; handed = recordOf (r .limits) (r .modes) (r .options) (p .state) })
+    (record { number = 0; out = p .out; counts = p .counts; handed = recordOf (r .limits) (r .modes) (r .options) leading (p .state) })
     (record { number = x; out = []; counts = countsOf 0; handed = r })

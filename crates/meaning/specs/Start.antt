@@ -41,6 +41,7 @@ blank = record {
   package-count = 0;
   map-count = 0;
   fragment-count = 0;
+  leading = 0;
   data-set = noWords;
   packages = replicate 255 0;
   map-heads = replicate 64 0;
@@ -52,4 +53,4 @@ unfoldable pub started : Limits → Modes → Options → List ℕ → Called
 unfolding startRefusal recordOf fresh blank
 started L M o map-room =
     let x = startRefusal (L .work) (L .total) (L .most) (length map-room) o in
-    record { number = x; out = []; counts = countsOf 0; handed = cond (eqb x 0) (recordOf L M o (fresh map-room)) blank }
+    record { number = x; out = []; counts = countsOf 0; handed = cond (eqb x 0) (recordOf L M o 0 (fresh map-room)) blank }

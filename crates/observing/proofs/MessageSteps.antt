@@ -78,6 +78,7 @@ module _ (q : ℕ) (x : Message) (k : Known) (e : Extent) (c p m o : List ℕ) (
         lost-is = omega (arith, ap (λ y. y .lost) (d .1));
         news-are = ap (λ y. y .news) (d .1) ∙ ap (λ (ws : List ℕ). also (e .news) (changeNews (not (inSet ws q)))) (h .data-set-is);
         fragments-same = ap (λ y. y .«fragment_count») (d .1);
+        leading-same = ap (λ y. y .leading) (d .1);
       })
 
   pub message-other : (x .number ≡ 0 → ⊥) → (x .number ≡ 0x8003 → ⊥) → After (learnMessage q x k) (newsMessage q x k) e e c p m o

@@ -26,7 +26,7 @@ use Rattle.observing.specs.Steps.{After}
 
 -- nothing learned
 pub after-none : (k : Known) (e : Extent) (c p m o : List ℕ) → Keeps k e c p m o → After (learnt k) noNews e e c p m o
-after-none k e c p m o h = record { keeps = h; lost-is = omega arith; news-are = also-none (e .news); fragments-same = refl }
+after-none k e c p m o h = record { keeps = h; lost-is = omega arith; news-are = also-none (e .news); fragments-same = refl; leading-same = refl }
 
 pub after-then : (f g : Learnt) (a b : News) (e e₁ r : Extent) (c₁ p₁ m₁ o₁ c p m o : List ℕ) → After f a e e₁ c₁ p₁ m₁ o₁ → After g b e₁ r c p m o
     → After (andLost (f .lost) g) (also a b) e r c p m o
@@ -36,6 +36,7 @@ after-then f g a b e e₁ r c₁ p₁ m₁ o₁ c p m o x y =
       lost-is = omega (arith, x .lost-is, y .lost-is);
       news-are = y .news-are ∙ ap (λ (z : News). also z b) (x .news-are) ∙ also-assoc (e .news) a b;
       fragments-same = y .fragments-same ∙ x .fragments-same;
+      leading-same = y .leading-same ∙ x .leading-same;
     }
 
 -- what is new has no part in what is kept
@@ -62,6 +63,7 @@ module _ (k : Known) (e r : Extent) (c p m o : List ℕ) (h : Keeps k e c p m o)
         lost-is = omega (arith, ap (λ z. z .lost) (x .0));
         news-are = ap (λ z. z .news) (x .0) ∙ also-none (e .news);
         fragments-same = ap (λ z. z .«fragment_count») (x .0);
+        leading-same = ap (λ z. z .leading) (x .0);
       }
   plt-after (some (ys, more)) x =
       record {
@@ -78,6 +80,7 @@ module _ (k : Known) (e r : Extent) (c p m o : List ℕ) (h : Keeps k e c p m o)
         lost-is = omega (arith, ap (λ z. z .lost) (x .1));
         news-are = ap (λ z. z .news) (x .1) ∙ ap (λ (s : Bool). also (e .news) (pltNews (some (ys, more)) s (k .packages))) (h .seen);
         fragments-same = ap (λ z. z .«fragment_count») (x .1);
+        leading-same = ap (λ z. z .leading) (x .1);
       }
 
 -- ---- an MPT
@@ -90,7 +93,7 @@ module _ (q : ℕ) (k : Known) (e r : Extent) (c p m o : List ℕ) (h : Keeps k 
   -- the lists as they were, so many more lost, and these news
   none-after : (n l : ℕ) (new : News) → l ≡ e .lost + n
       → KeptMaps (k .map-heads) (e .«map_count») m′ × (o′ ≡ o)
-      × (r ≡ record { seen = e .seen; «package_count» = e .«package_count»; «map_count» = e .«map_count»; «fragment_count» = e .«fragment_count»; lost = l; news = also (e .news) new })
+      × (r ≡ record { seen = e .seen; «package_count» = e .«package_count»; «map_count» = e .«map_count»; «fragment_count» = e .«fragment_count»; leading = e .leading; lost = l; news = also (e .news) new })
       → After (record { known = k; lost = n }) new e r c p m′ o′
   none-after n l new s x =
       record {
@@ -107,6 +110,7 @@ module _ (q : ℕ) (k : Known) (e r : Extent) (c p m o : List ℕ) (h : Keeps k 
         lost-is = ap (λ z. z .lost) (x .2) ∙ s;
         news-are = ap (λ z. z .news) (x .2);
         fragments-same = ap (λ z. z .«fragment_count») (x .2);
+        leading-same = ap (λ z. z .leading) (x .2);
       }
 
   list-after : (es : List Entry) (there : Bool) → ltb (placeFor q (k .map-heads)) 64 ≡ there → ListLearnt there q es (k .map-heads) e o r m′ o′
@@ -127,6 +131,7 @@ module _ (q : ℕ) (k : Known) (e r : Extent) (c p m o : List ℕ) (h : Keeps k 
         lost-is = omega (arith, ap (λ z. z .lost) (x .2));
         news-are = ap (λ z. z .news) (x .2) ∙ ap (λ (z : List ℕ). also (e .news) (listNews q es (k .map-heads) z)) (h .map-room-is);
         fragments-same = ap (λ z. z .«fragment_count») (x .2);
+        leading-same = ap (λ z. z .leading) (x .2);
       }
   list-after es false t x =
       rw (lost-not-new q (listed es) (k .map-heads) (k .map-room) t) (none-after 1 (e .lost + 1) (kindsIn es) refl x)

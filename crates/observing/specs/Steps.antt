@@ -18,7 +18,7 @@ use Rattle.learning.specs.declared.News.{News}
 abbrev pub DataLearnt : ℕ → Extent → Words → Extent → Words → Type 0
 DataLearnt p e ws r ws′ =
     (ws′ ≡ withId ws p)
-    × (r ≡ record { seen = e .seen; «package_count» = e .«package_count»; «map_count» = e .«map_count»; «fragment_count» = e .«fragment_count»; lost = e .lost; news = also (e .news) (changeNews (not (inSet ws p))) })
+    × (r ≡ record { seen = e .seen; «package_count» = e .«package_count»; «map_count» = e .«map_count»; «fragment_count» = e .«fragment_count»; leading = e .leading; lost = e .lost; news = also (e .news) (changeNews (not (inSet ws p))) })
 
 -- ---- tables and messages
 
@@ -32,6 +32,7 @@ pub record After (l : Learnt) (new : News) (e r : Extent) (data-set packages map
   pub lost-is : r .lost ≡ e .lost + l .lost
   pub news-are : r .news ≡ also (e .news) new
   pub fragments-same : r .«fragment_count» ≡ e .«fragment_count»
+  pub leading-same : r .leading ≡ e .leading
 
 -- A step of learning, whatever state the arrays hold.
 abbrev pub Learns : (Known → Learnt) → (Known → News) → Extent → List ℕ → List ℕ → List ℕ → List ℕ → Extent → List ℕ → List ℕ → List ℕ → List ℕ → Type 0

@@ -3,12 +3,16 @@ ghost use mathlib.Core.Path.{_≡_};
 ghost use Prim.Native.Nat.{_+_, _-_, _≤_, _<_};
 ghost use lib.ListN.{length, drop};
 ghost use Rattle.meaning.specs.Learn.{last, observe};
+ghost use Rattle.meaning.specs.Leading.{leadingObserved};
+ghost use Rattle.meaning.specs.Moves.{MovedOnce};
 ghost use Rattle.learning.specs.News.{also};
 ghost use Rattle.observing.specs.News.{anything, news};
-ghost use Rattle.observing.specs.Observed.{HoldingSome, Observes, withCount, wholeStep, wholeNew, lastStep, lastNew, byStep, byNew};
+ghost use Rattle.observing.specs.Observed.{HoldingSome, Observes, leadBy, withHeld, wholeStep, wholeNew, lastStep, lastNew, byStep, byNew};
 use crate::messages::learn;
 use fragments::Grown;
+use fragments::Held;
 use fragments::drop_fragment;
+use fragments::give_back;
 use fragments::grow;
 use fragments::hold_first;
 use fragments::middle;
@@ -27,16 +31,17 @@ fn body_of(payload: &[u8]) -> &[u8]
     &payload[2..]
 }
 
-// The extent with so many fragments.
-fn with_count(e: Extent, n: usize) -> Extent
-    ensures { λ r. ⌜ r ≡ withCount e n ⌝ }
+// The extent with so many fragments, and so many of them leading.
+fn with_held(e: Extent, h: Held) -> Extent
+    ensures { λ r. ⌜ r ≡ withHeld e h ⌝ }
 {
     let news = e.news;
     Extent {
         seen: e.seen,
         package_count: e.package_count,
         map_count: e.map_count,
-        fragment_count: n,
+        fragment_count: h.count,
+        leading: h.leading,
         lost: e.lost,
         news,
     }
@@ -62,10 +67,10 @@ fn whole(
     bodies: &mut [u8],
 ) -> Extent
     requires { ⌜ (e .lost + length (now body) + length (now bodies) ≤ 18446744073709551615) × HoldingSome e (now «data_set») (now packages) (now «map_heads») (now «map_room») (now «fragment_heads») (now bodies) ⌝ }
-    ensures { λ r. ⌜ Observes (wholeStep (p .id) (p .flags) (now (body .entry))) (wholeNew (p .id) (p .flags) (now (body .entry))) (p .most) e (now («data_set» .entry)) (now (packages .entry)) (now («map_heads» .entry)) (now («map_room» .entry)) (now («fragment_heads» .entry)) (now (bodies .entry)) r (now («data_set» .exit)) (now (packages .exit)) (now («map_heads» .exit)) (now («map_room» .exit)) (now («fragment_heads» .exit)) (now (bodies .exit)) × (r .lost ≤ e .lost + length (now (body .entry))) ⌝ }
+    ensures { λ r. ⌜ Observes (wholeStep (p .id) (p .flags) (now (body .entry))) (wholeNew (p .id) (p .flags) (now (body .entry))) (leadBy (p .id) (wholeStep (p .id) (p .flags) (now (body .entry)))) (p .most) e (now («data_set» .entry)) (now (packages .entry)) (now («map_heads» .entry)) (now («map_room» .entry)) (now («fragment_heads» .entry)) (now (bodies .entry)) r (now («data_set» .exit)) (now (packages .exit)) (now («map_heads» .exit)) (now («map_room» .exit)) (now («fragment_heads» .exit)) (now (bodies .exit)) × (r .lost ≤ e .lost + length (now (body .entry))) × MovedOnce (now (bodies .entry)) (now (body .entry)) (now (bodies .exit)) ⌝ }
 {
-    let n = drop_fragment(p.id, e.fragment_count, fragment_heads, bodies);
-    let known = with_count(e, n);
+    let held = drop_fragment(p.id, e.fragment_count, e.leading, fragment_heads, bodies);
+    let known = with_held(e, held);
     learn(
         p.flags,
         body,
@@ -78,7 +83,7 @@ fn whole(
     )
 }
 
-// A last fragment: joined, its message is learned, and its room is given back.
+// A last fragment: joined, its message is learned where it lies, and its room is given back.
 fn last(
     body: &[u8],
     e: Extent,
@@ -92,10 +97,23 @@ fn last(
     bodies: &mut [u8],
 ) -> Extent
     requires { ⌜ (e .lost + length (now body) + length (now bodies) ≤ 18446744073709551615) × HoldingSome e (now «data_set») (now packages) (now «map_heads») (now «map_room») (now «fragment_heads») (now bodies) ⌝ }
-    ensures { λ r. ⌜ Observes (lastStep id (now (body .entry))) (lastNew id (now (body .entry))) most e (now («data_set» .entry)) (now (packages .entry)) (now («map_heads» .entry)) (now («map_room» .entry)) (now («fragment_heads» .entry)) (now (bodies .entry)) r (now («data_set» .exit)) (now (packages .exit)) (now («map_heads» .exit)) (now («map_room» .exit)) (now («fragment_heads» .exit)) (now (bodies .exit)) × (r .lost ≤ e .lost + length (now (bodies .entry))) ⌝ }
+    ensures { λ r. ⌜ Observes (lastStep id (now (body .entry))) (lastNew id (now (body .entry))) (leadBy id (lastStep id (now (body .entry)))) most e (now («data_set» .entry)) (now (packages .entry)) (now («map_heads» .entry)) (now («map_room» .entry)) (now («fragment_heads» .entry)) (now (bodies .entry)) r (now («data_set» .exit)) (now (packages .exit)) (now («map_heads» .exit)) (now («map_room» .exit)) (now («fragment_heads» .exit)) (now (bodies .exit)) × (r .lost ≤ e .lost + length (now (bodies .entry))) × MovedOnce (now (bodies .entry)) (now (body .entry)) (now (bodies .exit)) ⌝ }
 {
-    match grow(id, body, most, e.fragment_count, fragment_heads, bodies) {
-        Grown::At { start, end, flags } => {
+    match grow(
+        id,
+        body,
+        most,
+        e.fragment_count,
+        e.leading,
+        fragment_heads,
+        bodies,
+    ) {
+        Grown::At {
+            start,
+            end,
+            flags,
+            held,
+        } => {
             let known = learn(
                 flags,
                 &bodies[start..end],
@@ -106,10 +124,9 @@ fn last(
                 map_heads,
                 map_room,
             );
-            let n = drop_fragment(id, e.fragment_count, fragment_heads, bodies);
-            with_count(known, n)
+            with_held(known, give_back(held.count, held.leading, fragment_heads))
         }
-        Grown::Discarded(n) => with_count(e, n),
+        Grown::Discarded(held) => with_held(e, held),
         Grown::Absent => e,
     }
 }
@@ -127,7 +144,7 @@ fn by_indicator(
     bodies: &mut [u8],
 ) -> Extent
     requires { ⌜ (e .lost + length (now body) + length (now bodies) ≤ 18446744073709551615) × HoldingSome e (now «data_set») (now packages) (now «map_heads») (now «map_room») (now «fragment_heads») (now bodies) ⌝ }
-    ensures { λ r. ⌜ Observes (byStep (p .id) (p .flags) (now (body .entry))) (byNew (p .id) (p .flags) (now (body .entry))) (p .most) e (now («data_set» .entry)) (now (packages .entry)) (now («map_heads» .entry)) (now («map_room» .entry)) (now («fragment_heads» .entry)) (now (bodies .entry)) r (now («data_set» .exit)) (now (packages .exit)) (now («map_heads» .exit)) (now («map_room» .exit)) (now («fragment_heads» .exit)) (now (bodies .exit)) × (r .lost ≤ e .lost + length (now (body .entry)) + length (now (bodies .entry))) ⌝ }
+    ensures { λ r. ⌜ Observes (byStep (p .id) (p .flags) (now (body .entry))) (byNew (p .id) (p .flags) (now (body .entry))) (leadBy (p .id) (byStep (p .id) (p .flags) (now (body .entry)))) (p .most) e (now («data_set» .entry)) (now (packages .entry)) (now («map_heads» .entry)) (now («map_room» .entry)) (now («fragment_heads» .entry)) (now (bodies .entry)) r (now («data_set» .exit)) (now (packages .exit)) (now («map_heads» .exit)) (now («map_room» .exit)) (now («fragment_heads» .exit)) (now (bodies .exit)) × (r .lost ≤ e .lost + length (now (body .entry)) + length (now (bodies .entry))) × MovedOnce (now (bodies .entry)) (now (body .entry)) (now (bodies .exit)) ⌝ }
 {
     let flags = p.flags;
     let id = p.id;
@@ -144,8 +161,14 @@ fn by_indicator(
             fragment_heads,
             bodies,
         ),
-        1 => with_count(e, hold_first(id, flags, body, n, fragment_heads, bodies)),
-        2 => with_count(e, middle(id, body, p.most, n, fragment_heads, bodies)),
+        1 => with_held(
+            e,
+            hold_first(id, flags, body, n, e.leading, fragment_heads, bodies),
+        ),
+        2 => with_held(
+            e,
+            middle(id, body, p.most, n, e.leading, fragment_heads, bodies),
+        ),
         _ => last(
             body,
             e,
@@ -188,7 +211,7 @@ pub fn observe(
     bodies: &mut [u8],
 ) -> Extent
     requires { ⌜ (e .lost + length (now payload) + length (now bodies) ≤ 18446744073709551615) × HoldingSome e (now «data_set») (now packages) (now «map_heads») (now «map_room») (now «fragment_heads») (now bodies) ⌝ }
-    ensures { λ r. ⌜ Observes (λ L k. observe L id (now (payload .entry)) k) (λ L k. news L id (now (payload .entry)) k) most e (now («data_set» .entry)) (now (packages .entry)) (now («map_heads» .entry)) (now («map_room» .entry)) (now («fragment_heads» .entry)) (now (bodies .entry)) r (now («data_set» .exit)) (now (packages .exit)) (now («map_heads» .exit)) (now («map_room» .exit)) (now («fragment_heads» .exit)) (now (bodies .exit)) × (r .lost ≤ e .lost + length (now (payload .entry)) + length (now (bodies .entry))) ⌝ }
+    ensures { λ r. ⌜ Observes (λ L k. observe L id (now (payload .entry)) k) (λ L k. news L id (now (payload .entry)) k) (λ L k. leadingObserved L id (now (payload .entry)) k) most e (now («data_set» .entry)) (now (packages .entry)) (now («map_heads» .entry)) (now («map_room» .entry)) (now («fragment_heads» .entry)) (now (bodies .entry)) r (now («data_set» .exit)) (now (packages .exit)) (now («map_heads» .exit)) (now («map_room» .exit)) (now («fragment_heads» .exit)) (now (bodies .exit)) × (r .lost ≤ e .lost + length (now (payload .entry)) + length (now (bodies .entry))) × MovedOnce (now (bodies .entry)) (drop 2 (now (payload .entry))) (now (bodies .exit)) ⌝ }
 {
     if payload.len() == 0 {
         return e;

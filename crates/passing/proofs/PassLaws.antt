@@ -14,6 +14,7 @@ use Rattle.meaning.specs.Mmtp.{mmtpOf}
 use Rattle.meaning.specs.Narrow.{narrowPacket}
 use Rattle.meaning.specs.Learn.{Known, learn}
 use Rattle.meaning.specs.Rules.{drops, ready}
+use Rattle.meaning.specs.Leading.{leadingFrom, leadingOver}
 use Rattle.meaning.specs.Push.{Passed, passOne, pass, withheld}
 use Rattle.meaning.specs.declared.Limits.{Limits}
 use Rattle.meaning.specs.declared.Options.{Options}
@@ -63,6 +64,21 @@ module _ (L : Limits) (M : Modes) (o : Options) where
       same true x = refl
       same false x = refl
 
+-- How many fragments lead, over packets and further packets.
+pub leading-append : (L : Limits) (M : Modes) (o : Options) (k : Known) (ps qs : List Bytes) (leading : ℕ)
+    → leadingOver L k (ps ++ qs) leading ≡ leadingOver L (pass L M o k ps .known) qs (leadingOver L k ps leading)
+unfolding leadingOver pass
+leading-append L M o k [] qs leading = refl
+leading-append L M o k (p ∷ ps) qs leading =
+    let l = learn L k p in
+    let now = leadingFrom L (mmtpOf p) k leading in
+    leading-append L M o (l .known) ps qs now
+    ∙ ap (λ (x : Known). leadingOver L x qs (leadingOver L (l .known) ps now)) (same (withheld o (l .known) (mmtpOf p)) (pass L M o (l .known) ps))
+  where
+    same : (w : Bool) (x : Passed) → x .known ≡ passOne w (narrowPacket M o p) p (learn L k p .lost) x .known
+    same true x = refl
+    same false x = refl
+
 pub flatten-append : (a b : List Bytes) → flatten (a ++ b) ≡ flatten a ++ flatten b
 unfolding flatten
 flatten-append [] b = refl
@@ -81,7 +97,7 @@ countsAfter c bytes x accepted skipped = record {
   lost = c .lost;
 }
 
-module _ (L : Limits) (M : Modes) (o : Options) (k : Known) (d : Bytes) (ps qs : List Bytes) (n m : ℕ) (s r : Progress) where
+module _ (L : Limits) (M : Modes) (o : Options) (k : Known) (leading : ℕ) (d : Bytes) (ps qs : List Bytes) (n m : ℕ) (s r : Progress) where
   abbrev before : Passed
   before = pass L M o k ps
 
@@ -90,15 +106,16 @@ module _ (L : Limits) (M : Modes) (o : Options) (k : Known) (d : Bytes) (ps qs :
 
   pub further : (data-set packages map-heads map-room fragment-heads : List ℕ) (bodies : Bytes) (set : Words) (out : Bytes)
       (data-set′ packages′ map-heads′ map-room′ fragment-heads′ : List ℕ) (bodies′ : Bytes) (set′ : Words) (out′ : Bytes)
-      → Sofar L M o k d ps n s data-set packages map-heads map-room fragment-heads bodies set out
+      → Sofar L M o k leading d ps n s data-set packages map-heads map-room fragment-heads bodies set out
       → Holding (L .total) (next .known) (r .extent) data-set′ packages′ map-heads′ map-room′ fragment-heads′ bodies′
       → SetIs (drops o (next .known)) set′
       → r .ready ≡ ready (o .service) (next .known)
       → r .extent .lost ≡ s .extent .lost + next .lost
+      → r .extent .leading ≡ leadingOver L (before .known) qs (s .extent .leading)
       → r .counts ≡ countsAfter (s .counts) (r .counts .bytes) next (length qs) m
       → Wrote (flatten (next .out)) out (s .counts .bytes) out′ (r .counts .bytes)
-      → Sofar L M o k d (ps ++ qs) (n + m) r data-set′ packages′ map-heads′ map-room′ fragment-heads′ bodies′ set′ out′
-  further data-set packages map-heads map-room fragment-heads bodies set out data-set′ packages′ map-heads′ map-room′ fragment-heads′ bodies′ set′ out′ f h t y l c w =
+      → Sofar L M o k leading d (ps ++ qs) (n + m) r data-set′ packages′ map-heads′ map-room′ fragment-heads′ bodies′ set′ out′
+  further data-set packages map-heads map-room fragment-heads bodies set out data-set′ packages′ map-heads′ map-room′ fragment-heads′ bodies′ set′ out′ f h t y l a′ c w =
       let e : pass L M o k (ps ++ qs) ≡ chained before next = pass-append L M o k ps qs in
       let old = f .counts-are in
       let b : r .counts .bytes ≡ length (flatten (before .out ++ next .out)) =
@@ -117,6 +134,7 @@ module _ (L : Limits) (M : Modes) (o : Options) (k : Known) (d : Bytes) (ps qs :
         set-is = rw e t;
         ready-is = rw e y;
         lost-is = rw e (l ∙ ap (λ (z : ℕ). z + next .lost) (f .lost-is));
+        leading-is = a′ ∙ ap (leadingOver L (before .known) qs) (f .leading-is) ∙ sym (leading-append L M o k ps qs leading);
         counts-are = rw e (c ∙ counts);
         written = rw (e, flatten-append (before .out) (next .out)) (wrote-then (f .written) w);
       }

@@ -1,7 +1,7 @@
 -- Packets that are no signalling: nothing is learned from them, the drop set and readiness alone withhold them, and narrowing leaves them.
 -- Rests on PassLaws.
 use Prim.Native.Nat.{ℕ, _/_, _%_, _<_}
-use mathlib.Core.Path.{_≡_, refl, ap, _∙_, subst}
+use mathlib.Core.Path.{_≡_, refl, ap, _∙_, subst, ap₂}
 use mathlib.Core.Bool.{Bool, true, false, cond}
 use mathlib.Core.List.{List, [], _∷_}
 use mathlib.Core.Option.{Option, none, some, Option·some-injective, Option·none-ne-some}
@@ -9,11 +9,12 @@ use lib.ListN.{length, drop, getD}
 use lib.Dec.{leb}
 use Rattle.meaning.specs.Bytes.{Bytes}
 use Rattle.meaning.specs.Sets.{Words}
-use Rattle.meaning.specs.Readers.{Out, Reader, _>>=_, give, byte, u8, u16, u32, bytes, announced}
+use Rattle.meaning.specs.Readers.{Out, Reader, _>>=_, give, u8, u16, u32, bytes, announced}
 use Rattle.meaning.specs.Mmtp.{MmtpHeader, Mmtp, Offset, offsetOf, extension, mmtpHeader, mmtpFrom, mmtpAt, mmtpOf}
 use Rattle.meaning.specs.Narrow.{packetFor, narrowPacket}
-use Rattle.meaning.specs.Learn.{Known, learnFrom, learnt, learn}
+use Rattle.meaning.specs.Learn.{Known, learnFrom, learnt, learn, Learnt}
 use Rattle.meaning.specs.Rules.{drops, ready}
+use Rattle.meaning.specs.Leading.{leadingFrom, leadingOver}
 use Rattle.meaning.specs.Push.{passOne, pass, withheld}
 use Rattle.meaning.specs.declared.Limits.{Limits}
 use Rattle.meaning.specs.declared.Options.{Options}
@@ -99,6 +100,22 @@ module _ (L : Limits) (M : Modes) (o : Options) (k : Known) (p : Bytes) (ws : Wo
   pub pass-withheld : Plain p ws is true → pass L M o k (p ∷ []) ≡ record { out = []; rewritten = 0; lost = 0; known = k }
   unfolding pass
   pass-withheld h = one-plain true [] h
+
+-- and leave the fragments where they are
+lead-nothing : (L : Limits) (k : Known) (x : Option Mmtp) (leading : ℕ) → signals x ≡ false → leadingFrom L x k leading ≡ leading
+lead-nothing L k none leading e = refl
+lead-nothing L k (some m) leading e = rw e
+
+pub plain-leads : (L : Limits) (k : Known) (p : Bytes) (ps : List Bytes) (ws : Words) (is stop : Bool) (leading : ℕ) → Plain p ws is stop → leadingOver L k (p ∷ ps) leading ≡ leadingOver L k ps leading
+unfolding leadingOver learn
+plain-leads L k p ps ws is stop leading h =
+    let l : learn L k p ≡ learnt k = learn-nothing L k (mmtpOf p) (h .other) in
+    ap₂ (λ (x : Known) (n : ℕ). leadingOver L x ps n) (ap (λ (x : Learnt). x .known) l) (lead-nothing L k (mmtpOf p) leading (h .other))
+
+pub row-leads : (L : Limits) (k : Known) (ws : Words) (is : Bool) (ps : List Bytes) (leading : ℕ) → AllPass ws is ps → leadingOver L k ps leading ≡ leading
+unfolding leadingOver
+row-leads L k ws is [] leading h = refl
+row-leads L k ws is (p ∷ ps) leading h = plain-leads L k p ps ws is false leading (h .0) ∙ row-leads L k ws is ps leading (h .1)
 
 -- all that pass go out as they are
 pub pass-row : (L : Limits) (M : Modes) (o : Options) (k : Known) (ws : Words) (is : Bool) → SetIs (drops o k) ws → is ≡ ready (o .service) k → (ps : List Bytes) → AllPass ws is ps

@@ -33,8 +33,8 @@ pub record Machine : Type 0 where
   pub set : Words
   pub out : Bytes
 
-abbrev pub Stands : Limits → Modes → Options → Known → Bytes → List Bytes → ℕ → Machine → Type 0
-Stands L M o k d ps n x = Sofar L M o k d ps n (x .progress) (x .data-set) (x .packages) (x .map-heads) (x .map-room) (x .fragment-heads) (x .bodies) (x .set) (x .out)
+abbrev pub Stands : Limits → Modes → Options → Known → ℕ → Bytes → List Bytes → ℕ → Machine → Type 0
+Stands L M o k leading d ps n x = Sofar L M o k leading d ps n (x .progress) (x .data-set) (x .packages) (x .map-heads) (x .map-room) (x .fragment-heads) (x .bodies) (x .set) (x .out)
 
 abbrev pub StandsSome : Terms → Machine → Type 0
 StandsSome t x = SofarSome t (x .progress) (x .data-set) (x .packages) (x .map-heads) (x .map-room) (x .fragment-heads) (x .bodies) (x .set) (x .out)
@@ -52,15 +52,15 @@ machine s data-set packages map-heads map-room fragment-heads bodies set out =
 
 module _ (t : Terms) (x y z : Machine) (ps qs : List Bytes) (n m : ℕ) where
   pub moves-then : Moves ps n t x y → Moves qs m t y z → Moves (ps ++ qs) (n + m) t x z
-  moves-then u v L k d rs i e f =
+  moves-then u v L k leading d rs i e f =
       let a : i + n + m ≡ i + (n + m) = omega arith in
-      subst (λ (l : List Bytes). Stands L (t .modes) (t .options) k d l (i + (n + m)) z) (append-assoc rs ps qs)
-      (subst (λ (j : ℕ). Stands L (t .modes) (t .options) k d ((rs ++ ps) ++ qs) j z) a (v L k d (rs ++ ps) (i + n) e (u L k d rs i e f)))
+      subst (λ (l : List Bytes). Stands L (t .modes) (t .options) k leading d l (i + (n + m)) z) (append-assoc rs ps qs)
+      (subst (λ (j : ℕ). Stands L (t .modes) (t .options) k leading d ((rs ++ ps) ++ qs) j z) a (v L k leading d (rs ++ ps) (i + n) e (u L k leading d rs i e f)))
 
 pub moves-none : (t : Terms) (x : Machine) → Moves [] 0 t x x
-moves-none t x L k d ps n e s =
+moves-none t x L k leading d ps n e s =
     let z : n ≡ n + 0 = omega arith in
-    subst (λ (l : List Bytes). Stands L (t .modes) (t .options) k d l (n + 0) x) (sym (append-nil ps)) (subst (λ (m : ℕ). Stands L (t .modes) (t .options) k d ps m x) z s)
+    subst (λ (l : List Bytes). Stands L (t .modes) (t .options) k leading d l (n + 0) x) (sym (append-nil ps)) (subst (λ (m : ℕ). Stands L (t .modes) (t .options) k leading d ps m x) z s)
 
 -- Lent slices keep their length.
 pub record SameRooms (x y : Machine) : Type 0 where
@@ -133,7 +133,7 @@ module _ (run : Bytes) (t : Terms) (x : Machine) where
   pub going-some : (y : Machine) (at : ℕ) → Going run t x y at → StandsSome t y
   going-some y at g =
       let b = g .begun in
-      (b .0, b .1, b .2, b .3 ++ g .packets, b .4 + g .skipped, b .5, g .moved (b .0) (b .1) (b .2) (b .3) (b .4) (b .5) (b .6))
+      (b .0, b .1, b .2, b .3, b .4 ++ g .packets, b .5 + g .skipped, b .6, g .moved (b .0) (b .1) (b .2) (b .3) (b .4) (b .5) (b .6) (b .7))
 
   -- the end: the rest is kept
   pub going-done : (y : Machine) (at : ℕ) → Going run t x y at → stepOf (t .limit) (drop at run) ≡ Keep
@@ -143,9 +143,9 @@ module _ (run : Bytes) (t : Terms) (x : Machine) where
       let c : cut (t .limit) run ≡ ahead (g .packets) (g .skipped) (hold (drop at run)) = g .cut-is ∙ ap (ahead (g .packets) (g .skipped)) (cut-keep (t .limit) (drop at run) e) in
       let p : g .packets ≡ cut (t .limit) run .packets = sym (append-nil (g .packets)) ∙ sym (ap (λ (z : Cut). z .packets) c) in
       let s : g .skipped ≡ cut (t .limit) run .skipped = (let w : g .skipped ≡ g .skipped + 0 = omega arith in w) ∙ sym (ap (λ (z : Cut). z .skipped) c) in (
-        λ L k d ps n q u.
-            subst (λ (l : List Bytes). Stands L (t .modes) (t .options) k d (ps ++ l) (n + cut (t .limit) run .skipped) y) p
-            (subst (λ (i : ℕ). Stands L (t .modes) (t .options) k d (ps ++ g .packets) (n + i) y) s (g .moved L k d ps n q u)),
+        λ L k leading d ps n q u.
+            subst (λ (l : List Bytes). Stands L (t .modes) (t .options) k leading d (ps ++ l) (n + cut (t .limit) run .skipped) y) p
+            (subst (λ (i : ℕ). Stands L (t .modes) (t .options) k leading d (ps ++ g .packets) (n + i) y) s (g .moved L k leading d ps n q u)),
         sym (ap (λ (z : Cut). z .held) c),
         g .inside,
         g .fits-more,

@@ -15,6 +15,7 @@ use Rattle.meaning.specs.Mmtp.{Mmtp, mmtpOf}
 use Rattle.meaning.specs.Narrow.{packetFor, narrowPacket}
 use Rattle.meaning.specs.Learn.{Known, Learnt, learnFrom, learn, observe}
 use Rattle.meaning.specs.Rules.{drops, ready}
+use Rattle.meaning.specs.Leading.{leadingObserved, leadingFrom, leadingOver}
 use Rattle.meaning.specs.Push.{Passed, none-passed, passOne, pass, withheld}
 use Rattle.meaning.specs.declared.Limits.{Limits}
 use Rattle.meaning.specs.declared.Options.{Options}
@@ -121,6 +122,10 @@ module _ (L : Limits) (M : Modes) (o : Options) (k : Known) {p payload : Bytes} 
   unfolding learn
   learns-as = ap (λ (m : Option Mmtp). learnFrom L m k) (h .read)
 
+  leads-as : (leading : ℕ) → leadingOver L k (p ∷ []) leading ≡ leadingObserved L id payload k leading
+  unfolding leadingOver
+  leads-as leading = ap (λ (m : Option Mmtp). leadingFrom L m k leading) (h .read)
+
   withheld-as : (j : Known) → withheld o j (mmtpOf p) ≡ drops o j id
   withheld-as j = ap (withheld o j) (h .read) ∙ or-false (drops o j id)
 
@@ -158,7 +163,7 @@ lost-after : (b : Bool) (y : Option Bytes) (p : Bytes) (lost : ℕ) (k : Known) 
 lost-after true y p lost k = omega arith
 lost-after false y p lost k = omega arith
 
-module _ (L : Limits) (M : Modes) (o : Options) (k : Known) (d : Bytes) (ps : List Bytes) (n : ℕ) (s r : Progress)
+module _ (L : Limits) (M : Modes) (o : Options) (k : Known) (leading : ℕ) (d : Bytes) (ps : List Bytes) (n : ℕ) (s r : Progress)
     {p payload : Bytes} {id : ℕ} {w : Bool} (h : Signals p payload id w) where
   abbrev here : Known
   here = pass L M o k ps .known
@@ -169,11 +174,11 @@ module _ (L : Limits) (M : Modes) (o : Options) (k : Known) (d : Bytes) (ps : Li
   -- A run has come one packet further.
   pub signalled : {data-set packages map-heads map-room fragment-heads : List ℕ} {bodies : Bytes} {set : Words} {out : Bytes}
       {data-set′ packages′ map-heads′ map-room′ fragment-heads′ : List ℕ} {bodies′ : Bytes} {set′ : Words} {out′ : Bytes}
-      → Sofar L M o k d ps n s data-set packages map-heads map-room fragment-heads bodies set out
-      → Observed (L .total) step (news L id payload here) (noChange (s .extent)) (r .extent) data-set′ packages′ map-heads′ map-room′ fragment-heads′ bodies′
+      → Sofar L M o k leading d ps n s data-set packages map-heads map-room fragment-heads bodies set out
+      → Observed (L .total) step (news L id payload here) (leadingObserved L id payload here (s .extent .leading)) (noChange (s .extent)) (r .extent) data-set′ packages′ map-heads′ map-room′ fragment-heads′ bodies′
       → Refreshed (r .extent .news .changed) o (r .extent) (s .ready) data-set′ packages′ map-heads′ map-room′ set (r .ready) set′
       → Emitted (inSet set′ id) (narrowPacket M o p) p (s .counts) out (r .counts) out′
-      → Sofar L M o k d (ps ++ p ∷ []) (n + 0) r data-set′ packages′ map-heads′ map-room′ fragment-heads′ bodies′ set′ out′
+      → Sofar L M o k leading d (ps ++ p ∷ []) (n + 0) r data-set′ packages′ map-heads′ map-room′ fragment-heads′ bodies′ set′ out′
   signalled {data-set} {packages} {map-heads} {map-room} {fragment-heads} {bodies} {set} {out} {data-set′} {packages′} {map-heads′} {map-room′} {fragment-heads′} {bodies′} {set′} {out′} f seen fresh sent =
       let g = refreshed-is L M o id payload here (r .extent .news .changed) (ap (λ (n : News). n .changed) (seen .news-are)) fresh (seen .holding .tables-kept) (f .set-is) (f .ready-is) in
       let b : inSet set′ id ≡ drops o (step .known) id = g .0 .member id (h .identifier-fits) in
@@ -182,11 +187,12 @@ module _ (L : Limits) (M : Modes) (o : Options) (k : Known) (d : Bytes) (ps : Li
       let passes = passes-as L M o here h in
       let knows : pass L M o here (p ∷ []) .known ≡ step .known = ap (λ (z : Passed). z .known) passes ∙ known-after (drops o (step .known) id) y p (step .lost) (step .known) in
       let loses : pass L M o here (p ∷ []) .lost ≡ step .lost = ap (λ (z : Passed). z .lost) passes ∙ lost-after (drops o (step .known) id) y p (step .lost) (step .known) in
-      further L M o k d ps (p ∷ []) n 0 s r data-set packages map-heads map-room fragment-heads bodies set out data-set′ packages′ map-heads′ map-room′ fragment-heads′ bodies′ set′ out′ f
+      further L M o k leading d ps (p ∷ []) n 0 s r data-set packages map-heads map-room fragment-heads bodies set out data-set′ packages′ map-heads′ map-room′ fragment-heads′ bodies′ set′ out′ f
       (rw knows (seen .holding))
       (rw knows (g .0))
       (rw knows (g .1))
       (rw loses (seen .lost-is))
+      (seen .leading-is ∙ sym (leads-as L M o here h (s .extent .leading)))
       (rw passes (emitted-counts y p (step .lost) (step .known) (s .counts) out (r .counts) out′ (drops o (step .known) id) x))
       (rw passes (emitted-bytes y p (step .lost) (step .known) (s .counts) out (r .counts) out′ (drops o (step .known) id) x))
 

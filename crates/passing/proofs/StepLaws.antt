@@ -12,6 +12,7 @@ use Rattle.meaning.specs.Bytes.{Bytes}
 use Rattle.meaning.specs.Writing.{Wrote}
 use Rattle.meaning.specs.Sets.{Words}
 use Rattle.meaning.specs.Packets.{stepOf, Cut, cut, accept}
+use Rattle.meaning.specs.Leading.{leadingOver}
 use Rattle.meaning.specs.Push.{pass}
 use Rattle.meaning.specs.declared.Step.the-variants.{Skip}
 use Rattle.meaning.proofs.Writes.{wrote-none}
@@ -23,7 +24,7 @@ use Rattle.passing.specs.declared.Row.{Row}
 use Rattle.passing.specs.Verdicts.{Plain, AllPass, ahead, PacketTo, packetAt, RowIs}
 use Rattle.passing.specs.Passing.{Fits, FitsMore, Along, withSkipped, withWithheld, withRow}
 use Rattle.passing.proofs.PassLaws.{further}
-use Rattle.passing.proofs.PlainLaws.{pass-withheld, pass-row}
+use Rattle.passing.proofs.PlainLaws.{plain-leads, row-leads, pass-withheld, pass-row}
 use Rattle.passing.proofs.RunLaws.{Machine, machine, Moves, moves-then, moves-none, ahead-none, ahead-ahead, SameRooms, fits-on, Going, going-on}
 
 -- Another progress, another output.
@@ -48,7 +49,7 @@ module _ (t : Terms) (y : Machine) where
 
   row-moves : (qs : List Bytes) (bytes out′ : Bytes) (b : ℕ) → AllPass (y .set) (s .ready) qs → flatten qs ≡ bytes → Wrote bytes (y .out) (s .counts .bytes) out′ b
       → Moves qs 0 t y (withOut y (withRow s (length qs) b) out′)
-  row-moves qs bytes out′ b a e w L k d ps n m f =
+  row-moves qs bytes out′ b a e w L k leading d ps n m f =
       let M = t .modes in
       let o = t .options in
       let q : pass L M o (pass L M o k ps .known) qs ≡ record { out = qs; rewritten = 0; lost = 0; known = pass L M o k ps .known } =
@@ -56,26 +57,27 @@ module _ (t : Terms) (y : Machine) where
       let l : s .extent .lost ≡ s .extent .lost + 0 = omega arith in
       let u : s .counts .rewritten ≡ s .counts .rewritten + 0 = omega arith in
       let v : s .counts .skipped ≡ s .counts .skipped + 0 = omega arith in
-      further L M o k d ps qs n 0 s (withRow s (length qs) b) (y .data-set) (y .packages) (y .map-heads) (y .map-room) (y .fragment-heads) (y .bodies) (y .set) (y .out)
+      further L M o k leading d ps qs n 0 s (withRow s (length qs) b) (y .data-set) (y .packages) (y .map-heads) (y .map-room) (y .fragment-heads) (y .bodies) (y .set) (y .out)
       (y .data-set) (y .packages) (y .map-heads) (y .map-room) (y .fragment-heads) (y .bodies) (y .set) out′ f (rw q (f .holding)) (rw q (f .set-is)) (rw q (f .ready-is)) (rw q l)
+      (sym (row-leads L (pass L M o k ps .known) (y .set) (s .ready) qs (s .extent .leading) a))
       (rw q (λ i. record { bytes = b; accepted = s .counts .accepted + length qs; written = s .counts .written + length qs; rewritten = u i; skipped = v i; lost = s .counts .lost }))
       (rw (q, e) w)
 
   gap-moves : (m : ℕ) → Moves [] m t y (withOut y (withSkipped s m) (y .out))
-  unfolding pass flatten
-  gap-moves m L k d ps n q f =
+  unfolding pass flatten leadingOver
+  gap-moves m L k leading d ps n q f =
       let l : s .extent .lost ≡ s .extent .lost + 0 = omega arith in
       let a : s .counts .accepted ≡ s .counts .accepted + 0 = omega arith in
       let w : s .counts .written ≡ s .counts .written + 0 = omega arith in
       let u : s .counts .rewritten ≡ s .counts .rewritten + 0 = omega arith in
-      further L (t .modes) (t .options) k d ps [] n m s (withSkipped s m) (y .data-set) (y .packages) (y .map-heads) (y .map-room) (y .fragment-heads) (y .bodies) (y .set) (y .out)
-      (y .data-set) (y .packages) (y .map-heads) (y .map-room) (y .fragment-heads) (y .bodies) (y .set) (y .out) f (f .holding) (f .set-is) (f .ready-is) l
+      further L (t .modes) (t .options) k leading d ps [] n m s (withSkipped s m) (y .data-set) (y .packages) (y .map-heads) (y .map-room) (y .fragment-heads) (y .bodies) (y .set) (y .out)
+      (y .data-set) (y .packages) (y .map-heads) (y .map-room) (y .fragment-heads) (y .bodies) (y .set) (y .out) f (f .holding) (f .set-is) (f .ready-is) l refl
       (λ i. record { bytes = s .counts .bytes; accepted = a i; written = w i; rewritten = u i; skipped = s .counts .skipped + m; lost = s .counts .lost })
       (wrote-none (y .out) (s .counts .bytes))
 
   withheld-moves : (p : Bytes) → Plain p (y .set) (s .ready) true → Moves (p ∷ []) 0 t y (withOut y (withWithheld s) (y .out))
-  unfolding flatten
-  withheld-moves p h L k d ps n m f =
+  unfolding flatten leadingOver
+  withheld-moves p h L k leading d ps n m f =
       let M = t .modes in
       let o = t .options in
       let q : pass L M o (pass L M o k ps .known) (p ∷ []) ≡ record { out = []; rewritten = 0; lost = 0; known = pass L M o k ps .known } =
@@ -84,8 +86,9 @@ module _ (t : Terms) (y : Machine) where
       let w : s .counts .written ≡ s .counts .written + 0 = omega arith in
       let u : s .counts .rewritten ≡ s .counts .rewritten + 0 = omega arith in
       let v : s .counts .skipped ≡ s .counts .skipped + 0 = omega arith in
-      further L M o k d ps (p ∷ []) n 0 s (withWithheld s) (y .data-set) (y .packages) (y .map-heads) (y .map-room) (y .fragment-heads) (y .bodies) (y .set) (y .out)
+      further L M o k leading d ps (p ∷ []) n 0 s (withWithheld s) (y .data-set) (y .packages) (y .map-heads) (y .map-room) (y .fragment-heads) (y .bodies) (y .set) (y .out)
       (y .data-set) (y .packages) (y .map-heads) (y .map-room) (y .fragment-heads) (y .bodies) (y .set) (y .out) f (rw q (f .holding)) (rw q (f .set-is)) (rw q (f .ready-is)) (rw q l)
+      (sym (plain-leads L (pass L M o k ps .known) p [] (y .set) (s .ready) true (s .extent .leading) h))
       (rw q (λ i. record { bytes = s .counts .bytes; accepted = s .counts .accepted + 1; written = w i; rewritten = u i; skipped = v i; lost = s .counts .lost }))
       (rw q (wrote-none (y .out) (s .counts .bytes)))
 

@@ -15,6 +15,7 @@ use Rattle.meaning.specs.Learn.{Known}
 use Rattle.meaning.specs.Rules.{drops, ready}
 use Rattle.meaning.specs.Record.{State}
 use Rattle.meaning.specs.Calls.{countsOf}
+use Rattle.meaning.specs.Leading.{leadingOver}
 use Rattle.meaning.specs.Push.{Passed, pass, Outcome, outcome, filtered}
 use Rattle.meaning.specs.declared.Limits.{Limits}
 use Rattle.meaning.specs.declared.Options.{Options}
@@ -34,10 +35,10 @@ begun e is = record { extent = e; counts = countsOf 0; ready = is }
 module _ (L : Limits) (M : Modes) (o : Options) (k : Known) (d : Bytes) where
   pub begins : (e : Extent) (is : Bool) (data-set packages map-heads map-room fragment-heads : List ℕ) (bodies : Bytes) (set : Words)
       → Holding (L .total) k e data-set packages map-heads map-room fragment-heads bodies → SetIs (drops o k) set → is ≡ ready (o .service) k → e .lost ≡ 0
-      → Sofar L M o k d [] 0 (begun e is) data-set packages map-heads map-room fragment-heads bodies set d
-  unfolding pass flatten
+      → Sofar L M o k (e .leading) d [] 0 (begun e is) data-set packages map-heads map-room fragment-heads bodies set d
+  unfolding pass flatten leadingOver
   begins e is data-set packages map-heads map-room fragment-heads bodies set h t y l =
-      record { holding = h; set-is = t; ready-is = y; lost-is = l; counts-are = refl; written = wrote-none d 0 }
+      record { holding = h; set-is = t; ready-is = y; lost-is = l; leading-is = refl; counts-are = refl; written = wrote-none d 0 }
 
   -- With its lost maps, the counts of a call that ends.
   abbrev pub ended : Progress → Counts
@@ -51,8 +52,9 @@ module _ (L : Limits) (M : Modes) (o : Options) (k : Known) (d : Bytes) where
   }
 
   -- What a call over held bytes and chunk comes to.
-  pub record Ended (x : Outcome) (p : Progress) (data-set packages map-heads map-room fragment-heads : List ℕ) (bodies out : Bytes) : Type 0 where
+  pub record Ended (x : Outcome) (leading : ℕ) (p : Progress) (data-set packages map-heads map-room fragment-heads : List ℕ) (bodies out : Bytes) : Type 0 where
     pub holding : Holding (L .total) (x .state .known) (p .extent) data-set packages map-heads map-room fragment-heads bodies
+    pub leading-is : p .extent .leading ≡ leading
     pub counts-are : ended p ≡ x .counts
     pub written : Wrote (flatten (x .out)) d 0 out (x .counts .bytes)
 
@@ -67,11 +69,11 @@ module _ (L : Limits) (M : Modes) (o : Options) (k : Known) (d : Bytes) where
     unfolding filtered
     held-same = ap (λ (c : Cut). c .held) (sym cut-same)
 
-    pub ends : (p : Progress) (data-set packages map-heads map-room fragment-heads : List ℕ) (bodies : Bytes) (set : Words) (out : Bytes)
-        → Sofar L M o k d ([] ++ cut limit (drop 0 run) .packets) (0 + cut limit (drop 0 run) .skipped) p data-set packages map-heads map-room fragment-heads bodies set out
-        → Ended (filtered L M o st chunk) p data-set packages map-heads map-room fragment-heads bodies out
+    pub ends : (leading : ℕ) (p : Progress) (data-set packages map-heads map-room fragment-heads : List ℕ) (bodies : Bytes) (set : Words) (out : Bytes)
+        → Sofar L M o k leading d ([] ++ cut limit (drop 0 run) .packets) (0 + cut limit (drop 0 run) .skipped) p data-set packages map-heads map-room fragment-heads bodies set out
+        → Ended (filtered L M o st chunk) (leadingOver L k (cut (packetLimit (L .work)) (held ++ chunk) .packets) leading) p data-set packages map-heads map-room fragment-heads bodies out
     unfolding filtered
-    ends p data-set packages map-heads map-room fragment-heads bodies set out f =
+    ends leading p data-set packages map-heads map-room fragment-heads bodies set out f =
         let c : Cut = cut limit (drop 0 run) in
         let x : Passed = pass L M o k (c .packets) in
         let z : 0 + c .skipped ≡ c .skipped = omega arith in
@@ -85,7 +87,7 @@ module _ (L : Limits) (M : Modes) (o : Options) (k : Known) (d : Bytes) where
           lost = f .lost-is i;
         } in
         let b : p .counts .bytes ≡ length (flatten (x .out)) = ap (λ (w : Counts). w .bytes) (f .counts-are) in
-        rw cut-same (record { holding = f .holding; counts-are = counts; written = subst (λ (n : ℕ). Wrote (flatten (x .out)) d 0 out n) b (f .written) })
+        rw cut-same (record { holding = f .holding; leading-is = f .leading-is; counts-are = counts; written = subst (λ (n : ℕ). Wrote (flatten (x .out)) d 0 out n) b (f .written) })
 
 -- Room for a whole call: it begins with zero counts.
 pub begins-fit : (e : Extent) (is : Bool) (n out-length : ℕ) → e .lost ≡ 0 → n ≤ out-length → n ≤ 131078 → Fits (begun e is) n out-length

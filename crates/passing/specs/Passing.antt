@@ -13,6 +13,7 @@ use Rattle.meaning.specs.Lists.{isSome}
 use Rattle.meaning.specs.Packets.{stepOf, cut}
 use Rattle.meaning.specs.Narrow.{narrowPayload}
 use Rattle.meaning.specs.Learn.{Known}
+use Rattle.meaning.specs.Leading.{leadingOver}
 use Rattle.meaning.specs.Rules.{drops, ready}
 use Rattle.meaning.specs.Push.{Passed, pass}
 use Rattle.meaning.specs.declared.Limits.{Limits}
@@ -85,27 +86,28 @@ abbrev pub countsFor : Passed → ℕ → ℕ → Counts
 countsFor x accepted skipped =
     record { bytes = length (flatten (x .out)); accepted = accepted; written = length (x .out); rewritten = x .rewritten; skipped = skipped; lost = 0 }
 
--- From k, over the packets ps and so many skipped bytes, with d as the output before.
-pub record Sofar (L : Limits) (M : Modes) (o : Options) (k : Known) (d : Bytes) (ps : List Bytes) (skipped : ℕ) (s : Progress) (data-set packages map-heads map-room fragment-heads : List ℕ) (bodies : Bytes) (set : Words) (out : Bytes) : Type 0 where
+-- From k, with so many fragments leading, over the packets ps and so many skipped bytes, with d as the output before.
+pub record Sofar (L : Limits) (M : Modes) (o : Options) (k : Known) (leading : ℕ) (d : Bytes) (ps : List Bytes) (skipped : ℕ) (s : Progress) (data-set packages map-heads map-room fragment-heads : List ℕ) (bodies : Bytes) (set : Words) (out : Bytes) : Type 0 where
   pub holding : Holding (L .total) (pass L M o k ps .known) (s .extent) data-set packages map-heads map-room fragment-heads bodies
   pub set-is : SetIs (drops o (pass L M o k ps .known)) set
   pub ready-is : s .ready ≡ ready (o .service) (pass L M o k ps .known)
   pub lost-is : s .extent .lost ≡ pass L M o k ps .lost
+  pub leading-is : s .extent .leading ≡ leadingOver L k ps leading
   pub counts-are : s .counts ≡ countsFor (pass L M o k ps) (length ps) skipped
   pub written : Wrote (flatten (pass L M o k ps .out)) d 0 out (s .counts .bytes)
 
 abbrev pub SofarSome : Terms → Progress → List ℕ → List ℕ → List ℕ → List ℕ → List ℕ → Bytes → Words → Bytes → Type 0
 SofarSome t s data-set packages map-heads map-room fragment-heads bodies set out =
-    (L : Limits) × (k : Known) × (d : Bytes) × (ps : List Bytes) × (n : ℕ) × (L .most ≡ t .most)
-    × Sofar L (t .modes) (t .options) k d ps n s data-set packages map-heads map-room fragment-heads bodies set out
+    (L : Limits) × (k : Known) × (leading : ℕ) × (d : Bytes) × (ps : List Bytes) × (n : ℕ) × (L .most ≡ t .most)
+    × Sofar L (t .modes) (t .options) k leading d ps n s data-set packages map-heads map-room fragment-heads bodies set out
 
 -- Whatever run it was, it has come further by these packets and skipped bytes.
 abbrev pub SofarAfter : List Bytes → ℕ → Terms → Progress → List ℕ → List ℕ → List ℕ → List ℕ → List ℕ → Bytes → Words → Bytes
     → Progress → List ℕ → List ℕ → List ℕ → List ℕ → List ℕ → Bytes → Words → Bytes → Type 0
 SofarAfter qs m t s data-set packages map-heads map-room fragment-heads bodies set out r data-set′ packages′ map-heads′ map-room′ fragment-heads′ bodies′ set′ out′ =
-    (L : Limits) (k : Known) (d : Bytes) (ps : List Bytes) (n : ℕ) → L .most ≡ t .most
-    → Sofar L (t .modes) (t .options) k d ps n s data-set packages map-heads map-room fragment-heads bodies set out
-    → Sofar L (t .modes) (t .options) k d (ps ++ qs) (n + m) r data-set′ packages′ map-heads′ map-room′ fragment-heads′ bodies′ set′ out′
+    (L : Limits) (k : Known) (leading : ℕ) (d : Bytes) (ps : List Bytes) (n : ℕ) → L .most ≡ t .most
+    → Sofar L (t .modes) (t .options) k leading d ps n s data-set packages map-heads map-room fragment-heads bodies set out
+    → Sofar L (t .modes) (t .options) k leading d (ps ++ qs) (n + m) r data-set′ packages′ map-heads′ map-room′ fragment-heads′ bodies′ set′ out′
 
 -- ---- the steps by number
 

@@ -16,6 +16,7 @@ use Rattle.meaning.specs.Rooms.{goodWorkRoom, goodFragmentRoom, goodMapRoom}
 use Rattle.meaning.specs.Record.{State, Record, recordOf, stateOf}
 use Rattle.meaning.specs.Calls.{Called}
 use Rattle.meaning.specs.Start.{startRefusal, fresh, started}
+use Rattle.meaning.specs.Leading.{leadingPushed}
 use Rattle.meaning.specs.Push.{push, called}
 use Rattle.meaning.specs.Tally.{addCounts, fits64, tallyRefusal, tallied}
 use Rattle.meaning.specs.Series.{Series}
@@ -29,7 +30,7 @@ use Rattle.meaning.specs.declared.Refusal.{Refusal}
 use Rattle.meaning.specs.declared.Refusal.the-variants.{Input}
 use Rattle.meaning.proofs.AnswerLaws.{refused-told, not-zero}
 use Rattle.meaning.proofs.SoundnessLaws.{HoldsState}
-use Rattle.meaning.proofs.SeriesLaws.{joined, alone, fresh-back, called-taken}
+use Rattle.meaning.proofs.SeriesLaws.{own-leading, joined, alone, fresh-back, called-taken}
 use Rattle.meaning.proofs.ProgramLaws.{refusal-by-three, options-by-three, chunks-append, limits-good, calls-hold, call-taken, calls-none, calls-one}
 use Rattle.recorder.specs.declared.Started.{Started}
 use Rattle.recorder.specs.Filter.{recordIn}
@@ -58,7 +59,7 @@ module _ (M : Modes) (o : Options) (w : wantsAssets o ≡ true) (map-room : List
   unfolding started
   start-done = program-start (length map-room) o map-room-long w
 
-  start-handed : started programLimits M o map-room .handed ≡ recordOf programLimits M o (fresh map-room)
+  start-handed : started programLimits M o map-room .handed ≡ recordOf programLimits M o 0 (fresh map-room)
   unfolding started
   start-handed = rw start-done
 
@@ -81,13 +82,13 @@ module _ (M : Modes) (o : Options) (w : wantsAssets o ≡ true) (map-room : List
       → StartedAs (record { work = length work; total = length bodies; most = 65536 }) M o map-room s → Come M o [] (begunAs s) work bodies map-room
   come-start work bodies s l b p =
       let q = subst (λ (L : Limits). StartedAs L M o map-room s) (limits-are (length work) (length bodies) l b) p in
-      let r : recordIn (s .filter) ≡ recordOf programLimits M o (fresh map-room) = q .handed-is ∙ start-handed in
+      let r : recordIn (s .filter) ≡ recordOf programLimits M o 0 (fresh map-room) = q .handed-is ∙ start-handed in
       record {
         wants-assets = w;
         chunks-are = tt;
         answer-is = q .answer-is ∙ start-done ∙ sym none-summed;
         sums-are = λ done. ap (λ (z : Series). z .counts) (sym (calls-none M o));
-        record-is = r ∙ ap (recordOf programLimits M o) (sym fresh-is);
+        record-is = own-leading programLimits M o 0 (programCalls M o [] .state) (recordIn (s .filter)) (r ∙ ap (recordOf programLimits M o 0) (sym fresh-is));
         state-is =
             ap (λ (z : Record). stateOf z work bodies map-room) r
             ∙ fresh-back programLimits M o work bodies map-room total-few (subst (HoldsState programLimits o) fresh-is (calls-hold M o w []))
@@ -117,10 +118,10 @@ unfolding tallied
 tally-fits a b e = rw e
 
 -- The push of a record's limits and options on the state that the rooms hold.
-push-same : (L : Limits) (M : Modes) (o : Options) (st : State) (r : Record) (now : State) (chunk : Bytes) → r ≡ recordOf L M o st → now ≡ st
+push-same : (L : Limits) (M : Modes) (o : Options) (leading : ℕ) (st : State) (r : Record) (now : State) (chunk : Bytes) → r ≡ recordOf L M o leading st → now ≡ st
     → push (r .limits) (r .modes) (r .options) now chunk .state ≡ push L M o st chunk .state
 unfolding recordOf
-push-same L M o st r now chunk e s = λ i. push (e i .limits) (e i .modes) (e i .options) (s i) chunk .state
+push-same L M o leading st r now chunk e s = λ i. push (e i .limits) (e i .modes) (e i .options) (s i) chunk .state
 
 room-long : (programLimits .work ≡ 65536) × (programLimits .total ≡ 65536)
 unfolding programLimits
@@ -132,14 +133,17 @@ module _ (M : Modes) (o : Options) (cs : List Bytes) (x y : Standing) (work bodi
   abbrev st : State
   st = programCalls M o cs .state
 
+  abbrev led : ℕ
+  led = leadingPushed programLimits o st chunk (recordIn (x .filter) .leading)
+
   one : programCalls M o (cs ++ (chunk ∷ [])) ≡ joined (programCalls M o cs) (alone (push programLimits M o st chunk))
   one = calls-one M o (h .wants-assets) cs chunk few
 
   call-is : called (recordIn (x .filter)) work bodies map-room chunk (length out)
-      ≡ record { number = 0; out = push programLimits M o st chunk .out; counts = push programLimits M o st chunk .counts; handed = recordOf programLimits M o (push programLimits M o st chunk .state) }
+      ≡ record { number = 0; out = push programLimits M o st chunk .out; counts = push programLimits M o st chunk .counts; handed = recordOf programLimits M o led (push programLimits M o st chunk .state) }
   call-is =
       ap (λ (n : ℕ). called (recordIn (x .filter)) work bodies map-room chunk n) out-long
-      ∙ called-taken programLimits M o st (limits-good .0) (limits-good .1) (calls-hold M o (h .wants-assets) cs) (recordIn (x .filter)) work bodies map-room (chunk, 65536)
+      ∙ called-taken programLimits M o (recordIn (x .filter) .leading) st (limits-good .0) (limits-good .1) (calls-hold M o (h .wants-assets) cs) (recordIn (x .filter)) work bodies map-room (chunk, 65536)
       (h .record-is) (h .state-is) (h .work-long ∙ sym (room-long .0)) (h .bodies-long ∙ sym (room-long .1)) (h .map-room-long) (call-taken M o (h .wants-assets) cs chunk few)
 
   answered : answerNumber (t .call .answer) ≡ 0
@@ -156,7 +160,7 @@ module _ (M : Modes) (o : Options) (cs : List Bytes) (x y : Standing) (work bodi
   state-then =
       subst (λ (z : Called). RoomsAfter (eqb (z .number) 0) (push (recordIn (x .filter) .limits) (recordIn (x .filter) .modes) (recordIn (x .filter) .options) (stateOf (recordIn (x .filter)) work bodies map-room) chunk .state) (recordIn (t .call .filter)) work bodies map-room work′ bodies′ map-room′)
       call-is (t .pushed .rooms)
-      ∙ push-same programLimits M o st (recordIn (x .filter)) (stateOf (recordIn (x .filter)) work bodies map-room) chunk (h .record-is) (h .state-is)
+      ∙ push-same programLimits M o (recordIn (x .filter) .leading) st (recordIn (x .filter)) (stateOf (recordIn (x .filter)) work bodies map-room) chunk (h .record-is) (h .state-is)
 
   pub come-next : length work′ ≡ length work → length bodies′ ≡ length bodies → length map-room′ ≡ length map-room → Come M o (cs ++ (chunk ∷ [])) y work′ bodies′ map-room′
   come-next w b m = record {
@@ -168,7 +172,7 @@ module _ (M : Modes) (o : Options) (cs : List Bytes) (x y : Standing) (work bodi
         ∙ (λ i. tallied (h .sums-are done i) (counted i))
         ∙ tally-fits _ _ (sym told ∙ e)
         ∙ ap (λ (z : Series). z .counts) (sym one);
-    record-is = ap recordIn (t .filter-is) ∙ t .pushed .handed-is ∙ ap (λ (z : Called). z .handed) call-is ∙ ap (λ (z : Series). recordOf programLimits M o (z .state)) (sym one);
+    record-is = own-leading programLimits M o led (programCalls M o (cs ++ (chunk ∷ [])) .state) (recordIn (y .filter)) (ap recordIn (t .filter-is) ∙ t .pushed .handed-is ∙ ap (λ (z : Called). z .handed) call-is ∙ ap (λ (z : Series). recordOf programLimits M o led (z .state)) (sym one));
     state-is = ap (λ f. stateOf (recordIn f) work′ bodies′ map-room′) (t .filter-is) ∙ state-then ∙ ap (λ (z : Series). z .state) (sym one);
     work-long = w ∙ h .work-long;
     bodies-long = b ∙ h .bodies-long;
@@ -233,9 +237,9 @@ refused-empty : inputRefusal [] ≡ numberOf Input
 unfolding inputRefusal inputRefused numberOf
 refused-empty = refl
 
-held-by : (M : Modes) (o : Options) (st : State) (x : Standing) → recordIn (x .filter) ≡ recordOf programLimits M o st → x .filter .«held_count» ≡ length (st .held)
+held-by : (M : Modes) (o : Options) (leading : ℕ) (st : State) (x : Standing) → recordIn (x .filter) ≡ recordOf programLimits M o leading st → x .filter .«held_count» ≡ length (st .held)
 unfolding recordIn recordOf
-held-by M o st x e = ap (λ (r : Record). r .held-count) e
+held-by M o leading st x e = ap (λ (r : Record). r .held-count) e
 
 module _ (head : Bytes) {work bodies : Bytes} {map-room : List ℕ} where
   ran-unasked : (failed : Bool) (r : Refusal) → inputRefusal head ≡ numberOf r → length head ≤ 3 → Ran head [] work bodies map-room (unaskedAs failed r) work bodies map-room
@@ -246,7 +250,7 @@ module _ (head : Bytes) {work bodies : Bytes} {map-room : List ℕ} where
     answer-is = rw (e, refused-told r);
     sums-are = λ z. not-zero r z;
     held-is = λ z. not-zero r z;
-    rooms = rw (e, refused-told r) (refl, refl, refl);
+    rooms = (0, rw (e, refused-told r) (refl, refl, refl));
   }
 
   ran-stream : {cs : List Bytes} {x : Standing} {work′ bodies′ : Bytes} {map-room′ : List ℕ} → inputRefusal head ≡ 0 → length head ≤ 3
@@ -257,8 +261,8 @@ module _ (head : Bytes) {work bodies : Bytes} {map-room : List ℕ} where
     chunks-are = h .chunks-are;
     answer-is = rw e (h .answer-is);
     sums-are = h .sums-are;
-    held-is = λ z. held-by allOff (inputOptions head) (programCalls allOff (inputOptions head) cs .state) x (h .record-is);
-    rooms = rw e (ap (λ (r : Record). stateOf r work′ bodies′ map-room′) (sym (h .record-is)) ∙ h .state-is);
+    held-is = λ z. held-by allOff (inputOptions head) (recordIn (x .filter) .leading) (programCalls allOff (inputOptions head) cs .state) x (h .record-is);
+    rooms = (recordIn (x .filter) .leading, rw e (ap (λ (r : Record). stateOf r work′ bodies′ map-room′) (sym (h .record-is)) ∙ h .state-is));
   }
 
 -- By what was read of a head.

@@ -81,7 +81,7 @@ pub record Come (M : Modes) (o : Options) (cs : List Bytes) (x : Standing) (work
   pub chunks-are : Chunks cs
   pub answer-is : answerNumber (x .answer) ≡ sumsRefusal (programCalls M o cs .counts)
   pub sums-are : answerNumber (x .answer) ≡ 0 → x .sums ≡ programCalls M o cs .counts
-  pub record-is : recordIn (x .filter) ≡ recordOf programLimits M o (programCalls M o cs .state)
+  pub record-is : recordIn (x .filter) ≡ recordOf programLimits M o (recordIn (x .filter) .leading) (programCalls M o cs .state)
   pub state-is : stateOf (recordIn (x .filter)) work bodies map-room ≡ programCalls M o cs .state
   pub work-long : length work ≡ 65536
   pub bodies-long : length bodies ≡ 65536
@@ -121,12 +121,14 @@ unfoldable pub runRefusal : Bytes → List Bytes → ℕ
 unfolding inputRefusal inputOptions programCalls sumsRefusal
 runRefusal head cs = firstOf (inputRefusal head) (sumsRefusal (programCalls allOff (inputOptions head) cs .counts))
 
--- The rooms after such an input: refused, they are as they were; else they and the state's record hold the state that its calls came to.
+-- The rooms after such an input: refused, they are as they were; else they and the state's record, with some number of fragments leading,
+-- hold the state that its calls came to.
 abbrev pub RoomsLeft : Bytes → List Bytes → Bytes → Bytes → List ℕ → Bytes → Bytes → List ℕ → Type 0
 RoomsLeft head cs =
     let o = inputOptions head in
     let st = programCalls allOff o cs .state in
-    RoomsAfter (eqb (inputRefusal head) 0) st (recordOf programLimits allOff o st)
+    λ work bodies map-room work′ bodies′ map-room′.
+    (leading : ℕ) × RoomsAfter (eqb (inputRefusal head) 0) st (recordOf programLimits allOff o leading st) work bodies map-room work′ bodies′ map-room′
 
 pub record Ran (head : Bytes) (cs : List Bytes) (work bodies : Bytes) (map-room : List ℕ) (e : Ending) (work′ bodies′ : Bytes) (map-room′ : List ℕ) : Type 0 where
   pub head-short : length head ≤ 3

@@ -17,6 +17,7 @@ use Rattle.meaning.specs.Refusals.{numberOf, answerNumber}
 use Rattle.meaning.specs.Record.{Record, recordOf, stateOf}
 use Rattle.meaning.specs.Soundness.{sound, soundRefusal}
 use Rattle.meaning.specs.Calls.{countsOf}
+use Rattle.meaning.specs.Leading.{leadingPushed}
 use Rattle.meaning.specs.Push.{Outcome, push, pushRefusal, lengthRefusal, called}
 use Rattle.meaning.specs.Dropped.{droppedNow}
 use Rattle.meaning.specs.declared.Limits.{Limits}
@@ -97,7 +98,7 @@ module _ (f : Filter) (work bodies : Bytes) (map-room : List ℕ) (chunk out : B
     held-count : Holding (f .total) (stateOf r work bodies map-room .known) (extentOf f) (f .«data_set») (cleared (f .«package_count») (f .packages)) (cleared (f .«map_count») (f .«map_heads»)) map-room
         (cleared (f .«fragment_count») (f .«fragment_heads»)) bodies
     unfolding recordIn
-    held-count = state-held r work bodies map-room (extentOf f) (when-done .is-sound) all (record { seen-is = refl; packages-are = refl; map-heads-are = refl; fragments-are = refl })
+    held-count = state-held r work bodies map-room (extentOf f) (when-done .is-sound) all (record { seen-is = refl; packages-are = refl; map-heads-are = refl; fragments-are = refl; leading-is = refl })
 
     pub may-carry-out : RoomFor (extentOf f) (f .«held_count») chunk work out × (copiesAll (f .options) ≡ true → f .«held_count» ≡ 0)
         × HoldingSome (extentOf f) (f .«data_set») (cleared (f .«package_count») (f .packages)) (cleared (f .«map_count») (f .«map_heads»)) map-room (cleared (f .«fragment_count») (f .«fragment_heads»)) bodies
@@ -123,12 +124,15 @@ module _ (f : Filter) (work bodies : Bytes) (map-room : List ℕ) (chunk out : B
     abbrev after : Outcome
     after = push L (f .modes) (f .options) (stateOf r work bodies map-room) chunk
 
-    called-done : called r work bodies map-room chunk (length out) ≡ record { number = 0; out = after .out; counts = after .counts; handed = recordOf L (f .modes) (f .options) (after .state) }
+    abbrev led : ℕ
+    led = leadingPushed L (f .options) (stateOf r work bodies map-room) chunk (f .leading)
+
+    called-done : called r work bodies map-room chunk (length out) ≡ record { number = 0; out = after .out; counts = after .counts; handed = recordOf L (f .modes) (f .options) led (after .state) }
     unfolding called recordIn
     called-done = rw (sym (ap (λ (n : ℕ). eqb n 0) number-is) ∙ e)
 
     module _ (x : CarriedOut) (data-set packages map-heads map-room′ fragment-heads : List ℕ) (bodies′ work′ out′ : Bytes) where
-      ran-then : CarriedOutAs L after out x data-set packages map-heads map-room′ fragment-heads bodies′ work′ out′ → length work′ ≡ length work
+      ran-then : CarriedOutAs L after led out x data-set packages map-heads map-room′ fragment-heads bodies′ work′ out′ → length work′ ≡ length work
           → PushedAs r work bodies map-room chunk out (record { answer = a; counts = x .counts; filter = handedOf (begunOf f) x data-set packages map-heads fragment-heads }) work′ bodies′ map-room′ out′
       unfolding recordIn
       ran-then h long =
@@ -137,7 +141,7 @@ module _ (f : Filter) (work bodies : Bytes) (map-room : List ℕ) (chunk out : B
           let p = record-parts r (length work) (length bodies) (length map-room) s in
           let M = f .modes in
           let o = f .options in
-          let same : recordIn (handedOf (begunOf f) x data-set packages map-heads fragment-heads) ≡ recordOf L M o (after .state) = record-back L M o (after .state) (h .holding) (x .«held_count») (h .held-is) in
+          let same : recordIn (handedOf (begunOf f) x data-set packages map-heads fragment-heads) ≡ recordOf L M o led (after .state) = record-back L M o led (after .state) (h .holding) (x .«held_count») (h .held-is) (h .leading-is) in
           let four : 4 ≤ packetLimit (L .work) = subst (λ (n : ℕ). 4 ≤ packetLimit n) (sym (p .work-is)) (good-limit (length work) (p .work-good)) in
           let holds : HoldsState L o (after .state) = push-holds L M o (stateOf r work bodies map-room) chunk four (state-holds r work bodies map-room s) in
           let front : take (length (after .state .held)) work′ ≡ after .state .held = ap (λ (n : ℕ). take n work′) (sym (h .held-is)) ∙ h .held-bytes in
@@ -146,12 +150,12 @@ module _ (f : Filter) (work bodies : Bytes) (map-room : List ℕ) (chunk out : B
             counts-are = rw c (h .counts-are);
             handed-is = rw c same;
             written = rw (c, h .counts-are) (h .written);
-            rooms = rw (c, same) (state-again L M o (after .state) (h .holding) work′ holds front);
+            rooms = rw (c, same) (state-again L M o led (after .state) (h .holding) work′ holds (h .leading-is) front);
             work-length = long;
             bodies-length = h .holding .fragments-kept .total ∙ p .total-is;
           }
 
-      pub done-as : CarriesOut (λ L st. push L (f .modes) (f .options) st chunk) (f .most) (f .«held_count») (extentOf f) (f .«data_set») (cleared (f .«package_count») (f .packages)) (cleared (f .«map_count») (f .«map_heads»)) map-room
+      pub done-as : CarriesOut (λ L st. push L (f .modes) (f .options) st chunk) (λ L st. leadingPushed L (f .options) st chunk) (f .most) (f .«held_count») (extentOf f) (f .«data_set») (cleared (f .«package_count») (f .packages)) (cleared (f .«map_count») (f .«map_heads»)) map-room
           (cleared (f .«fragment_count») (f .«fragment_heads»)) bodies work out x data-set packages map-heads map-room′ fragment-heads bodies′ work′ out′ → length work′ ≡ length work
           → PushedAs r work bodies map-room chunk out (record { answer = a; counts = x .counts; filter = handedOf (begunOf f) x data-set packages map-heads fragment-heads }) work′ bodies′ map-room′ out′
       unfolding recordIn stateOf

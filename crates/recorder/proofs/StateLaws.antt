@@ -2,27 +2,26 @@
 -- to the state. Rests on SoundnessLaws of `meaning`, on Kept and Observed of `learning` and on PartLaws of `soundness`.
 use Prim.Native.Nat.{ℕ, _+_, _-_, _≤_}
 use mathlib.Core.Path.{_≡_, refl, sym, ap, ap₂, _∙_, subst}
-use mathlib.Core.Bool.{Bool, true, false, _&&_}
-use mathlib.Core.List.{List, [], _∷_, _++_, map, flatten}
+use mathlib.Core.Bool.{Bool, true, _&&_}
+use mathlib.Core.List.{List, [], _∷_, _++_, map}
 use native.Mathlib.Omega.{arith}
-use lib.ListN.{length, take, drop, replicate, length-map, length-drop, take-append-drop}
-use lib.Seq.{length-take-le, take-add}
+use lib.ListN.{length, take, drop, replicate, take-append-drop}
+use lib.Seq.{length-take-le}
 use lib.Dec.{leb}
 use borrow.Author.Tests.{leb-true}
 use Rattle.meaning.specs.Bytes.{Bytes}
-use Rattle.meaning.specs.Lists.{all, sum}
-use Rattle.meaning.specs.Learn.{fragmentBytes}
-use Rattle.meaning.specs.Record.{State, slots, Record, packPair, pairOf, fragmentHead, fragmentIdentifier, fragmentFlags, fragmentLength, recordOf, fragmentsIn, stateOf, bodiesOf}
+use Rattle.meaning.specs.Lists.{all}
+use Rattle.meaning.specs.Record.{State, slots, Record, packPair, pairOf, fragmentHead, fragmentIdentifier, recordOf, roomOf, lens, fragmentsIn, stateOf}
 use Rattle.meaning.specs.Soundness.{rising, distinct, soundPackages, soundMaps, soundFragments, sound, HoldsPackages, HoldsMaps, HoldsFragments}
 use Rattle.meaning.specs.declared.Limits.{Limits}
 use Rattle.meaning.specs.declared.Options.{Options}
 use Rattle.meaning.specs.declared.Modes.{Modes}
 use Rattle.meaning.proofs.ListLaws.{and-both}
+use Rattle.meaning.proofs.LayoutLaws.{length-in, heads-in, freeIn, room-in}
 use Rattle.meaning.proofs.SoundnessLaws.{HoldsState, state-holds, state-back}
 use Rattle.fragments.specs.Fragments.{KeptFragments}
 use Rattle.learning.specs.News.{noNews}
 use Rattle.learning.specs.Kept.{pairsIn, Pairs, KeptPackages, KeptMaps}
-use Rattle.fragments.specs.Fragments.{lens}
 use Rattle.observing.specs.Observed.{Holding}
 use Rattle.learning.specs.declared.Extent.{Extent}
 use Rattle.learning.proofs.PairLaws.{in-length}
@@ -72,48 +71,21 @@ module _ (n : ℕ) (xs : List ℕ) where
 
 -- ---- fragments: the heads' lengths are within the room
 
--- A head again of what it tells.
-head-again : (h : ℕ) (body : Bytes) → length body ≡ fragmentLength h → fragmentHead (record { identifier = fragmentIdentifier h; flags = fragmentFlags h; body = body }) ≡ h
-unfolding fragmentHead fragmentIdentifier fragmentFlags fragmentLength
-head-again h body e = omega arith
-
-bodies-in : (hs : List ℕ) (bodies : Bytes) → bodiesOf (fragmentsIn hs bodies) ≡ take (lens hs) bodies
-unfolding fragmentsIn bodiesOf flatten lens sum
-bodies-in [] bodies = refl
-bodies-in (h ∷ hs) bodies =
-    ap (λ (s : Bytes). take (fragmentLength h) bodies ++ s) (bodies-in hs (drop (fragmentLength h) bodies)) ∙ sym (take-add (fragmentLength h) (lens hs) bodies)
-
--- The heads of the fragments that heads tell are these, and their bytes are so many.
-record Again (hs : List ℕ) (bodies : Bytes) : Type 0 where
-  pub fragment-heads-are : map fragmentHead (fragmentsIn hs bodies) ≡ hs
-  pub bytes-are : fragmentBytes (fragmentsIn hs bodies) ≡ lens hs
-
-fragment-heads-again : (hs : List ℕ) (bodies : Bytes) → lens hs ≤ length bodies → Again hs bodies
-unfolding fragmentsIn fragmentBytes lens sum
-fragment-heads-again [] bodies w = record { fragment-heads-are = refl; bytes-are = refl }
-fragment-heads-again (h ∷ hs) bodies w =
-    let n = fragmentLength h in
-    let d : length (drop n bodies) ≡ length bodies - n = length-drop n bodies in
-    let l : length (take n bodies) ≡ n = length-take-le n bodies (omega arith) in
-    let r = fragment-heads-again hs (drop n bodies) (omega arith) in
-    record {
-      fragment-heads-are = ap₂ (λ (x : ℕ) (ys : List ℕ). x ∷ ys) (head-again h (take n bodies) l) (r .fragment-heads-are);
-      bytes-are = ap₂ (λ (x y : ℕ). x + y) l (r .bytes-are);
-    }
-
-pub fragments-kept : (T n : ℕ) (hs : List ℕ) (bodies : Bytes) → soundFragments T n hs ≡ true → length hs ≡ 256 → length bodies ≡ T → T ≤ 16777216
-    → HoldsFragments T (fragmentsIn (take n hs) bodies) → KeptFragments T (fragmentsIn (take n hs) bodies) n (cleared n hs) bodies
+pub fragments-kept : (T n leading : ℕ) (hs : List ℕ) (bodies : Bytes) → soundFragments T n hs ≡ true → length hs ≡ 256 → length bodies ≡ T → T ≤ 16777216
+    → HoldsFragments T (fragmentsIn leading (take n hs) bodies) → KeptFragments T (fragmentsIn leading (take n hs) bodies) n leading (cleared n hs) bodies
 unfolding soundFragments lens
-fragments-kept T n hs bodies e l t few h =
-    let fs = fragmentsIn (take n hs) bodies in
+fragments-kept T n leading hs bodies e l t few h =
     let apart = and-both (leb n 256 && distinct (map fragmentIdentifier (take n hs))) (leb (lens (take n hs)) T) e in
     let m : n ≤ 256 = leb-true n 256 (and-both (leb n 256) (distinct (map fragmentIdentifier (take n hs))) (apart .0) .0) in
     let w : lens (take n hs) ≤ T = leb-true (lens (take n hs)) T (apart .1) in
-    let g = fragment-heads-again (take n hs) bodies (omega arith) in
+    let within : lens (take n hs) ≤ length bodies = omega arith in
     record {
-      count = sym (sym (length-map fs fragmentHead) ∙ ap length (g .fragment-heads-are) ∙ length-take-le n hs (omega arith));
-      are = slots-kept 256 n hs l m (map fragmentHead fs) (g .fragment-heads-are);
-      front = ap (λ (k : ℕ). take k bodies) (g .bytes-are) ∙ sym (bodies-in (take n hs) bodies);
+      heads = record {
+        count = sym (length-in leading (take n hs) bodies ∙ length-take-le n hs (omega arith));
+        are = slots-kept 256 n hs l m (map fragmentHead (fragmentsIn leading (take n hs) bodies)) (heads-in leading (take n hs) bodies within);
+      };
+      free = freeIn leading (take n hs) bodies within;
+      room-is = room-in leading (take n hs) bodies within;
       total = t;
       total-few = few;
       hold = h;
@@ -123,7 +95,7 @@ fragments-kept T n hs bodies e l t few h =
 
 -- The extent of a record between two calls.
 abbrev pub extentIn : Record → Extent
-extentIn r = record { seen = r .plt-seen; «package_count» = r .package-count; «map_count» = r .map-count; «fragment_count» = r .fragment-count; lost = 0; news = noNews }
+extentIn r = record { seen = r .plt-seen; «package_count» = r .package-count; «map_count» = r .map-count; «fragment_count» = r .fragment-count; leading = r .leading; lost = 0; news = noNews }
 
 pub record-parts : (r : Record) (W T M : ℕ) → sound r W T M ≡ true
     → SoundParts (r .limits) (r .options) (r .held-count) (extentIn r) (r .packages) (r .map-heads) (r .fragment-heads) W T M
@@ -145,6 +117,7 @@ pub record Extends (r : Record) (e : Extent) : Type 0 where
   pub packages-are : e .«package_count» ≡ r .package-count
   pub map-heads-are : e .«map_count» ≡ r .map-count
   pub fragments-are : e .«fragment_count» ≡ r .fragment-count
+  pub leading-is : e .leading ≡ r .leading
 
 pub state-held : (r : Record) (work bodies : Bytes) (map-room : List ℕ) (e : Extent) → sound r (length work) (length bodies) (length map-room) ≡ true → Whole r → Extends r e
     → Holding (r .limits .total) (stateOf r work bodies map-room .known) e (r .data-set) (cleared (r .package-count) (r .packages)) (cleared (r .map-count) (r .map-heads)) map-room
@@ -168,8 +141,8 @@ state-held r work bodies map-room e s w n =
         map-room-is = refl;
         map-room-all = p .map-room-good;
       };
-      fragments-kept = subst (λ (m : ℕ). KeptFragments T (fragmentsIn (take (r .fragment-count) (r .fragment-heads)) bodies) m (cleared (r .fragment-count) (r .fragment-heads)) bodies) (sym (n .fragments-are))
-          (fragments-kept T (r .fragment-count) (r .fragment-heads) bodies f (w .fragments-all) t (omega (arith, p .total-few, p .total-is)) (h .fragments-hold));
+      fragments-kept = rw (n .fragments-are, n .leading-is)
+          (fragments-kept T (r .fragment-count) (r .leading) (r .fragment-heads) bodies f (w .fragments-all) t (omega (arith, p .total-few, p .total-is)) (h .fragments-hold));
     }
 
 -- ---- the record of arrays that hold a state
@@ -185,21 +158,18 @@ recordWith L M o held-count e data-set packages map-heads fragment-heads = recor
   package-count = e .«package_count»;
   map-count = e .«map_count»;
   fragment-count = e .«fragment_count»;
+  leading = e .leading;
   data-set = data-set;
   packages = packages;
   map-heads = map-heads;
   fragment-heads = fragment-heads;
 }
 
--- a list by its front
-by-front : (n : ℕ) (xs ys : List ℕ) → take n xs ≡ ys → xs ≡ ys ++ drop n xs
-by-front n xs ys e = sym (take-append-drop n xs) ∙ ap (λ (zs : List ℕ). zs ++ drop n xs) e
-
-module _ (L : Limits) (M : Modes) (o : Options) (st : State) {e : Extent} {data-set packages map-heads map-room fragment-heads : List ℕ} {bodies : Bytes}
+module _ (L : Limits) (M : Modes) (o : Options) (leading : ℕ) (st : State) {e : Extent} {data-set packages map-heads map-room fragment-heads : List ℕ} {bodies : Bytes}
     (k : Holding (L .total) (st .known) e data-set packages map-heads map-room fragment-heads bodies) where
-  pub record-back : (n : ℕ) → n ≡ length (st .held) → recordWith L M o n e data-set packages map-heads fragment-heads ≡ recordOf L M o st
+  pub record-back : (n : ℕ) → n ≡ length (st .held) → e .leading ≡ leading → recordWith L M o n e data-set packages map-heads fragment-heads ≡ recordOf L M o leading st
   unfolding recordOf
-  record-back n h =
+  record-back n h l =
       let t = k .tables-kept in
       let f = k .fragments-kept in
       λ i. record {
@@ -210,21 +180,21 @@ module _ (L : Limits) (M : Modes) (o : Options) (st : State) {e : Extent} {data-
         plt-seen = t .seen i;
         package-count = t .packages-kept .pairs .count i;
         map-count = t .maps-kept .pairs .count i;
-        fragment-count = f .count i;
+        fragment-count = f .heads .count i;
+        leading = l i;
         data-set = t .data-set-is i;
         packages = t .packages-kept .pairs .are i;
         map-heads = t .maps-kept .pairs .are i;
-        fragment-heads = f .are i;
+        fragment-heads = f .heads .are i;
       }
 
   -- with a work room that begins with the held bytes, the record's state is this one
-  pub state-again : (work : Bytes) → HoldsState L o st → take (length (st .held)) work ≡ st .held → stateOf (recordOf L M o st) work bodies map-room ≡ st
-  state-again work h w =
+  pub state-again : (work : Bytes) → HoldsState L o st → e .leading ≡ leading → take (length (st .held)) work ≡ st .held → stateOf (recordOf L M o leading st) work bodies map-room ≡ st
+  state-again work h l w =
       let fs = st .known .fragments in
       let n = length (st .held) in
-      let m = fragmentBytes fs in
-      let at-work : work ≡ st .held ++ drop n work = by-front n work (st .held) w in
-      let at-bytes : bodies ≡ bodiesOf fs ++ drop m bodies = by-front m bodies (bodiesOf fs) (k .fragments-kept .front) in
-      let same : stateOf (recordOf L M o st) work bodies map-room ≡ stateOf (recordOf L M o st) (st .held ++ drop n work) (bodiesOf fs ++ drop m bodies) (st .known .map-room) =
-      λ i. stateOf (recordOf L M o st) (at-work i) (at-bytes i) (k .tables-kept .map-room-is i) in
-      same ∙ state-back L M o st (k .fragments-kept .total-few) h (drop n work) (drop m bodies)
+      let at-work : work ≡ st .held ++ drop n work = sym (take-append-drop n work) ∙ ap (λ (z : Bytes). z ++ drop n work) w in
+      let at-bytes : bodies ≡ roomOf leading fs (k .fragments-kept .free) = k .fragments-kept .room-is ∙ ap (λ (i : ℕ). roomOf i fs (k .fragments-kept .free)) l in
+      let same : stateOf (recordOf L M o leading st) work bodies map-room ≡ stateOf (recordOf L M o leading st) (st .held ++ drop n work) (roomOf leading fs (k .fragments-kept .free)) (st .known .map-room) =
+      λ i. stateOf (recordOf L M o leading st) (at-work i) (at-bytes i) (k .tables-kept .map-room-is i) in
+      same ∙ state-back L M o leading st (k .fragments-kept .total-few) h (drop n work) (k .fragments-kept .free)

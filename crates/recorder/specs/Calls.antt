@@ -34,20 +34,22 @@ pub record RoomFor (e : Extent) (held-count : ℕ) (chunk work out : Bytes) : Ty
   pub out-room : held-count + length chunk ≤ length out
   pub work-few : length work ≤ 131078
 
--- The arrays and rooms hold the state after a push, and the output has what it wrote.
-pub record CarriedOutAs (L : Limits) (x : Outcome) (out : Bytes) (r : CarriedOut) (data-set packages map-heads map-room fragment-heads : List ℕ) (bodies work out′ : Bytes) : Type 0 where
+-- The arrays and rooms hold the state after a push, with so many fragments leading, and the output has what it wrote.
+pub record CarriedOutAs (L : Limits) (x : Outcome) (leading : ℕ) (out : Bytes) (r : CarriedOut) (data-set packages map-heads map-room fragment-heads : List ℕ) (bodies work out′ : Bytes) : Type 0 where
   pub holding : Holding (L .total) (x .state .known) (r .extent) data-set packages map-heads map-room fragment-heads bodies
+  pub leading-is : r .extent .leading ≡ leading
   pub held-is : r .«held_count» ≡ length (x .state .held)
   pub held-bytes : take (r .«held_count») work ≡ x .state .held
   pub counts-are : r .counts ≡ x .counts
   pub written : Wrote (flatten (x .out)) out 0 out′ (x .counts .bytes)
 
 -- Whatever state the arrays hold: a call on it with the bytes at the front of the work room.
-abbrev pub CarriesOut : (Limits → State → Outcome) → ℕ → ℕ → Extent → List ℕ → List ℕ → List ℕ → List ℕ → List ℕ → Bytes → Bytes → Bytes
+abbrev pub CarriesOut : (Limits → State → Outcome) → (Limits → State → ℕ → ℕ) → ℕ → ℕ → Extent → List ℕ → List ℕ → List ℕ → List ℕ → List ℕ → Bytes → Bytes → Bytes
     → CarriedOut → List ℕ → List ℕ → List ℕ → List ℕ → List ℕ → Bytes → Bytes → Bytes → Type 0
-CarriesOut call most held-count e data-set packages map-heads map-room fragment-heads bodies work out r data-set′ packages′ map-heads′ map-room′ fragment-heads′ bodies′ work′ out′ =
+CarriesOut call lead most held-count e data-set packages map-heads map-room fragment-heads bodies work out r data-set′ packages′ map-heads′ map-room′ fragment-heads′ bodies′ work′ out′ =
     (L : Limits) (k : Known) → L .most ≡ most → L .work ≡ length work → Holding (L .total) k e data-set packages map-heads map-room fragment-heads bodies
-    → CarriedOutAs L (call L (record { held = take held-count work; known = k })) out r data-set′ packages′ map-heads′ map-room′ fragment-heads′ bodies′ work′ out′
+    → let st : State = record { held = take held-count work; known = k } in
+    CarriedOutAs L (call L st) (lead L st (e .leading)) out r data-set′ packages′ map-heads′ map-room′ fragment-heads′ bodies′ work′ out′
 
 -- ---- a push
 

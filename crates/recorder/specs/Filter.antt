@@ -24,6 +24,7 @@ recordIn f = record {
   package-count = f .«package_count»;
   map-count = f .«map_count»;
   fragment-count = f .«fragment_count»;
+  leading = f .leading;
   data-set = f .«data_set»;
   packages = f .packages;
   map-heads = f .«map_heads»;
@@ -41,6 +42,7 @@ freshRecord L M o = record {
   package-count = 0;
   map-count = 0;
   fragment-count = 0;
+  leading = 0;
   data-set = replicate 1024 0;
   packages = replicate 255 0;
   map-heads = replicate 64 0;
@@ -51,7 +53,7 @@ freshRecord L M o = record {
 
 -- How much is known as a call begins.
 abbrev pub extentOf : Filter → Extent
-extentOf f = record { seen = f .seen; «package_count» = f .«package_count»; «map_count» = f .«map_count»; «fragment_count» = f .«fragment_count»; lost = 0; news = noNews }
+extentOf f = record { seen = f .seen; «package_count» = f .«package_count»; «map_count» = f .«map_count»; «fragment_count» = f .«fragment_count»; leading = f .leading; lost = 0; news = noNews }
 
 abbrev pub begunOf : Filter → Begun
 begunOf f = record { limits = limitsOf (f .work) (f .total) (f .most); modes = f .modes; options = f .options; «held_count» = f .«held_count»; extent = extentOf f }
@@ -69,6 +71,7 @@ handedOf b x data-set packages map-heads fragment-heads = record {
   «package_count» = x .extent .«package_count»;
   «map_count» = x .extent .«map_count»;
   «fragment_count» = x .extent .«fragment_count»;
+  leading = x .extent .leading;
   «data_set» = data-set;
   packages = packages;
   «map_heads» = map-heads;

@@ -51,7 +51,7 @@ pub record DecidedAs (o : Options) (e : Extent) (data-set packages map-heads map
 pub record PartsPassed (first second : Bytes) (t : Terms) (e : Extent) (data-set packages map-heads map-room fragment-heads : List ℕ) (bodies out : Bytes)
     (r : InParts) (data-set′ packages′ map-heads′ map-room′ fragment-heads′ : List ℕ) (bodies′ out′ : Bytes) : Type 0 where
   pub passed : (L : Limits) (k : Known) → L .most ≡ t .most → Holding (L .total) k e data-set packages map-heads map-room fragment-heads bodies
-      → (set : Words) × Sofar L (t .modes) (t .options) k out (joined (cut (t .limit) first) (cut (t .limit) second) .packets) (joined (cut (t .limit) first) (cut (t .limit) second) .skipped)
+      → (set : Words) × Sofar L (t .modes) (t .options) k (e .leading) out (joined (cut (t .limit) first) (cut (t .limit) second) .packets) (joined (cut (t .limit) first) (cut (t .limit) second) .skipped)
       (r .progress) data-set′ packages′ map-heads′ map-room′ fragment-heads′ bodies′ set out′
   pub first-left : drop (r .«first_at») first ≡ cut (t .limit) first .held
   pub first-inside : r .«first_at» ≤ length first

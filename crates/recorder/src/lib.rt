@@ -56,6 +56,8 @@ pub struct Filter {
     pub package_count: usize,
     pub map_count: usize,
     pub fragment_count: usize,
+    // How many fragments lead: their bodies stand at the front of the fragment room, the others' at its end. Every number has a sense.
+    pub leading: usize,
     // The set of data-carousel identifiers, one bit each.
     pub data_set: [u64; 1024],
     // service * 65,536 + identifier
@@ -87,6 +89,7 @@ fn fresh(work: usize, total: usize, most: usize, options: Options, modes: Modes)
         package_count: 0,
         map_count: 0,
         fragment_count: 0,
+        leading: 0,
         data_set: [0u64; 1024],
         packages: [0u32; 255],
         map_heads: [0u32; 64],
@@ -174,6 +177,7 @@ fn extent_of(f: Filter) -> Extent
         package_count: f.package_count,
         map_count: f.map_count,
         fragment_count: f.fragment_count,
+        leading: f.leading,
         lost: 0,
         news: no_news(),
     }
@@ -247,6 +251,7 @@ fn handed(
         package_count: e.package_count,
         map_count: e.map_count,
         fragment_count: e.fragment_count,
+        leading: e.leading,
         data_set,
         packages,
         map_heads,

@@ -185,7 +185,10 @@ fn same_counts(f: Filter, g: Filter) -> bool {
     if f.map_count != g.map_count {
         return false;
     }
-    f.fragment_count == g.fragment_count
+    if f.fragment_count != g.fragment_count {
+        return false;
+    }
+    f.leading == g.leading
 }
 
 fn same_record(f: Filter, g: Filter) -> bool {

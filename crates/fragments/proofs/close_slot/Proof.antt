@@ -1,5 +1,5 @@
 use Rattle.meaning.proofs.Writes.{wrote-none, move-turn}
-use Rattle.fragments.proofs.RoomLaws.{close-done}
+use Rattle.fragments.proofs.BlockLaws.{close-done}
 use Rattle.meaning.specs.Writing.{Wrote}
 use lib.ListN.{length, take, drop, length-set}
 use Prim.Native.Nat.{_+_, _-_, _≤_}

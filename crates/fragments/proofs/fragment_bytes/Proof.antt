@@ -1,6 +1,6 @@
 use borrow.Author.Needs.{needs}
 use Rattle.fragments.proofs.FragmentLaws.{lens-turn}
-use Rattle.fragments.specs.Fragments.{lens}
+use Rattle.meaning.specs.Record.{lens}
 use lib.ListN.{take}
 use Prim.Native.Nat.{ℕ, _-_, _*_, _≤_}
 use mathlib.Core.Path.{_≡_, refl, ap, _∙_}

@@ -1,40 +1,38 @@
-use Rattle.fragments.proofs.RoomLaws.{lengthened}
-use Rattle.fragments.proofs.FragmentLaws.{lens-turn, lens-less}
-use lib.ListN.{length, set}
-use mathlib.Core.Path.{_≡_, ap, _∙_}
-use Prim.Native.Nat.{ℕ, _+_}
 use native.Mathlib.Omega.{arith}
+use Prim.Native.Nat.{ℕ, _+_}
+use mathlib.Core.Path.{ap}
+use lib.ListN.{length, set}
+use Rattle.fragments.proofs.FragmentLaws.{lens-turn, lens-less}
+use Rattle.fragments.proofs.GrowLaws.{free-numbers, lengthened}
 use borrow.Author.Needs.{needs}
 use Rattle.fragments.proofs.lengthen.Statement.{statement}
 use Rattle.fragments.proofs.lengthen.Tie as tie
 
-add-fragment-bytes : tie.Need-add-fragment-bytes
-add-fragment-bytes c = search needs
-
 fragment-bytes-requires : tie.Need-fragment-bytes-requires
 fragment-bytes-requires c κs = search needs
+
+add-fragment-bytes : tie.Need-add-fragment-bytes
+add-fragment-bytes c = search needs
 
 fragment-bytes-requires-2 : tie.Need-fragment-bytes-requires-2
 fragment-bytes-requires-2 c κs = search needs
 
-sub-move-up : tie.Need-sub-move-up
-sub-move-up c =
-    let a = c .before .before .before .before .before .before .before .args in
-    omega (arith, lens-less (a .fragment-heads .now) (a .index + 1) (a .n) (omega arith))
+fragment-bytes-requires-3 : tie.Need-fragment-bytes-requires-3
+fragment-bytes-requires-3 c κs = search needs
 
-add-move-up : tie.Need-add-move-up
-add-move-up c = search needs
+add-move-free : tie.Need-add-move-free
+add-move-free c = search needs
 
-move-up-requires : tie.Need-move-up-requires
-move-up-requires c κs =
-    let a = c .before .before .before .before .before .before .before .args in
-    let l = lens-less (a .fragment-heads .now) (a .index + 1) (a .n) (omega arith) in
-    (omega arith, omega (arith, l))
+move-free-requires : tie.Need-move-free-requires
+move-free-requires c κs =
+    let a = c .before .before .before .before .before .before .before .before .before .args in
+    free-numbers (a .fragment-heads .now) (a .n) (a .leading) (a .index + 1) _ _ _ _ (omega arith) (omega arith) (omega arith)
+    (c .before .before .before .before .before .fragment-bytes .ensures .0) (c .before .before .before .fragment-bytes2 .ensures .0) (c .before .fragment-bytes3 .ensures .0)
 
 copy-requires : tie.Need-copy-requires
 copy-requires c κs =
-    let a = c .before .before .before .before .before .before .before .before .before .before .before .args in
-    omega (arith, lens-less (a .fragment-heads .now) (a .index + 1) (a .n) (omega arith))
+    let a = c .before .before .before .before .before .before .before .before .before .before .before .before .before .args in
+    omega (arith, c .before .before .before .before .before .before .before .fragment-bytes2 .ensures .0, lens-less (a .fragment-heads .now) (a .index + 1) (a .n) (omega arith), c .before .before .before .move-free .ensures .same)
 
 mul-longer : tie.Need-mul-longer
 mul-longer c = search needs
@@ -44,7 +42,7 @@ element-copy-out-longer c = search needs
 
 longer-requires : tie.Need-longer-requires
 longer-requires c κs =
-    let a = c .before .before .before .before .before .before .before .before .before .before .before .before .before .before .before .args in
+    let a = c .before .before .before .before .before .before .before .before .before .before .before .before .before .before .before .before .before .args in
     omega (arith, lens-less (a .fragment-heads .now) (a .index + 1) (a .n) (omega arith), lens-turn (a .fragment-heads .now) (a .index) (omega arith))
 
 mul-fragment-heads : tie.Need-mul-fragment-heads
@@ -61,27 +59,24 @@ same-length c = search needs
 
 returns : tie.Need-returns
 returns c =
-    let d = c .before .before .before .before in
-    let m = d .before .before .before .before in
-    let b = m .before .before in
-    let g = b .before .before in
-    let a = g .before .before .before .before .args in
-    let same : length (d .copy .last .1 .0) ≡ length (a .bodies .now) = d .copy .kept .1 .0 ∙ m .move-up .kept .0 in (
-      lengthened (a .index) (a .body .now) (a .n) (a .fragment-heads .now) (a .bodies .now) _ _ _ _ _ _ _ (omega arith) (g .fragment-bytes .ensures .0) (b .fragment-bytes2 .ensures .0) (omega arith)
-          same (m .move-up .ensures) (d .copy .ensures) (ap (set (a .fragment-heads .now) (a .index)) (c .longer .ensures)),
-      ap (λ (z : ℕ). z + length (a .body .now)) (g .fragment-bytes .ensures .0),
+    let a = c .before .before .before .before .before .before .before .before .before .before .before .before .before .before .before .before .before .before .args in
+    let w = c .before .before .before .before .copy in
+    let ee = c .before .before .before .before .before .before .before .before .before .before .before .before .fragment-bytes2 .ensures .0 in (
+      lengthened (a .index) (a .body .now) (a .n) (a .leading) (a .fragment-heads .now) (a .bodies .now) _ _ _ _ _ _ _ (omega arith) (omega arith) (c .before .before .before .before .before .before .before .before .before .before .before .before .before .before .before .before .before .before .pre .2) (omega arith) (c .before .before .before .before .before .before .before .before .before .before .before .before .before .before .fragment-bytes .ensures .0) ee (c .before .before .before .before .before .before .before .before .before .before .fragment-bytes3 .ensures .0)
+          (c .before .before .before .before .before .before .before .before .move-free .ensures) (w .kept .1 .0) (w .ensures) (ap (set (a .fragment-heads .now) (a .index)) (c .longer .ensures)),
+      ap (λ (z : ℕ). z + length (a .body .now)) ee,
     )
 
 pub lengthen-spec : {M : Type 1} → statement M
 lengthen-spec =
     tie.close
     (tie.spec
-    add-fragment-bytes
     fragment-bytes-requires
+    add-fragment-bytes
     fragment-bytes-requires-2
-    sub-move-up
-    add-move-up
-    move-up-requires
+    fragment-bytes-requires-3
+    add-move-free
+    move-free-requires
     copy-requires
     mul-longer
     element-copy-out-longer

@@ -27,6 +27,7 @@ unsafe extern "C" {
         services: usize,
         lists: usize,
         fragments: usize,
+        leading: usize,
         carousels: &mut Set,
         packages: &mut [u32; 255],
         maps: &mut [u32; 64],
@@ -35,7 +36,7 @@ unsafe extern "C" {
         heads: &mut [u64; 256],
         bodies: *mut u8,
         bodies_length: usize,
-        after: &mut [usize; 6],
+        after: &mut [usize; 7],
     );
     fn driver_decide(
         flags: u8,
@@ -44,6 +45,7 @@ unsafe extern "C" {
         services: usize,
         lists: usize,
         fragments: usize,
+        leading: usize,
         carousels: &Set,
         packages: &[u32; 255],
         maps: &[u32; 64],
@@ -53,13 +55,14 @@ unsafe extern "C" {
     );
 }
 
-/// How much is known: whether a PLT was seen, and how many packages, lists and fragments there are.
+/// How much is known: whether a PLT was seen, how many packages, lists and fragments there are, and how many of these lead.
 #[derive(Default)]
 struct Extent {
     seen: bool,
     services: usize,
     lists: usize,
     fragments: usize,
+    leading: usize,
 }
 
 pub struct Known {
@@ -89,7 +92,7 @@ impl Known {
 
     /// Learns from a payload. Answers whether the rules are to be worked out.
     pub fn observe(&mut self, identifier: u16, payload: &[u8]) -> bool {
-        let mut after = [0; 6];
+        let mut after = [0; 7];
         // SAFETY: all are whole and apart, the driver keeps none, and together they hold a state.
         unsafe {
             driver_observe(
@@ -101,6 +104,7 @@ impl Known {
                 self.extent.services,
                 self.extent.lists,
                 self.extent.fragments,
+                self.extent.leading,
                 &mut self.carousels,
                 &mut self.packages,
                 &mut self.maps,
@@ -112,12 +116,13 @@ impl Known {
                 &mut after,
             );
         }
-        let [seen, services, lists, fragments, _lost, changed] = after;
+        let [seen, services, lists, fragments, leading, _lost, changed] = after;
         self.extent = Extent {
             seen: seen == 1,
             services,
             lists,
             fragments,
+            leading,
         };
         changed == 1
     }
@@ -133,6 +138,7 @@ impl Known {
                 self.extent.services,
                 self.extent.lists,
                 self.extent.fragments,
+                self.extent.leading,
                 &self.carousels,
                 &self.packages,
                 &self.maps,
@@ -169,19 +175,32 @@ impl Known {
         (identifier as u16, numbers.chunks(2).map(asset).collect())
     }
 
-    /// The fragments: their identifiers, flags and bodies, which stand one after the other.
+    /// The fragments: their identifiers, flags and bodies. Those that lead stand one after the other at the front of the
+    /// room, the others so at its end.
     fn pieces(&self) -> BTreeMap<u16, (u8, Vec<u8>)> {
-        let mut rest = &self.bodies[..];
-        let piece = |head: &u64| {
-            let (body, behind) = rest.split_at((head & 0xff_ffff_ffff) as usize);
-            rest = behind;
-            ((head >> 48) as u16, ((head >> 40) as u8, body.to_vec()))
-        };
-        self.heads[..self.extent.fragments]
-            .iter()
-            .map(piece)
-            .collect()
+        let heads = &self.heads[..self.extent.fragments];
+        let (leading, others) = heads.split_at(self.extent.leading.min(heads.len()));
+        let behind: usize = others.iter().map(length).sum();
+        let end = self.bodies.len() - behind;
+        let mut pieces = packed(leading, &self.bodies);
+        pieces.extend(packed(others, &self.bodies[end..]));
+        pieces
     }
+}
+
+/// The length in a fragment's head.
+fn length(head: &u64) -> usize {
+    (head & 0xff_ffff_ffff) as usize
+}
+
+/// The fragments whose bodies stand one after the other at the front of these bytes.
+fn packed(heads: &[u64], mut rest: &[u8]) -> BTreeMap<u16, (u8, Vec<u8>)> {
+    let piece = |head: &u64| {
+        let (body, behind) = rest.split_at(length(head));
+        rest = behind;
+        ((head >> 48) as u16, ((head >> 40) as u8, body.to_vec()))
+    };
+    heads.iter().map(piece).collect()
 }
 
 /// The kind of an asset by its number.

@@ -12,7 +12,7 @@ use crate::room::{Layout, Room};
 use crate::streams::{Stream, fragments, pieces};
 
 /// The layout of the proved code.
-const PROVED: Layout = Layout::Packed;
+const PROVED: Layout = Layout::Parted;
 /// The rooms are compared after each chunk of a stream. Those of an order are shorter than its packets.
 const CHUNK: usize = 65_536;
 const SHORT_CHUNK: usize = 50;

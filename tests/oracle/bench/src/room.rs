@@ -25,8 +25,8 @@ pub struct Room {
     pub bytes: Vec<u8>,
     /// Identifiers and lengths.
     held: Vec<(u16, usize)>,
-    /// How many stand at the room's start; packed, all do.
-    ahead: usize,
+    /// How many lead: they stand at the room's start. Packed, all do.
+    leading: usize,
     /// How many bytes have changed their offset so far.
     pub moved: usize,
 }
@@ -37,7 +37,7 @@ impl Room {
             layout,
             bytes: vec![0; total],
             held: Vec::new(),
-            ahead: 0,
+            leading: 0,
             moved: 0,
         }
     }
@@ -72,14 +72,14 @@ impl Room {
             let at = self.length(0..others);
             self.write(at, piece.body);
             self.held.push((piece.identifier, piece.body.len()));
-            self.ahead = others + 1;
+            self.leading = others + 1;
         }
     }
 
     fn grow(&mut self, index: usize, body: &[u8]) {
         let end = self.length(0..index + 1);
         match self.layout {
-            Layout::Packed => self.shift(end..self.length(0..self.ahead), end + body.len()),
+            Layout::Packed => self.shift(end..self.length(0..self.leading), end + body.len()),
             Layout::Parted => self.part(index + 1),
         }
         self.write(end, body);
@@ -96,9 +96,9 @@ impl Room {
         match self.layout {
             Layout::Packed => self.close(index),
             Layout::Parted => {
-                self.part(self.ahead.clamp(index, index + 1));
+                self.part(self.leading.clamp(index, index + 1));
                 self.held.remove(index);
-                self.ahead = index;
+                self.leading = index;
             }
         }
     }
@@ -106,27 +106,27 @@ impl Room {
     /// All others come to stand at the room's start, without the one that goes. Those before both it and the free bytes
     /// stay; the others are two runs, parted by one of the two.
     fn close(&mut self, index: usize) {
-        let (ahead, count) = (self.ahead, self.held.len());
-        let runs = if index < ahead {
-            [index + 1..ahead, ahead..count]
+        let (leading, count) = (self.leading, self.held.len());
+        let runs = if index < leading {
+            [index + 1..leading, leading..count]
         } else {
-            [ahead..index, index + 1..count]
+            [leading..index, index + 1..count]
         };
-        let mut to = self.length(0..ahead.min(index));
+        let mut to = self.length(0..leading.min(index));
         for run in runs {
             let (from, length) = (self.offset(run.start), self.length(run));
             self.shift(from..from + length, to);
             to += length;
         }
         self.held.remove(index);
-        self.ahead = count - 1;
+        self.leading = count - 1;
     }
 
     /// The free bytes come to stand before this fragment, and what is between on their other side.
     fn part(&mut self, index: usize) {
-        let run = index.min(self.ahead)..index.max(self.ahead);
+        let run = index.min(self.leading)..index.max(self.leading);
         let from = self.offset(run.start);
-        self.ahead = index;
+        self.leading = index;
         let to = self.offset(run.start);
         self.shift(from..from + self.length(run), to);
     }
@@ -149,7 +149,7 @@ impl Room {
 
     /// Where a fragment begins; behind the last one, the room's end.
     fn offset(&self, index: usize) -> usize {
-        if index < self.ahead {
+        if index < self.leading {
             self.length(0..index)
         } else {
             self.bytes.len() - self.length(index..self.held.len())

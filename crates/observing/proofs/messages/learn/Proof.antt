@@ -4,11 +4,6 @@ use borrow.Author.Needs.{needs}
 use Rattle.observing.proofs.MessageSteps.{no-messages, messages-none, messages-one, messages-many}
 use Rattle.observing.proofs.messages.learn.Statement.{statement}
 use Rattle.observing.proofs.messages.learn.Tie as tie
-use Rattle.observing.proofs.messages.learn.Reads as reads
-use Rattle.observing.proofs.messages.learn.Lts as lts
-use Rattle.observing.proofs.messages.learn_aggregate.Reads as learn-aggregate-reads
-use Rattle.observing.proofs.messages.learn_message.Reads as learn-message-reads
-use Rattle.observing.proofs.messages.long_lengths.Reads as long-lengths-reads
 
 returns : tie.Need-returns
 returns c =

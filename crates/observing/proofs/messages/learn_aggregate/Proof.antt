@@ -5,10 +5,6 @@ use borrow.Author.Needs.{needs}
 use Rattle.observing.proofs.MessageSteps.{PartsSofar, parts-begin, parts-room, parts-next, parts-done}
 use Rattle.observing.proofs.messages.learn_aggregate.Statement.{statement}
 use Rattle.observing.proofs.messages.learn_aggregate.Tie as tie
-use Rattle.observing.proofs.messages.learn_aggregate.Reads as reads
-use Rattle.observing.proofs.messages.learn_aggregate.Lts as lts
-use Rattle.observing.proofs.messages.learn_message.Reads as learn-message-reads
-use Rattle.tables.proofs.messages.frame_at.Reads as frame-at-reads
 
 abbrev Inv-loop : tie.InvT-loop
 Inv-loop s long id data-set₀ packages₀ map-heads₀ map-room₀ e₀ at₀ data-set packages map-heads map-room e at = PartsSofar s long id e₀ data-set₀ packages₀ map-heads₀ map-room₀ e at data-set packages map-heads map-room

@@ -3,10 +3,6 @@ use borrow.Author.Needs.{needs}
 use Rattle.observing.proofs.MessageSteps.{data-old, data-new}
 use Rattle.observing.proofs.messages.learn_data.Statement.{statement}
 use Rattle.observing.proofs.messages.learn_data.Tie as tie
-use Rattle.observing.proofs.messages.learn_data.Reads as reads
-use Rattle.observing.proofs.messages.learn_data.Lts as lts
-use Rattle.octets.proofs.has.Reads as has-reads
-use Rattle.octets.proofs.insert.Reads as insert-reads
 
 has-requires : tie.Need-has-requires
 has-requires c κs = search needs

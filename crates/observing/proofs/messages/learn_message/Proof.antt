@@ -4,11 +4,6 @@ use borrow.Author.Needs.{needs}
 use Rattle.observing.proofs.MessageSteps.{part-few, part-lost, message-pa, message-data, message-other, found-none, found-after}
 use Rattle.observing.proofs.messages.learn_message.Statement.{statement}
 use Rattle.observing.proofs.messages.learn_message.Tie as tie
-use Rattle.observing.proofs.messages.learn_message.Reads as reads
-use Rattle.observing.proofs.messages.learn_message.Lts as lts
-use Rattle.observing.proofs.messages.learn_data.Reads as learn-data-reads
-use Rattle.observing.proofs.messages.learn_pa.Reads as learn-pa-reads
-use Rattle.tables.proofs.messages.message.Reads as message-reads
 
 message-requires : tie.Need-message-requires
 message-requires c κs = search needs

@@ -6,11 +6,6 @@ use Rattle.tables.proofs.WalkLaws.{no-table}
 use Rattle.observing.proofs.TableSteps.{TablesSofar, tables-begin, tables-room, tables-next, tables-done, no-tables, pa-none, pa-found}
 use Rattle.observing.proofs.messages.learn_pa.Statement.{statement}
 use Rattle.observing.proofs.messages.learn_pa.Tie as tie
-use Rattle.observing.proofs.messages.learn_pa.Reads as reads
-use Rattle.observing.proofs.messages.learn_pa.Lts as lts
-use Rattle.observing.proofs.messages.learn_table.Reads as learn-table-reads
-use Rattle.tables.proofs.pa.pa_tables.Reads as pa-tables-reads
-use Rattle.tables.proofs.pa.table_at.Reads as table-at-reads
 
 abbrev Inv-loop : tie.InvT-loop
 Inv-loop s id packages₀ map-heads₀ map-room₀ e₀ tables at₀ packages map-heads map-room e at = TablesSofar s id tables e₀ packages₀ map-heads₀ map-room₀ e at packages map-heads map-room

@@ -4,11 +4,6 @@ use Rattle.observing.specs.Steps.{tableIn}
 use Rattle.observing.proofs.StepLaws.{table-plt, table-mpt, table-other}
 use Rattle.observing.proofs.messages.learn_table.Statement.{statement}
 use Rattle.observing.proofs.messages.learn_table.Tie as tie
-use Rattle.observing.proofs.messages.learn_table.Reads as reads
-use Rattle.observing.proofs.messages.learn_table.Lts as lts
-use Rattle.learning.proofs.lists.mpt.Reads as mpt-reads
-use Rattle.learning.proofs.packages.plt.Reads as plt-reads
-use Rattle.tables.proofs.pa.is_mpt.Reads as is-mpt-reads
 
 shared-slice-read-number : tie.Need-shared-slice-read-number
 shared-slice-read-number c = search needs

@@ -3,8 +3,6 @@ use Prim.Native.Nat.{_/_}
 use Rattle.meaning.specs.Messages.{longLengths}
 use Rattle.observing.proofs.messages.long_lengths.Statement.{statement}
 use Rattle.observing.proofs.messages.long_lengths.Tie as tie
-use Rattle.observing.proofs.messages.long_lengths.Reads as reads
-use Rattle.observing.proofs.messages.long_lengths.Lts as lts
 
 returns : tie.Need-returns
 unfolding longLengths

@@ -6,8 +6,6 @@ use Rattle.octets.proofs.ByteLaws.{rest-of}
 use borrow.Author.Needs.{needs}
 use Rattle.observing.proofs.observe.body_of.Statement.{statement}
 use Rattle.observing.proofs.observe.body_of.Tie as tie
-use Rattle.observing.proofs.observe.body_of.Reads as reads
-use Rattle.observing.proofs.observe.body_of.Lts as lts
 
 slice-aggregate-result : tie.Need-slice-aggregate-result
 slice-aggregate-result c = search needs

@@ -1,6 +1,6 @@
-use Rattle.observing.proofs.ObserveSteps.{fragments-observed, by-whole, by-first, by-middle, by-last, top-three}
-use native.Mathlib.Omega.{arith}
 use mathlib.Core.Path.{ap}
+use native.Mathlib.Omega.{arith}
+use Rattle.observing.proofs.ObserveSteps.{fragments-observed, by-whole, by-first, by-middle, by-last, top-three}
 use borrow.Author.Needs.{needs}
 use Rattle.observing.proofs.observe.by_indicator.Statement.{statement}
 use Rattle.observing.proofs.observe.by_indicator.Tie as tie
@@ -11,14 +11,14 @@ whole-requires c κs = search needs
 hold-first-requires : tie.Need-hold-first-requires
 hold-first-requires c κs = search needs
 
-with-count-requires : tie.Need-with-count-requires
-with-count-requires c κs = search needs
+with-held-requires : tie.Need-with-held-requires
+with-held-requires c κs = search needs
 
 middle-requires : tie.Need-middle-requires
 middle-requires c κs = search needs
 
-with-count-requires-2 : tie.Need-with-count-requires-2
-with-count-requires-2 c κs = search needs
+with-held-requires-2 : tie.Need-with-held-requires-2
+with-held-requires-2 c κs = search needs
 
 last-requires : tie.Need-last-requires
 last-requires c κs = search needs
@@ -33,7 +33,7 @@ returns : tie.Need-returns
 returns c =
     let a = c .before .before .before .before .before .before .before .before .before .before .before .before .before .before .before .args in
     let y = c .before .before .before .before .whole .ensures in
-    ((λ L k most h. by-whole L (a .p .id) (a .p .flags) _ k (a .e) _ _ _ _ _ _ _ (c .before .before .before .before .before .before .before .before .before .before .before .match .keys1) (y .0 L k most h)), omega (arith, y .1))
+    ((λ L k most h. by-whole L (a .p .id) (a .p .flags) _ k (a .e) _ _ _ _ _ _ _ (c .before .before .before .before .before .before .before .before .before .before .before .match .keys1) (y .0 L k most h)), omega (arith, y .1), y .2)
 
 same-length-3 : tie.Need-same-length-3
 same-length-3 c = search needs
@@ -41,11 +41,13 @@ same-length-3 c = search needs
 returns-2 : tie.Need-returns-2
 returns-2 c =
     let a = c .before .before .before .before .before .before .before .before .before .before .args in
-    let w = c .with-count .ensures in (
+    let w = c .with-held .ensures in
+    let u = c .before .before .before .hold-first .ensures in (
       (λ L k most h.
           by-first L (a .p .id) (a .p .flags) _ k (a .e) _ _ _ _ _ _ _ (c .before .before .before .before .before .before .match .keys2)
-          (rw w (fragments-observed (L .total) k _ (a .e) _ _ _ _ _ _ _ (h .tables-kept) (c .before .before .before .hold-first .ensures L (k .fragments) (h .fragments-kept))))),
+          (rw w (fragments-observed (L .total) (a .p .id) k _ (a .e) _ _ _ _ _ _ _ (u .held L (k .fragments) (h .fragments-kept)) (h .tables-kept)))),
       omega (arith, ap (λ z. z .lost) w),
+      u .once,
     )
 
 same-length-4 : tie.Need-same-length-4
@@ -54,11 +56,13 @@ same-length-4 c = search needs
 returns-3 : tie.Need-returns-3
 returns-3 c =
     let a = c .before .before .before .before .before .before .before .before .before .before .args in
-    let w = c .with-count2 .ensures in (
+    let w = c .with-held2 .ensures in
+    let u = c .before .before .before .middle .ensures in (
       (λ L k most h.
           by-middle L (a .p .id) (a .p .flags) _ k (a .e) _ _ _ _ _ _ _ (c .before .before .before .before .before .before .match .keys3)
-          (rw w (fragments-observed (L .total) k _ (a .e) _ _ _ _ _ _ _ (h .tables-kept) (c .before .before .before .middle .ensures L (k .fragments) most (h .fragments-kept))))),
+          (rw w (fragments-observed (L .total) (a .p .id) k _ (a .e) _ _ _ _ _ _ _ (u .learned L (k .fragments) most (h .fragments-kept)) (h .tables-kept)))),
       omega (arith, ap (λ z. z .lost) w),
+      u .once,
     )
 
 same-length-5 : tie.Need-same-length-5
@@ -72,7 +76,25 @@ returns-4 c =
     let a = c .before .before .before .before .before .before .before .before .before .before .before .before .before .before .before .args in
     let y = c .before .before .before .before .last .ensures in
     let n = c .before .before .before .before .before .before .before .before .before .before .before .match .rest in
-    ((λ L k most h. by-last L (a .p .id) (a .p .flags) _ k (a .e) _ _ _ _ _ _ _ (top-three (a .p .flags) (omega (arith, c .before .before .before .before .before .before .before .before .before .before .before .before .before .before .before .good .1 .1 .0 .1 .1 .0)) (n .0 .0 .1) (n .0 .1) (n .1)) (y .0 L k most h)), omega (arith, y .1))
+    ((λ L k most h. by-last L (a .p .id) (a .p .flags) _ k (a .e) _ _ _ _ _ _ _ (top-three (a .p .flags) (omega (arith, c .before .before .before .before .before .before .before .before .before .before .before .before .before .before .before .good .1 .1 .0 .1 .1 .0)) (n .0 .0 .1) (n .0 .1) (n .1)) (y .0 L k most h)), omega (arith, y .1), y .2)
 
 pub by-indicator-spec : {M : Type 1} → statement M
-by-indicator-spec = tie.close (tie.spec whole-requires hold-first-requires with-count-requires middle-requires with-count-requires-2 last-requires same-length same-length-2 returns same-length-3 returns-2 same-length-4 returns-3 same-length-5 same-length-6 returns-4)
+by-indicator-spec =
+    tie.close
+    (tie.spec
+    whole-requires
+    hold-first-requires
+    with-held-requires
+    middle-requires
+    with-held-requires-2
+    last-requires
+    same-length
+    same-length-2
+    returns
+    same-length-3
+    returns-2
+    same-length-4
+    returns-3
+    same-length-5
+    same-length-6
+    returns-4)

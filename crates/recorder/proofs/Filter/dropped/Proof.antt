@@ -35,9 +35,9 @@ dropped-requires c κs =
     let z = c .before .before .before .before .before .before .before .before .before .before .before .before .before .before .before .before .before .before .before in
     let a = z .args in
     let s = sym (c .before .before .before .before .before .before .before .before .before .before .before .before .before .before .before .is-sound .ensures) ∙ not-false _ (c .before .before .before .before .before .before .before .before .before .before .before .before .before .before .if1 .left) in
-    let g = z .good .0 .1 .1 .1 .1 .1 .1 .1 .1 .1 .1 .1 .1 in
+    let g = z .good .0 .1 .1 .1 .1 .1 .1 .1 .1 .1 .1 .1 .1 .1 in
     let all = whole-record (a .self) (g .0 .1 .0 .1) (g .1 .0 .1 .0 .1) (g .1 .1 .0 .1 .0 .1) (g .1 .1 .1 .0 .1 .0 .1) in
-    let h = state-held (recordIn (a .self)) (a .work .now) (a .bodies .now) (a .map-room .now) (extentOf (a .self)) s all (record { seen-is = refl; packages-are = refl; map-heads-are = refl; fragments-are = refl }) .tables-kept in
+    let h = state-held (recordIn (a .self)) (a .work .now) (a .bodies .now) (a .map-room .now) (extentOf (a .self)) s all (record { seen-is = refl; packages-are = refl; map-heads-are = refl; fragments-are = refl; leading-is = refl }) .tables-kept in
     (stateOf (recordIn (a .self)) (a .work .now) (a .bodies .now) (a .map-room .now) .known, rw (c .before .before .before .before .before .before .before .before .clear32 .ensures, c .before .before .before .before .before .clear322 .ensures, c .before .before .before .extent-of .ensures) h)
 
 returns-2 : tie.Need-returns-2
@@ -46,9 +46,9 @@ returns-2 c =
     let z = c .before .before .before .before .before .before .before .before .before .before .before .before .before .before .before .before .before .before .before .before in
     let a = z .args in
     let s = sym (c .before .before .before .before .before .before .before .before .before .before .before .before .before .before .before .before .is-sound .ensures) ∙ not-false _ (c .before .before .before .before .before .before .before .before .before .before .before .before .before .before .before .if1 .left) in
-    let g = z .good .0 .1 .1 .1 .1 .1 .1 .1 .1 .1 .1 .1 .1 in
+    let g = z .good .0 .1 .1 .1 .1 .1 .1 .1 .1 .1 .1 .1 .1 .1 in
     let all = whole-record (a .self) (g .0 .1 .0 .1) (g .1 .0 .1 .0 .1) (g .1 .1 .0 .1 .0 .1) (g .1 .1 .1 .0 .1 .0 .1) in
-    let h = state-held (recordIn (a .self)) (a .work .now) (a .bodies .now) (a .map-room .now) (extentOf (a .self)) s all (record { seen-is = refl; packages-are = refl; map-heads-are = refl; fragments-are = refl }) .tables-kept in
+    let h = state-held (recordIn (a .self)) (a .work .now) (a .bodies .now) (a .map-room .now) (extentOf (a .self)) s all (record { seen-is = refl; packages-are = refl; map-heads-are = refl; fragments-are = refl; leading-is = refl }) .tables-kept in
     counted-as (a .self) (a .work .now) (a .bodies .now) (a .map-room .now) _ s
     (c .dropped .ensures (stateOf (recordIn (a .self)) (a .work .now) (a .bodies .now) (a .map-room .now) .known) (rw (c .before .before .before .before .before .before .before .before .before .clear32 .ensures, c .before .before .before .before .before .before .clear322 .ensures, c .before .before .before .before .extent-of .ensures) h))
 

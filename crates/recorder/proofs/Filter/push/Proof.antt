@@ -16,7 +16,7 @@ call-answer-requires : tie.Need-call-answer-requires
 unfolding recordIn
 call-answer-requires c κs =
     let z = c .before .before .before .before .before .before .before .before .before .before .before .before .before in
-    let g = z .good .0 .1 .1 .1 .1 .1 .1 .1 .1 .1 .1 .1 .1 in
+    let g = z .good .0 .1 .1 .1 .1 .1 .1 .1 .1 .1 .1 .1 .1 .1 in
     let all = whole-record (z .args .self) (g .0 .1 .0 .1) (g .1 .0 .1 .0 .1) (g .1 .1 .0 .1 .0 .1) (g .1 .1 .1 .0 .1 .0 .1) in
     (all .packages-all, all .map-heads-all, all .fragments-all)
 
@@ -40,7 +40,7 @@ carry-out-requires : tie.Need-carry-out-requires
 carry-out-requires c κs =
     let z = c .before .before .before .before .before .before .before .before .before .before .before .before .before .before .before .before .before .before .before .before .before .before .before .before .before .before .before .before .before .before in
     let a = z .args in
-    let g = z .good .0 .1 .1 .1 .1 .1 .1 .1 .1 .1 .1 .1 .1 in
+    let g = z .good .0 .1 .1 .1 .1 .1 .1 .1 .1 .1 .1 .1 .1 .1 in
     let all = whole-record (a .self) (g .0 .1 .0 .1) (g .1 .0 .1 .0 .1) (g .1 .1 .0 .1 .0 .1) (g .1 .1 .1 .0 .1 .0 .1) in
     let b = c .before .before .before .before .before .before .before .before .before .before .before .before .before .before .before .before .before .before .before .before .before .before .before .before .begun .ensures in
     let u = c .before .before .before .before .before .before .before .before .before .clear-unused .ensures in
@@ -67,7 +67,7 @@ returns-2 : tie.Need-returns-2
 returns-2 c =
     let z = c .before .before .before .before .before .before .before .before .before .before .before .before .before .before .before .before .before .before .before .before .before .before .before .before .before .before .before .before .before .before .before .before .before .before .before .before .before .before .before .before in
     let a = z .args in
-    let g = z .good .0 .1 .1 .1 .1 .1 .1 .1 .1 .1 .1 .1 .1 in
+    let g = z .good .0 .1 .1 .1 .1 .1 .1 .1 .1 .1 .1 .1 .1 .1 in
     let all = whole-record (a .self) (g .0 .1 .0 .1) (g .1 .0 .1 .0 .1) (g .1 .1 .0 .1 .0 .1) (g .1 .1 .1 .0 .1 .0 .1) in
     let b = c .before .before .before .before .before .before .before .before .before .before .before .before .before .before .before .before .before .before .before .before .before .before .before .before .before .before .before .before .before .before .before .before .before .before .begun .ensures in
     let u = c .before .before .before .before .before .before .before .before .before .before .before .before .before .before .before .before .before .before .before .clear-unused .ensures in

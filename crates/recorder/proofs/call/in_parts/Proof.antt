@@ -37,7 +37,7 @@ packets-requires-2 c κs =
     let one = c .before .before .before .before .before .before .before .before .before .before .before .before .before .before .packets in
     let h = z .pre .3 in
     let L : Limits = record { work = 0; total = h .0; most = a .t .most } in
-    (rest-fits _ _ (length (a .second .now)) (one .ensures .3) (call-fits (a .t) _ _ _ _ _ _ (a .fragment-heads .now) (a .bodies .now) _ (a .out .now) begun (z .pre .0) _ (z .pre .1) (z .pre .2)), (L, h .1, a .out .now, _, _, refl, one .ensures .0 L (h .1) (a .out .now) [] 0 refl (call-begins (a .t) _ _ _ _ _ _ (a .fragment-heads .now) (a .bodies .now) _ (a .out .now) begun (z .pre .0) L (h .1) (h .2))))
+    (rest-fits _ _ (length (a .second .now)) (one .ensures .3) (call-fits (a .t) _ _ _ _ _ _ (a .fragment-heads .now) (a .bodies .now) _ (a .out .now) begun (z .pre .0) _ (z .pre .1) (z .pre .2)), (L, h .1, a .e .leading, a .out .now, _, _, refl, one .ensures .0 L (h .1) (a .e .leading) (a .out .now) [] 0 refl (call-begins (a .t) _ _ _ _ _ _ (a .fragment-heads .now) (a .bodies .now) _ (a .out .now) begun (z .pre .0) L (h .1) (h .2))))
 
 parts-to-requires : tie.Need-parts-to-requires
 parts-to-requires c κs = search needs
@@ -63,7 +63,7 @@ returns c =
     let sum : 0 + n + m ≡ n + m = omega arith in
     rw (c .parts-to .ensures)
     (record {
-      passed = λ L k em h. (_, sofar-skipped sum (two .ensures .0 L k (a .out .now) _ _ em (one .ensures .0 L k (a .out .now) [] 0 em (call-begins (a .t) _ _ _ _ _ _ (a .fragment-heads .now) (a .bodies .now) _ (a .out .now) begun (z .pre .0) L k h))));
+      passed = λ L k em h. (_, sofar-skipped sum (two .ensures .0 L k (a .e .leading) (a .out .now) _ _ em (one .ensures .0 L k (a .e .leading) (a .out .now) [] 0 em (call-begins (a .t) _ _ _ _ _ _ (a .fragment-heads .now) (a .bodies .now) _ (a .out .now) begun (z .pre .0) L k h))));
       first-left = one .ensures .1;
       first-inside = one .ensures .2;
       second-left = two .ensures .1;

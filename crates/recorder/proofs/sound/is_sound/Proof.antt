@@ -15,7 +15,7 @@ parts-sound-requires : tie.Need-parts-sound-requires
 unfolding recordIn
 parts-sound-requires c κs =
     let z = c .before .before .before .before .before .before .before .before .before in
-    let g = z .good .0 .1 .1 .1 .1 .1 .1 .1 .1 .1 .1 .1 .1 in
+    let g = z .good .0 .1 .1 .1 .1 .1 .1 .1 .1 .1 .1 .1 .1 .1 in
     let all = whole-record (z .args .f) (g .0 .1 .0 .1) (g .1 .0 .1 .0 .1) (g .1 .1 .0 .1 .0 .1) (g .1 .1 .1 .0 .1 .0 .1) in
     (all .packages-all, all .map-heads-all, all .fragments-all)
 
