@@ -101,13 +101,13 @@ far start end old all a b c = omega arith
 
 module _ (index leading start end old all : ℕ) (bodies mid bodies′ : Bytes) (r q : ℕ) (es : start ≤ end) (ee : end ≤ all) (eo : old ≤ all) (within : all ≤ length bodies)
     (same : length mid ≡ length bodies) (same′ : length bodies′ ≡ length mid) where
-  pub packed-led : index < leading → end ≤ old → Wrote (take (old - end) (drop end bodies)) bodies start mid r
-      → Wrote (take (all - old) (drop (length bodies - (all - old)) mid)) mid (old - (end - start)) bodies′ q → Packed index leading start end old all bodies bodies′
-  packed-led h l u v =
+  pub packed-led : (down : ℕ) → down ≡ old - (end - start) → index < leading → end ≤ old → Wrote (take (old - end) (drop end bodies)) bodies start mid r
+      → Wrote (take (all - old) (drop (length bodies - (all - old)) mid)) mid down bodies′ q → Packed index leading start end old all bodies bodies′
+  packed-led down ed h l u v =
       let first = block-end bodies bodies mid end (old - end) start r (old - (end - start)) (omega arith) (omega arith) u in
       let s : drop (length bodies - (all - old)) mid ≡ drop (length bodies - (all - old)) bodies = later _ bodies mid start (old - (end - start)) (length bodies - (all - old)) first (omega arith) in
       let w : Wrote (take (all - old) (drop (length bodies - (all - old)) bodies)) mid (old - (end - start)) bodies′ q =
-      subst (λ (z : Bytes). Wrote (take (all - old) z) mid (old - (end - start)) bodies′ q) s v in
+      subst (λ (z : Bytes). Wrote (take (all - old) z) mid (old - (end - start)) bodies′ q) s (subst (λ (z : ℕ). Wrote (take (all - old) (drop (length bodies - (all - old)) mid)) mid z bodies′ q) ed v) in
       record {
         between = mid;
         same = same′ ∙ same;

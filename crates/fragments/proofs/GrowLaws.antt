@@ -19,9 +19,10 @@ use Rattle.meaning.specs.declared.Limits.{Limits}
 use Rattle.meaning.proofs.ListLaws.{and-both}
 use Rattle.meaning.proofs.MoveLaws.{once-none}
 use Rattle.meaning.proofs.SoundnessKept.{first-holds, middle-holds}
-use Rattle.fragments.specs.Fragments.{indexIn, othersOf, lengthAt, TakesOut, FreeMoved, Packed, KeptFragments, KeepsFragments, Numbers, HeldAfter, Nearest, GivesUp, DropsAt, Drops, GivesBack, heldBehind, PutsBehind, HoldsFirst, Lengthens, GrewAt, GrowsWithin, GrowsAtIndex, LearnsMiddle}
+use Rattle.fragments.specs.Fragments.{indexIn, othersOf, TakesOut, FreeMoved, Packed, KeptFragments, KeepsFragments, Numbers, HeldAfter, Nearest, Stands, GivesUp, DropsAt, Drops, GivesBack, heldBehind, PutsBehind, HoldsFirst, Lengthens, GrewAt, GrowsWithin, GrowsAtIndex, LearnsMiddle}
 use Rattle.fragments.specs.declared.Held.{Held}
 use Rattle.fragments.specs.declared.Grown.{Grown}
+use Rattle.fragments.specs.declared.Place.{Place}
 use Rattle.fragments.proofs.FragmentLaws.{lens-turn, lens-less, missing, own-turn, own-ends, others-count, index-grown, grown-length, without-grown, not-found, leading-gone, leading-none, leading-grown, leading-behind}
 use Rattle.fragments.proofs.RoomLaws.{numbers, sum-is, index-is, nearest-kept, free-moved, There, there, left-last, left-next, grown-in, others-bytes, put-kept, held-so, full-so, short-so}
 use Rattle.fragments.proofs.OnceLaws.{once-moved, once-grown, once-put}
@@ -40,6 +41,28 @@ free-numbers fragment-heads n leading to old new all total low high within eo en
   omega (arith, en, ea, lens-less fragment-heads to n high),
   omega (arith, ea, within),
 )
+
+-- ---- places
+
+module _ (n : ℕ) (fragment-heads : List ℕ) (place : Place) (s : Stands n fragment-heads place) where
+  -- Its numbers are ordered as the fragments are.
+  pub stands-so : (place .start + place .own ≤ place .all) × (place .free ≤ place .all) × (place .index < place .leading → place .start + place .own ≤ place .free)
+      × (place .leading ≤ place .index → place .free ≤ place .start)
+  stands-so =
+      let es = s .start-is in
+      let ew = s .own-is in
+      let eo = s .free-is in
+      let ea = s .all-is in (
+        omega (arith, own-ends fragment-heads (place .index) n (s .index-low)),
+        omega (arith, lens-less fragment-heads (place .leading) n (s .leading-low)),
+        λ h. let low : place .leading ≤ n = s .leading-low in
+            omega (arith, own-turn fragment-heads (place .index) n (omega arith), lens-less fragment-heads (place .index + 1) (place .leading) (omega arith)),
+        λ h. omega (arith, lens-less fragment-heads (place .leading) (place .index) h),
+      )
+
+  -- Where it ends, if it is there.
+  pub ends-so : place .index < n → place .start + place .own ≡ lens (take (place .index + 1) fragment-heads)
+  ends-so h = ap₂ (λ (x y : ℕ). x + y) (s .start-is) (s .own-is) ∙ own-turn fragment-heads (place .index) n (omega arith)
 
 -- ---- given up, and dropped
 
@@ -125,82 +148,77 @@ module _ (index n : ℕ) where
 pub others-small : (index n count : ℕ) → index ≤ n → index < 256 → n ≤ 256 → count ≡ othersOf index n → count < 256
 others-small index n count le few l e = omega (arith, e, others-low index n le few l)
 
-module _ (index p flags : ℕ) (b : Bytes) (n leading : ℕ) (fragment-heads bodies : List ℕ) (le : index ≤ n) (few : index < 256) (low : leading ≤ n) (ns : Numbers n fragment-heads bodies)
-    (fit : lens (take n fragment-heads) - lengthAt index n fragment-heads + length b ≤ length bodies) (start own old all : ℕ) (es : start ≡ lens (take index fragment-heads))
-    (ew : own ≡ lengthAt index n fragment-heads) (eo : old ≡ lens (take leading fragment-heads)) (ea : all ≡ lens (take n fragment-heads)) where
-  -- where it stands, for what packs the others
-  pub own-stands : (start ≤ start + own) × (start + own ≤ all) × (old ≤ all) × (all ≤ length bodies) × (index < leading → start + own ≤ old) × (leading ≤ index → old ≤ start)
-  own-stands = (
-    omega arith,
-    omega (arith, own-ends fragment-heads index n le),
-    omega (arith, lens-less fragment-heads leading n low),
-    omega (arith, ns .within),
-    λ h. omega (arith, own-turn fragment-heads index n (omega arith), lens-less fragment-heads (index + 1) leading (omega arith)),
-    λ h. omega (arith, lens-less fragment-heads leading index h),
-  )
+-- the numbers by which the others are packed
+pub pack-numbers : (n : ℕ) (fragment-heads bodies : List ℕ) (place : Place) → Stands n fragment-heads place → Numbers n fragment-heads bodies
+    → (place .start + place .own ≤ place .all) × (place .free ≤ place .all) × (place .all ≤ length bodies) × (place .index < place .leading → place .start + place .own ≤ place .free)
+    × (place .leading ≤ place .index → place .free ≤ place .start)
+pack-numbers n fragment-heads bodies place s ns =
+    let o = stands-so n fragment-heads place s in
+    (o .0, o .1, omega (arith, s .all-is, ns .within), o .2, o .3)
 
-  pub put : (mid : Bytes) (rest count q head : ℕ) (fragment-heads₁ bodies′ : List ℕ) → rest ≡ all - own → count ≡ othersOf index n → length bodies′ ≡ length mid
-      → Packed index leading start (start + own) old all bodies mid → Wrote b mid rest bodies′ q → TakesOut index n fragment-heads fragment-heads₁
-      → head ≡ p * 281474976710656 + flags % 64 * 1099511627776 + length b
-      → PutsBehind index p flags b n leading fragment-heads bodies (record { count = count + 1; leading = count + 1 }) (set fragment-heads₁ count head) bodies′
-  put mid rest count q head fragment-heads₁ bodies′ er ec same m w out eh = record {
-    held = λ L fs at k.
-        let T : ℕ = L .total in
-        let small : count < 256 = others-small index n count le few (ns .few) ec in
-        let c : othersOf index n ≡ length (without p fs) = out p fs (k .hold .once) at (k .heads) .count in
-        let bytes = others-bytes T p fs index n leading fragment-heads bodies at le k in
-        let e : holdFirst L p flags b fs ≡ heldBehind p flags b fs = held-so L p flags b fs (omega arith) (omega (arith, k .total)) in
-        let hold : HoldsFragments T (heldBehind p flags b fs) = subst (HoldsFragments T) e (first-holds L p flags b fs (k .hold)) in (
-          subst (λ (l : List Fragment). KeptFragments T l (count + 1) (count + 1) (set fragment-heads₁ count head) bodies′) (sym e)
-              (put-kept T p fs index n leading fragment-heads bodies at le k low start (start + own) old all mid es (ap (λ (z : ℕ). start + z) ew) eo ea m flags b rest count q fragment-heads₁
-              (set fragment-heads₁ count head) bodies′ (er ∙ ap (λ (z : ℕ). all - z) ew) ec small same w out (ap (set fragment-heads₁ count) eh) hold),
-          e,
-        );
-    leading-is = ap (λ (z : ℕ). z + 1) ec;
-    once = let s = own-stands in
-        once-put index leading start (start + own) old all bodies mid b bodies′ q (s .0) (s .1) (s .2) (s .3) (s .4) (s .5) (omega arith) m
-        (subst (λ (z : ℕ). Wrote b mid z bodies′ q) (let z : rest ≡ all - (start + own - start) = omega arith in z) w);
-  }
+pub put : (place : Place) (p flags : ℕ) (b : Bytes) (n : ℕ) (fragment-heads bodies : List ℕ) → place .index < 256 → Stands n fragment-heads place → Numbers n fragment-heads bodies
+    → place .all - place .own + length b ≤ length bodies → (mid : Bytes) (count q head : ℕ) (fragment-heads₁ bodies′ : List ℕ) → count ≡ othersOf (place .index) n → length bodies′ ≡ length mid
+    → Packed (place .index) (place .leading) (place .start) (place .start + place .own) (place .free) (place .all) bodies mid → Wrote b mid (place .all - place .own) bodies′ q
+    → TakesOut (place .index) n fragment-heads fragment-heads₁ → head ≡ p * 281474976710656 + flags % 64 * 1099511627776 + length b
+    → PutsBehind (place .index) p flags b n (place .leading) fragment-heads bodies (record { count = count + 1; leading = count + 1 }) (set fragment-heads₁ count head) bodies′
+put place p flags b n fragment-heads bodies few s ns fit mid count q head fragment-heads₁ bodies′ ec same m w out eh = record {
+  held = λ L fs at k.
+      let T : ℕ = L .total in
+      let small : count < 256 = others-small (place .index) n count (s .index-low) few (ns .few) ec in
+      let c : othersOf (place .index) n ≡ length (without p fs) = out p fs (k .hold .once) at (k .heads) .count in
+      let bytes = others-bytes T p fs (place .index) n (place .leading) fragment-heads bodies at (s .index-low) k in
+      let e : holdFirst L p flags b fs ≡ heldBehind p flags b fs = held-so L p flags b fs (omega arith) (omega (arith, s .own-is, s .all-is, k .total)) in
+      let hold : HoldsFragments T (heldBehind p flags b fs) = subst (HoldsFragments T) e (first-holds L p flags b fs (k .hold)) in (
+        subst (λ (l : List Fragment). KeptFragments T l (count + 1) (count + 1) (set fragment-heads₁ count head) bodies′) (sym e)
+            (put-kept T p fs (place .index) n (place .leading) fragment-heads bodies at (s .index-low) k (s .leading-low) (place .start) (place .start + place .own) (place .free) (place .all) mid (s .start-is)
+            (ap (λ (z : ℕ). place .start + z) (s .own-is)) (s .free-is) (s .all-is) m flags b (place .all - place .own) count q fragment-heads₁ (set fragment-heads₁ count head) bodies′
+            (ap (λ (z : ℕ). place .all - z) (s .own-is)) ec small same w out (ap (set fragment-heads₁ count) eh) hold),
+        e,
+      );
+  leading-is = ap (λ (z : ℕ). z + 1) ec;
+  once = let o = pack-numbers n fragment-heads bodies place s ns in
+      once-put (place .index) (place .leading) (place .start) (place .start + place .own) (place .free) (place .all) bodies mid b bodies′ q (omega arith) (o .0) (o .1) (o .2) (o .3) (o .4) (omega arith) m
+      (subst (λ (z : ℕ). Wrote b mid z bodies′ q) (let z : place .all - place .own ≡ place .all - (place .start + place .own - place .start) = omega arith in z) w);
+}
 
 pub first-room : (index : ℕ) (b : Bytes) (rest : ℕ) (bodies : Bytes) → (ltb index 256 && leb (rest + length b) (length bodies)) ≡ true → (index < 256) × (rest + length b ≤ length bodies)
 first-room index b rest bodies e =
     let h = and-both (ltb index 256) (leb (rest + length b) (length bodies)) e in
     (ltb-true index 256 (h .0), leb-true (rest + length b) (length bodies) (h .1))
 
--- by the bytes of the others
-module _ (index p flags : ℕ) (b : Bytes) (n leading : ℕ) (fragment-heads bodies : List ℕ) (e : index ≡ indexIn p (take n fragment-heads)) (le : index ≤ n) (rest : ℕ)
-    (er : rest ≡ lens (take n fragment-heads) - lengthAt index n fragment-heads) where
-  pub first-held : (near : ℕ) (r : Held) (fragment-heads′ bodies′ : List ℕ) → Nearest n leading near → PutsBehind index p flags b n near fragment-heads bodies r fragment-heads′ bodies′
+-- by the place of what it takes the place of
+module _ (p flags : ℕ) (b : Bytes) (n leading : ℕ) (fragment-heads bodies : List ℕ) (place : Place) (e : place .index ≡ indexIn p (take n fragment-heads)) (s : Stands n fragment-heads place) where
+  pub first-held : (r : Held) (fragment-heads′ bodies′ : List ℕ) → Nearest n leading (place .leading) → PutsBehind (place .index) p flags b n (place .leading) fragment-heads bodies r fragment-heads′ bodies′
       → HoldsFirst p flags b n leading fragment-heads bodies r fragment-heads′ bodies′
-  first-held near r fragment-heads′ bodies′ m g = record {
+  first-held r fragment-heads′ bodies′ m g = record {
     held = λ L fs k.
-        let at : index ≡ indexOf p fs = e ∙ index-is (L .total) fs n leading fragment-heads bodies k p in
-        let h = g .held L fs at (nearest-kept (L .total) fs n leading fragment-heads bodies k near m) in
+        let at : place .index ≡ indexOf p fs = e ∙ index-is (L .total) fs n leading fragment-heads bodies k p in
+        let h = g .held L fs at (nearest-kept (L .total) fs n leading fragment-heads bodies k (place .leading) m) in
         record {
           kept = h .0;
-          leading-is = g .leading-is ∙ ap (λ (z : ℕ). z + 1) (others-count index n p fs (k .heads .count) at (k .hold .once))
+          leading-is = g .leading-is ∙ ap (λ (z : ℕ). z + 1) (others-count (place .index) n p fs (k .heads .count) at (k .hold .once))
               ∙ sym (leading-behind p fs leading (record { identifier = p; flags = flags % 64; body = b }) refl) ∙ ap (λ (l : List Fragment). leadingAfter p fs l leading) (sym (h .1));
         };
     once = g .once;
   }
 
-  pub first-not-held : (r : Held) (fragment-heads′ bodies′ : List ℕ) → n ≤ 256 → (ltb index 256 && leb (rest + length b) (length bodies)) ≡ false
-      → DropsAt index n leading fragment-heads bodies r fragment-heads′ bodies′ → HoldsFirst p flags b n leading fragment-heads bodies r fragment-heads′ bodies′
-  first-not-held r fragment-heads′ bodies′ few test g = record {
+  pub first-not-held : (r : Held) (fragment-heads′ bodies′ : List ℕ) → n ≤ 256 → (ltb (place .index) 256 && leb (place .all - place .own + length b) (length bodies)) ≡ false
+      → DropsAt (place .index) n leading fragment-heads bodies r fragment-heads′ bodies′ → HoldsFirst p flags b n leading fragment-heads bodies r fragment-heads′ bodies′
+  first-not-held r fragment-heads′ bodies′ few wrong g = record {
     held = λ L fs k.
-        let at : index ≡ indexOf p fs = e ∙ index-is (L .total) fs n leading fragment-heads bodies k p in
-        subst (λ (l : List Fragment). HeldAfter (L .total) p fs l leading r fragment-heads′ bodies′) (sym (gone (ltb index 256) refl L fs at k)) (g .left (L .total) p fs at k);
+        let at : place .index ≡ indexOf p fs = e ∙ index-is (L .total) fs n leading fragment-heads bodies k p in
+        subst (λ (l : List Fragment). HeldAfter (L .total) p fs l leading r fragment-heads′ bodies′) (sym (gone (ltb (place .index) 256) refl L fs at k)) (g .left (L .total) p fs at k);
     once = g .once b;
   }
     where
-      gone : (x : Bool) → ltb index 256 ≡ x → (L : Limits) (fs : List Fragment) → index ≡ indexOf p fs → KeptFragments (L .total) fs n leading fragment-heads bodies
+      gone : (x : Bool) → ltb (place .index) 256 ≡ x → (L : Limits) (fs : List Fragment) → place .index ≡ indexOf p fs → KeptFragments (L .total) fs n leading fragment-heads bodies
           → holdFirst L p flags b fs ≡ without p fs
       gone true q L fs at k =
-          let z : leb (rest + length b) (length bodies) ≡ false = subst (λ (x : Bool). (x && leb (rest + length b) (length bodies)) ≡ false) q test in
-          let bytes = others-bytes (L .total) p fs index n leading fragment-heads bodies at le k in
-          short-so L p flags b fs (omega (arith, er, leb-false (rest + length b) (length bodies) z, k .total))
+          let z : leb (place .all - place .own + length b) (length bodies) ≡ false = subst (λ (x : Bool). (x && leb (place .all - place .own + length b) (length bodies)) ≡ false) q wrong in
+          let bytes = others-bytes (L .total) p fs (place .index) n leading fragment-heads bodies at (s .index-low) k in
+          short-so L p flags b fs (omega (arith, s .own-is, s .all-is, leb-false (place .all - place .own + length b) (length bodies) z, k .total))
       gone false q L fs at k =
-          let h : 256 ≤ index = ltb-false index 256 q in
+          let h : 256 ≤ place .index = ltb-false (place .index) 256 q in
           let l : length fs ≤ indexOf p fs = omega (arith, k .heads .count) in
           full-so L p flags b fs (omega (arith, ap length (missing p fs l .0), k .heads .count))
 
@@ -222,54 +240,62 @@ module _ (m old most all total : ℕ) where
 
 -- ---- a further body
 
-pub lengthened : (index : ℕ) (b : Bytes) (n leading : ℕ) (fragment-heads bodies : List ℕ) (old end all : ℕ) (mid fragment-heads′ bodies′ : List ℕ) (q : ℕ) → index < n → leading ≤ n → Numbers n fragment-heads bodies
-    → lens (take n fragment-heads) + length b ≤ length bodies → old ≡ lens (take leading fragment-heads) → end ≡ lens (take (index + 1) fragment-heads) → all ≡ lens (take n fragment-heads)
-    → FreeMoved leading (index + 1) old end all bodies mid → length bodies′ ≡ length mid → Wrote b mid end bodies′ q → fragment-heads′ ≡ set fragment-heads index (getD fragment-heads index 0 + length b)
-    → Lengthens index b n leading fragment-heads bodies fragment-heads′ bodies′
-lengthened index b n leading fragment-heads bodies old end all mid fragment-heads′ bodies′ q lt low ns fit eo ee ea m same w eh = record {
+pub lengthened : (place : Place) (b : Bytes) (n : ℕ) (fragment-heads bodies : List ℕ) (mid fragment-heads′ bodies′ : List ℕ) (q : ℕ) → place .index < n → Stands n fragment-heads place
+    → Numbers n fragment-heads bodies → place .all + length b ≤ length bodies
+    → FreeMoved (place .leading) (place .index + 1) (place .free) (place .start + place .own) (place .all) bodies mid → length bodies′ ≡ length mid
+    → Wrote b mid (place .start + place .own) bodies′ q → fragment-heads′ ≡ set fragment-heads (place .index) (getD fragment-heads (place .index) 0 + length b)
+    → Lengthens (place .index) b n (place .leading) fragment-heads bodies fragment-heads′ bodies′
+lengthened place b n fragment-heads bodies mid fragment-heads′ bodies′ q lt s ns fit m same w eh = record {
   grows = λ T p fs at k hold.
-      let k′ = free-moved T fs n leading fragment-heads bodies k (index + 1) old end all mid low (omega arith) eo ee ea m in
-      grown-in T p fs index n (index + 1) fragment-heads mid at lt k′ b fragment-heads′ bodies′ q refl (omega (arith, m .same)) same
+      let k′ = free-moved T fs n (place .leading) fragment-heads bodies k (place .index + 1) (place .free) (place .start + place .own) (place .all) mid (s .leading-low) (omega arith) (s .free-is) ee (s .all-is) m in
+      grown-in T p fs (place .index) n (place .index + 1) fragment-heads mid at lt k′ b fragment-heads′ bodies′ q refl (omega (arith, s .all-is, m .same)) same
       (subst (λ (z : ℕ). Wrote b mid z bodies′ q) ee w) eh hold;
-  once = let f = free-numbers fragment-heads n leading (index + 1) old end all (length bodies) low (omega arith) (ns .within) eo ee ea in
-      once-grown leading (index + 1) old end all bodies mid (f .0) (f .1) (f .2) (f .3) (f .4) m b bodies′ q (omega (arith, ea)) w;
+  once = let f = free-numbers fragment-heads n (place .leading) (place .index + 1) (place .free) (place .start + place .own) (place .all) (length bodies) (s .leading-low) (omega arith) (ns .within) (s .free-is) ee (s .all-is) in
+      once-grown (place .leading) (place .index + 1) (place .free) (place .start + place .own) (place .all) bodies mid (f .0) (f .1) (f .2) (f .3) (f .4) m b bodies′ q fit w;
 }
+  where
+    ee : place .start + place .own ≡ lens (take (place .index + 1) fragment-heads)
+    ee = ends-so n fragment-heads place s lt
 
--- by the length that its head tells and by that of all
-module _ (index most : ℕ) (b : Bytes) (n leading : ℕ) (fragment-heads bodies : List ℕ) (old all : ℕ) (eo : old ≡ fragmentLength (getD fragment-heads index 0)) (ea : all ≡ lens (take n fragment-heads)) where
+-- by its place
+module _ (most : ℕ) (b : Bytes) (n leading : ℕ) (fragment-heads bodies : List ℕ) (place : Place) (s : Stands n fragment-heads place) (lt : place .index < n) where
   abbrev test : Bool
-  test = leb (old + length b) most && leb (all + length b) (length bodies)
+  test = leb (place .own + length b) most && leb (place .all + length b) (length bodies)
 
-  pub fits-room : test ≡ true → lens (take n fragment-heads) + length b ≤ length bodies
-  fits-room ok = omega (arith, leb-true (all + length b) (length bodies) (and-both (leb (old + length b) most) (leb (all + length b) (length bodies)) ok .1))
+  pub fits-room : test ≡ true → place .all + length b ≤ length bodies
+  fits-room ok = leb-true (place .all + length b) (length bodies) (and-both (leb (place .own + length b) most) (leb (place .all + length b) (length bodies)) ok .1)
 
-  fits-is : (L : Limits) (p : ℕ) (fs : List Fragment) → L .most ≡ most → KeptFragments (L .total) fs n leading fragment-heads bodies → (t : There p fs index fragment-heads)
+  own-length : (T p : ℕ) (fs : List Fragment) → place .index ≡ indexOf p fs → KeptFragments T fs n leading fragment-heads bodies → (t : There p fs (place .index) fragment-heads) → place .own ≡ length (t .fragment .body)
+  own-length T p fs at k t =
+      let ns = numbers T fs n leading fragment-heads bodies k in
+      let len : fragmentLength (getD fragment-heads (place .index) 0) ≡ length (t .fragment .body) = ap fragmentLength (t .head-is) ∙ t .tells .length-is in
+      let turn = lens-turn fragment-heads (place .index) (omega (arith, ns .few, ns .slots-all)) in
+      omega (arith, s .own-is, own-turn fragment-heads (place .index) n (omega arith))
+
+  fits-is : (L : Limits) (p : ℕ) (fs : List Fragment) → place .index ≡ indexOf p fs → L .most ≡ most → KeptFragments (L .total) fs n leading fragment-heads bodies → (t : There p fs (place .index) fragment-heads)
       → fits L (t .fragment) b fs ≡ test
   unfolding fits
-  fits-is L p fs em k t =
-      let f = t .fragment in
-      let e : length (f .body) ≡ old = sym (eo ∙ ap fragmentLength (t .head-is) ∙ t .tells .length-is) in
-      ap₂ (λ (x y : Bool). x && y) (ap₂ (λ (x y : ℕ). leb (x + length b) y) e em)
-      (ap₂ (λ (x y : ℕ). leb (x + length b) y) (sym (ea ∙ sum-is (L .total) fs n leading fragment-heads bodies k)) (sym (k .total)))
+  fits-is L p fs at em k t =
+      ap₂ (λ (x y : Bool). x && y) (ap₂ (λ (x y : ℕ). leb (x + length b) y) (sym (own-length (L .total) p fs at k t)) em)
+      (ap₂ (λ (x y : ℕ). leb (x + length b) y) (sym (s .all-is ∙ sum-is (L .total) fs n leading fragment-heads bodies k)) (sym (k .total)))
 
-  pub grew : (near start end flags : ℕ) (fragment-heads′ bodies′ : List ℕ) → index < n → Numbers n fragment-heads bodies → Nearest n leading near → start ≡ lens (take index fragment-heads)
-      → end ≡ lens (take (index + 1) fragment-heads) + length b → flags ≡ fragmentFlags (getD fragment-heads index 0) → test ≡ true
-      → Lengthens index b n near fragment-heads bodies fragment-heads′ bodies′
-      → GrowsAtIndex index most b n leading fragment-heads bodies (Grown.At start end flags (record { count = n; leading = index + 1 })) fragment-heads′ bodies′
-  grew near start end flags fragment-heads′ bodies′ lt ns m es ee ef ok u = record {
+  pub grew : (end flags : ℕ) (fragment-heads′ bodies′ : List ℕ) → Nearest n leading (place .leading)
+      → end ≡ place .start + place .own + length b → flags ≡ fragmentFlags (getD fragment-heads (place .index) 0) → test ≡ true
+      → Lengthens (place .index) b n (place .leading) fragment-heads bodies fragment-heads′ bodies′
+      → GrowsAtIndex (place .index) most b n leading fragment-heads bodies (Grown.At (place .start) end flags (record { count = n; leading = place .index + 1 })) fragment-heads′ bodies′
+  grew end flags fragment-heads′ bodies′ m ee ef ok u = record {
     is = λ L p fs at em k.
-        let t = there (L .total) p fs index n leading fragment-heads bodies at lt k in
+        let t = there (L .total) p fs (place .index) n leading fragment-heads bodies at lt k in
         let f = t .fragment in
-        let fit : fits L f b fs ≡ true = fits-is L p fs em k t ∙ ok in
+        let fit : fits L f b fs ≡ true = fits-is L p fs at em k t ∙ ok in
         let hold : HoldsFragments (L .total) (growIn p b fs) =
         subst (λ (a : Bool). HoldsFragments (L .total) (cond a (growIn p b fs) (without p fs))) fit (middle-holds L p b fs (some f) (k .hold)) in
-        let g = u .grows (L .total) p fs at (nearest-kept (L .total) fs n leading fragment-heads bodies k near m) hold in
+        let g = u .grows (L .total) p fs at (nearest-kept (L .total) fs n leading fragment-heads bodies k (place .leading) m) hold in
         let one : g .fragment ≡ f = Option·some-injective _ _ (sym (g .found) ∙ t .found) in
-        let len : fragmentLength (getD fragment-heads index 0) ≡ length (f .body) = ap fragmentLength (t .head-is) ∙ t .tells .length-is in
-        let turn : lens (take (index + 1) fragment-heads) ≡ lens (take index fragment-heads) + fragmentLength (getD fragment-heads index 0) = lens-turn fragment-heads index (omega (arith, ns .few, ns .slots-all)) in
-        let less : lens (take (index + 1) fragment-heads) ≤ lens (take n fragment-heads) = lens-less fragment-heads (index + 1) n (omega arith) in
-        let room-fits : lens (take n fragment-heads) + length b ≤ length bodies = fits-room ok in
-        let size : end - start ≡ length (f .body) + length b = omega arith in
+        let len : place .own ≡ length (f .body) = own-length (L .total) p fs at k t in
+        let less : place .start + place .own ≤ place .all = stands-so n fragment-heads place s .0 in
+        let room-fits : place .all + length b ≤ length bodies = fits-room ok in
+        let size : end - place .start ≡ length (f .body) + length b = omega arith in
         record {
           fragment = f;
           found = t .found;
@@ -280,21 +306,21 @@ module _ (index most : ℕ) (b : Bytes) (n leading : ℕ) (fragment-heads bodies
           flags-are = ef ∙ ap fragmentFlags (t .head-is) ∙ t .tells .flags-are;
           ordered = omega arith;
           inside = omega (arith, g .kept .total, k .total);
-          body-is = ap₂ (λ (j i : ℕ). take j (drop i bodies′)) size es
-              ∙ subst (λ (h : Fragment). take (length (h .body) + length b) (drop (lens (take index fragment-heads)) bodies′) ≡ h .body ++ b) one (g .body-is);
+          body-is = ap₂ (λ (j i : ℕ). take j (drop i bodies′)) size (s .start-is)
+              ∙ subst (λ (h : Fragment). take (length (h .body) + length b) (drop (lens (take (place .index) fragment-heads)) bodies′) ≡ h .body ++ b) one (g .body-is);
         };
     once = u .once;
   }
 
-  pub discarded : (r : Held) (fragment-heads′ bodies′ : List ℕ) → index < n → test ≡ false → DropsAt index n leading fragment-heads bodies r fragment-heads′ bodies′
-      → GrowsAtIndex index most b n leading fragment-heads bodies (Grown.Discarded r) fragment-heads′ bodies′
-  discarded r fragment-heads′ bodies′ lt wrong u = record {
+  pub discarded : (r : Held) (fragment-heads′ bodies′ : List ℕ) → test ≡ false → DropsAt (place .index) n leading fragment-heads bodies r fragment-heads′ bodies′
+      → GrowsAtIndex (place .index) most b n leading fragment-heads bodies (Grown.Discarded r) fragment-heads′ bodies′
+  discarded r fragment-heads′ bodies′ wrong u = record {
     is = λ L p fs at em k.
-        let t = there (L .total) p fs index n leading fragment-heads bodies at lt k in
+        let t = there (L .total) p fs (place .index) n leading fragment-heads bodies at lt k in
         record {
           fragment = t .fragment;
           found = t .found;
-          fitting = fits-is L p fs em k t ∙ wrong;
+          fitting = fits-is L p fs at em k t ∙ wrong;
           left = u .left (L .total) p fs at k;
         };
     once = u .once b;

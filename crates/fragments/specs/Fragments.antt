@@ -17,6 +17,7 @@ use Rattle.meaning.specs.Soundness.{distinct, identifiers, HoldsFragments}
 use Rattle.meaning.specs.declared.Limits.{Limits}
 use Rattle.fragments.specs.declared.Held.{Held}
 use Rattle.fragments.specs.declared.Grown.{Grown}
+use Rattle.fragments.specs.declared.Place.{Place}
 
 -- ---- heads alone
 
@@ -98,6 +99,15 @@ pub record Nearest (n leading r : ℕ) : Type 0 where
   pub low : r ≤ n
   pub within : leading ≤ n → r ≡ leading
   pub above : n ≤ leading → r ≡ n
+
+-- A place, by the lengths in the heads: of the fragment at its index, or of one that would stand behind all.
+pub record Stands (n : ℕ) (fragment-heads : List ℕ) (place : Place) : Type 0 where
+  pub index-low : place .index ≤ n
+  pub leading-low : place .leading ≤ n
+  pub start-is : place .start ≡ lens (take (place .index) fragment-heads)
+  pub own-is : place .own ≡ lengthAt (place .index) n fragment-heads
+  pub free-is : place .free ≡ lens (take (place .leading) fragment-heads)
+  pub all-is : place .all ≡ lens (take n fragment-heads)
 
 -- ---- a fragment given up
 

@@ -9,7 +9,7 @@ ghost use lib.ListN.{length, take, drop};
 ghost use lib.Dec.{leb, ltb};
 ghost use Rattle.meaning.specs.Writing.{Wrote};
 ghost use Rattle.meaning.specs.Record.{fragmentFlags, fragmentLength, lens};
-ghost use Rattle.fragments.specs.Fragments.{indexIn, othersOf, lengthAt, TakesOut, FreeMoved, Packed, KeepsFragments, Numbers, Nearest, GivesUp, DropsAt, Drops, GivesBack, PutsBehind, HoldsFirst, Lengthens, GrowsWithin, GrowsAtIndex, LearnsMiddle};
+ghost use Rattle.fragments.specs.Fragments.{indexIn, othersOf, lengthAt, TakesOut, FreeMoved, Packed, KeepsFragments, Numbers, Nearest, Stands, GivesUp, DropsAt, Drops, GivesBack, PutsBehind, HoldsFirst, Lengthens, GrowsWithin, GrowsAtIndex, LearnsMiddle};
 use octets::copy;
 use octets::move_down;
 use octets::move_up;
@@ -225,52 +225,74 @@ pub fn give_back(n: usize, leading: usize, fragment_heads: &mut [u64; 256]) -> H
     }
 }
 
-// Packs all bodies at the front but the one at `index`, from `start` to `end`: first what stands between it and the free bytes goes down, then
-// what stands behind both. Were it given up before, what leads behind it would go up, and then down again.
-fn pack(
+// Where a fragment stands, and where the free bytes do, counted as if none were free: it has `own` bytes from `start` on, they are at `free`, and
+// all fragments have `all` bytes.
+struct Place {
     index: usize,
     leading: usize,
     start: usize,
-    end: usize,
-    old: usize,
+    own: usize,
+    free: usize,
     all: usize,
-    bodies: &mut [u8],
-)
-    requires { ⌜ (start ≤ end) × (end ≤ all) × (old ≤ all) × (all ≤ length (now bodies)) × (index < leading → end ≤ old) × (leading ≤ index → old ≤ start) ⌝ }
-    ensures { λ _. ⌜ Packed index leading start end old all (now (bodies .entry)) (now (bodies .exit)) ⌝ }
+}
+
+// The place of the fragment at `index`, or of one that would stand behind all.
+fn place_of(index: usize, n: usize, leading: usize, fragment_heads: &[u64; 256]) -> Place
+    requires { ⌜ (index ≤ n) × (n ≤ 256) × (length (now «fragment_heads») ≡ 256) ⌝ }
+    ensures { λ r. ⌜ (r .index ≡ index) × Nearest n leading (r .leading) × Stands n (now («fragment_heads» .entry)) r ⌝ }
+{
+    let near = nearest(n, leading);
+    let start = fragment_bytes(fragment_heads, index);
+    let own = length_at(fragment_heads, n, index);
+    let free = fragment_bytes(fragment_heads, near);
+    let all = fragment_bytes(fragment_heads, n);
+    Place {
+        index,
+        leading: near,
+        start,
+        own,
+        free,
+        all,
+    }
+}
+
+// Packs all bodies at the front but the one of this place: first what stands between it and the free bytes goes down, then what stands behind
+// both. Were it given up before, what leads behind it would go up, and then down again.
+fn pack(place: Place, bodies: &mut [u8])
+    requires { ⌜ (place .start + place .own ≤ place .all) × (place .free ≤ place .all) × (place .all ≤ length (now bodies)) × (place .index < place .leading → place .start + place .own ≤ place .free) × (place .leading ≤ place .index → place .free ≤ place .start) ⌝ }
+    ensures { λ _. ⌜ Packed (place .index) (place .leading) (place .start) (place .start + place .own) (place .free) (place .all) (now (bodies .entry)) (now (bodies .exit)) ⌝ }
 {
     let total = bodies.len();
-    if index < leading {
-        move_down(bodies, end, old - end, start);
-        move_down(bodies, total - (all - old), all - old, old - (end - start));
+    let start = place.start;
+    let end = start + place.own;
+    let free = place.free;
+    let all = place.all;
+    if place.index < place.leading {
+        move_down(bodies, end, free - end, start);
+        move_down(bodies, total - (all - free), all - free, free - place.own);
         return;
     }
-    move_down(bodies, total - (all - old), start - old, old);
+    move_down(bodies, total - (all - free), start - free, free);
     move_down(bodies, total - (all - end), all - end, start);
 }
 
-// Holds a first behind the others; what was held of its identifier, at `index`, goes.
+// Holds a first behind the others; what was held of its identifier, at this place, goes.
 fn put_behind(
-    index: usize,
+    place: Place,
     id: u16,
     flags: u8,
     body: &[u8],
     n: usize,
-    leading: usize,
     fragment_heads: &mut [u64; 256],
     bodies: &mut [u8],
 ) -> Held
-    requires { ⌜ (index ≤ n) × (index < 256) × (leading ≤ n) × Numbers n (now «fragment_heads») (now bodies) × (lens (take n (now «fragment_heads»)) - lengthAt index n (now «fragment_heads») + length (now body) ≤ length (now bodies)) ⌝ }
-    ensures { λ r. ⌜ PutsBehind index id flags (now (body .entry)) n leading (now («fragment_heads» .entry)) (now (bodies .entry)) r (now («fragment_heads» .exit)) (now (bodies .exit)) ⌝ }
+    requires { ⌜ (place .index < 256) × Stands n (now «fragment_heads») place × Numbers n (now «fragment_heads») (now bodies) × (place .all - place .own + length (now body) ≤ length (now bodies)) ⌝ }
+    ensures { λ r. ⌜ PutsBehind (place .index) id flags (now (body .entry)) n (place .leading) (now («fragment_heads» .entry)) (now (bodies .entry)) r (now («fragment_heads» .exit)) (now (bodies .exit)) ⌝ }
 {
-    let start = fragment_bytes(fragment_heads, index);
-    let own = length_at(fragment_heads, n, index);
-    let old = fragment_bytes(fragment_heads, leading);
-    let all = fragment_bytes(fragment_heads, n);
-    pack(index, leading, start, start + own, old, all, bodies);
-    copy(body, bodies, all - own);
-    take_out(fragment_heads, n, index);
-    let count = others(index, n);
+    pack(place, bodies);
+    copy(body, bodies, place.all - place.own);
+    take_out(fragment_heads, n, place.index);
+    let count = others(place.index, n);
     fragment_heads[count] = fragment_head(id, flags, body.len());
     Held {
         count: count + 1,
@@ -303,13 +325,11 @@ pub fn hold_first(
     ensures { λ r. ⌜ HoldsFirst id flags (now (body .entry)) n leading (now («fragment_heads» .entry)) (now (bodies .entry)) r (now («fragment_heads» .exit)) (now (bodies .exit)) ⌝ }
 {
     let index = find_fragment(fragment_heads, n, id);
-    let own = length_at(fragment_heads, n, index);
-    let all = fragment_bytes(fragment_heads, n);
-    if first_fits(index, body.len(), all - own, bodies.len()) {
-        let near = nearest(n, leading);
-        return put_behind(index, id, flags, body, n, near, fragment_heads, bodies);
+    let place = place_of(index, n, leading, fragment_heads);
+    if first_fits(place.index, body.len(), place.all - place.own, bodies.len()) {
+        return put_behind(place, id, flags, body, n, fragment_heads, bodies);
     }
-    drop_at(index, n, leading, fragment_heads, bodies)
+    drop_at(place.index, n, leading, fragment_heads, bodies)
 }
 
 // Whether `m` bytes more keep a fragment of `old` bytes within `most`, and all fragments within `total`.
@@ -326,24 +346,22 @@ fn fits(m: usize, old: usize, most: usize, all: usize, total: usize) -> bool
     m <= total - all
 }
 
-// The fragment at `index` with `body` behind it: the free bytes come there and take it up. Answers where it ends then.
+// The fragment of this place with `body` behind it: the free bytes come there and take it up. Answers where it ends then.
 fn lengthen(
-    index: usize,
+    place: Place,
     body: &[u8],
     n: usize,
-    leading: usize,
     fragment_heads: &mut [u64; 256],
     bodies: &mut [u8],
 ) -> usize
-    requires { ⌜ (index < n) × (leading ≤ n) × Numbers n (now «fragment_heads») (now bodies) × (lens (take n (now «fragment_heads»)) + length (now body) ≤ length (now bodies)) ⌝ }
-    ensures { λ r. ⌜ Lengthens index (now (body .entry)) n leading (now («fragment_heads» .entry)) (now (bodies .entry)) (now («fragment_heads» .exit)) (now (bodies .exit)) ⌝ }
-    ensures { λ r. ⌜ r ≡ lens (take (index + 1) (now («fragment_heads» .entry))) + length (now (body .entry)) ⌝ }
+    requires { ⌜ (place .index < n) × Stands n (now «fragment_heads») place × Numbers n (now «fragment_heads») (now bodies) × (place .all + length (now body) ≤ length (now bodies)) ⌝ }
+    ensures { λ r. ⌜ Lengthens (place .index) (now (body .entry)) n (place .leading) (now («fragment_heads» .entry)) (now (bodies .entry)) (now («fragment_heads» .exit)) (now (bodies .exit)) ⌝ }
+    ensures { λ r. ⌜ r ≡ place .start + place .own + length (now (body .entry)) ⌝ }
 {
-    let old = fragment_bytes(fragment_heads, leading);
-    let end = fragment_bytes(fragment_heads, index + 1);
-    let all = fragment_bytes(fragment_heads, n);
+    let index = place.index;
+    let end = place.start + place.own;
     let m = body.len();
-    move_free(leading, index + 1, old, end, all, bodies);
+    move_free(place.leading, index + 1, place.free, end, place.all, bodies);
     copy(body, bodies, end);
     fragment_heads[index] = longer(fragment_heads[index], m);
     end + m
@@ -361,9 +379,9 @@ pub enum Grown {
     Absent,
 }
 
-// The fragment at `index` grows by `body` within the limits, or is given up.
+// The fragment of this place grows by `body` within the limits, or is given up.
 fn grow_at(
-    index: usize,
+    place: Place,
     body: &[u8],
     most: usize,
     n: usize,
@@ -371,23 +389,21 @@ fn grow_at(
     fragment_heads: &mut [u64; 256],
     bodies: &mut [u8],
 ) -> Grown
-    requires { ⌜ (index < n) × Numbers n (now «fragment_heads») (now bodies) ⌝ }
-    ensures { λ r. ⌜ GrowsAtIndex index most (now (body .entry)) n leading (now («fragment_heads» .entry)) (now (bodies .entry)) r (now («fragment_heads» .exit)) (now (bodies .exit)) ⌝ }
+    requires { ⌜ (place .index < n) × Nearest n leading (place .leading) × Stands n (now «fragment_heads») place × Numbers n (now «fragment_heads») (now bodies) ⌝ }
+    ensures { λ r. ⌜ GrowsAtIndex (place .index) most (now (body .entry)) n leading (now («fragment_heads» .entry)) (now (bodies .entry)) r (now («fragment_heads» .exit)) (now (bodies .exit)) ⌝ }
 {
-    let head = fragment_heads[index];
-    let all = fragment_bytes(fragment_heads, n);
-    if fits(body.len(), length_of(head), most, all, bodies.len()) {
-        let start = fragment_bytes(fragment_heads, index);
-        let near = nearest(n, leading);
-        let end = lengthen(index, body, n, near, fragment_heads, bodies);
+    let index = place.index;
+    if fits(body.len(), place.own, most, place.all, bodies.len()) {
+        let flags = flags_of(fragment_heads[index]);
+        let end = lengthen(place, body, n, fragment_heads, bodies);
         let held = Held {
             count: n,
             leading: index + 1,
         };
         return Grown::At {
-            start,
+            start: place.start,
             end,
-            flags: flags_of(head),
+            flags,
             held,
         };
     }
@@ -409,7 +425,8 @@ pub fn grow(
 {
     let index = find_fragment(fragment_heads, n, id);
     if index < n {
-        return grow_at(index, body, most, n, leading, fragment_heads, bodies);
+        let place = place_of(index, n, leading, fragment_heads);
+        return grow_at(place, body, most, n, leading, fragment_heads, bodies);
     }
     Grown::Absent
 }
