@@ -225,8 +225,8 @@ pub fn give_back(n: usize, leading: usize, fragment_heads: &mut [u64; 256]) -> H
     }
 }
 
-// Where a fragment stands, and where the free bytes do, counted as if none were free: it has `own` bytes from `start` on, they are at `free`, and
-// all fragments have `all` bytes.
+// Where the fragment at `index` stands, and where the free bytes do, behind the first `leading`. Counted as if none were free, it has `own` bytes
+// from `start` on, and they are at `free`; all fragments have `all` bytes.
 struct Place {
     index: usize,
     leading: usize,
