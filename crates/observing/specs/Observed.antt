@@ -53,6 +53,10 @@ withHeld e h = record {
   news = e .news;
 }
 
+-- The extent tells what is held afterwards, whatever is said of that; all else in it is as it was.
+abbrev pub Tells : (Held → Type 0) → Extent → Extent → Type 0
+Tells said e r = (h : Held) × (r ≡ withHeld e h) × said h
+
 -- A whole payload, by its first byte and its bytes from 2 on.
 abbrev pub wholeStep : ℕ → ℕ → Bytes → Limits → Known → Learnt
 wholeStep p flags b L k = learnMessages p (messages (flags ∷ 0 ∷ b)) (withFragments (without p (k .fragments)) k)

@@ -5,9 +5,10 @@ ghost use lib.ListN.{length, drop};
 ghost use Rattle.meaning.specs.Learn.{last, observe};
 ghost use Rattle.meaning.specs.Leading.{leadingObserved};
 ghost use Rattle.meaning.specs.Moves.{MovedOnce};
+ghost use Rattle.fragments.specs.Fragments.{KeepsFragments, HoldsFirst, LearnsMiddle};
 ghost use Rattle.learning.specs.News.{also};
 ghost use Rattle.observing.specs.News.{anything, news};
-ghost use Rattle.observing.specs.Observed.{HoldingSome, Observes, leadBy, withHeld, wholeStep, wholeNew, lastStep, lastNew, byStep, byNew};
+ghost use Rattle.observing.specs.Observed.{HoldingSome, Observes, leadBy, withHeld, Tells, wholeStep, wholeNew, lastStep, lastNew, byStep, byNew};
 use crate::messages::learn;
 use fragments::Grown;
 use fragments::Held;
@@ -15,7 +16,6 @@ use fragments::drop_fragment;
 use fragments::give_back;
 use fragments::grow;
 use fragments::hold_first;
-use fragments::middle;
 use learning::Extent;
 use learning::News;
 use learning::with_news;
@@ -83,6 +83,38 @@ fn whole(
     )
 }
 
+// A first: it is held, if there is room.
+fn first(
+    body: &[u8],
+    p: Piece,
+    e: Extent,
+    fragment_heads: &mut [u64; 256],
+    bodies: &mut [u8],
+) -> Extent
+    requires { ⌜ KeepsFragments (e .«fragment_count») (e .leading) (now «fragment_heads») (now bodies) ⌝ }
+    ensures { λ r. ⌜ Tells (λ h. HoldsFirst (p .id) (p .flags) (now (body .entry)) (e .«fragment_count») (e .leading) (now («fragment_heads» .entry)) (now (bodies .entry)) h (now («fragment_heads» .exit)) (now (bodies .exit))) e r ⌝ }
+{
+    let n = e.fragment_count;
+    let held = hold_first(p.id, p.flags, body, n, e.leading, fragment_heads, bodies);
+    with_held(e, held)
+}
+
+// A middle: joined to what is held of its message, if it fits.
+fn middle(
+    body: &[u8],
+    p: Piece,
+    e: Extent,
+    fragment_heads: &mut [u64; 256],
+    bodies: &mut [u8],
+) -> Extent
+    requires { ⌜ KeepsFragments (e .«fragment_count») (e .leading) (now «fragment_heads») (now bodies) ⌝ }
+    ensures { λ r. ⌜ Tells (λ h. LearnsMiddle (p .id) (p .most) (now (body .entry)) (e .«fragment_count») (e .leading) (now («fragment_heads» .entry)) (now (bodies .entry)) h (now («fragment_heads» .exit)) (now (bodies .exit))) e r ⌝ }
+{
+    let n = e.fragment_count;
+    let held = fragments::middle(p.id, body, p.most, n, e.leading, fragment_heads, bodies);
+    with_held(e, held)
+}
+
 // A last fragment: joined, its message is learned where it lies, and its room is given back.
 fn last(
     body: &[u8],
@@ -146,10 +178,7 @@ fn by_indicator(
     requires { ⌜ (e .lost + length (now body) + length (now bodies) ≤ 18446744073709551615) × HoldingSome e (now «data_set») (now packages) (now «map_heads») (now «map_room») (now «fragment_heads») (now bodies) ⌝ }
     ensures { λ r. ⌜ Observes (byStep (p .id) (p .flags) (now (body .entry))) (byNew (p .id) (p .flags) (now (body .entry))) (leadBy (p .id) (byStep (p .id) (p .flags) (now (body .entry)))) (p .most) e (now («data_set» .entry)) (now (packages .entry)) (now («map_heads» .entry)) (now («map_room» .entry)) (now («fragment_heads» .entry)) (now (bodies .entry)) r (now («data_set» .exit)) (now (packages .exit)) (now («map_heads» .exit)) (now («map_room» .exit)) (now («fragment_heads» .exit)) (now (bodies .exit)) × (r .lost ≤ e .lost + length (now (body .entry)) + length (now (bodies .entry))) × MovedOnce (now (bodies .entry)) (now (body .entry)) (now (bodies .exit)) ⌝ }
 {
-    let flags = p.flags;
-    let id = p.id;
-    let n = e.fragment_count;
-    match flags >> 6 {
+    match p.flags >> 6 {
         0 => whole(
             body,
             p,
@@ -161,18 +190,12 @@ fn by_indicator(
             fragment_heads,
             bodies,
         ),
-        1 => with_held(
-            e,
-            hold_first(id, flags, body, n, e.leading, fragment_heads, bodies),
-        ),
-        2 => with_held(
-            e,
-            middle(id, body, p.most, n, e.leading, fragment_heads, bodies),
-        ),
+        1 => first(body, p, e, fragment_heads, bodies),
+        2 => middle(body, p, e, fragment_heads, bodies),
         _ => last(
             body,
             e,
-            id,
+            p.id,
             p.most,
             data_set,
             packages,

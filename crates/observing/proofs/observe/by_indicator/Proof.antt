@@ -8,17 +8,11 @@ use Rattle.observing.proofs.observe.by_indicator.Tie as tie
 whole-requires : tie.Need-whole-requires
 whole-requires c κs = search needs
 
-hold-first-requires : tie.Need-hold-first-requires
-hold-first-requires c κs = search needs
-
-with-held-requires : tie.Need-with-held-requires
-with-held-requires c κs = search needs
+first-requires : tie.Need-first-requires
+first-requires c κs = search needs
 
 middle-requires : tie.Need-middle-requires
 middle-requires c κs = search needs
-
-with-held-requires-2 : tie.Need-with-held-requires-2
-with-held-requires-2 c κs = search needs
 
 last-requires : tie.Need-last-requires
 last-requires c κs = search needs
@@ -31,7 +25,7 @@ same-length-2 c = search needs
 
 returns : tie.Need-returns
 returns c =
-    let a = c .before .before .before .before .before .before .before .before .before .before .before .before .before .before .before .args in
+    let a = c .before .before .before .before .before .before .before .before .before .before .before .before .before .before .before .before .args in
     let y = c .before .before .before .before .whole .ensures in
     ((λ L k most h. by-whole L (a .p .id) (a .p .flags) _ k (a .e) _ _ _ _ _ _ _ (c .before .before .before .before .before .before .before .before .before .before .before .match .keys1) (y .0 L k most h)), omega (arith, y .1), y .2)
 
@@ -41,13 +35,12 @@ same-length-3 c = search needs
 returns-2 : tie.Need-returns-2
 returns-2 c =
     let a = c .before .before .before .before .before .before .before .before .before .before .args in
-    let w = c .with-held .ensures in
-    let u = c .before .before .before .hold-first .ensures in (
+    let y = c .before .before .first .ensures in (
       (λ L k most h.
-          by-first L (a .p .id) (a .p .flags) _ k (a .e) _ _ _ _ _ _ _ (c .before .before .before .before .before .before .match .keys2)
-          (rw w (fragments-observed (L .total) (a .p .id) k _ (a .e) _ _ _ _ _ _ _ (u .held L (k .fragments) (h .fragments-kept)) (h .tables-kept)))),
-      omega (arith, ap (λ z. z .lost) w),
-      u .once,
+          by-first L (a .p .id) (a .p .flags) _ k (a .e) _ _ _ _ _ _ _ (c .before .before .before .before .before .match .keys2)
+          (rw (y .1) (fragments-observed (L .total) (a .p .id) k _ (a .e) _ _ _ _ _ _ _ (y .2 .held L (k .fragments) (h .fragments-kept)) (h .tables-kept)))),
+      omega (arith, ap (λ z. z .lost) (y .1)),
+      y .2 .once,
     )
 
 same-length-4 : tie.Need-same-length-4
@@ -56,13 +49,12 @@ same-length-4 c = search needs
 returns-3 : tie.Need-returns-3
 returns-3 c =
     let a = c .before .before .before .before .before .before .before .before .before .before .args in
-    let w = c .with-held2 .ensures in
-    let u = c .before .before .before .middle .ensures in (
+    let y = c .before .before .middle .ensures in (
       (λ L k most h.
-          by-middle L (a .p .id) (a .p .flags) _ k (a .e) _ _ _ _ _ _ _ (c .before .before .before .before .before .before .match .keys3)
-          (rw w (fragments-observed (L .total) (a .p .id) k _ (a .e) _ _ _ _ _ _ _ (u .learned L (k .fragments) most (h .fragments-kept)) (h .tables-kept)))),
-      omega (arith, ap (λ z. z .lost) w),
-      u .once,
+          by-middle L (a .p .id) (a .p .flags) _ k (a .e) _ _ _ _ _ _ _ (c .before .before .before .before .before .match .keys3)
+          (rw (y .1) (fragments-observed (L .total) (a .p .id) k _ (a .e) _ _ _ _ _ _ _ (y .2 .learned L (k .fragments) most (h .fragments-kept)) (h .tables-kept)))),
+      omega (arith, ap (λ z. z .lost) (y .1)),
+      y .2 .once,
     )
 
 same-length-5 : tie.Need-same-length-5
@@ -73,20 +65,18 @@ same-length-6 c = search needs
 
 returns-4 : tie.Need-returns-4
 returns-4 c =
-    let a = c .before .before .before .before .before .before .before .before .before .before .before .before .before .before .before .args in
+    let a = c .before .before .before .before .before .before .before .before .before .before .before .before .before .before .before .before .args in
     let y = c .before .before .before .before .last .ensures in
     let n = c .before .before .before .before .before .before .before .before .before .before .before .match .rest in
-    ((λ L k most h. by-last L (a .p .id) (a .p .flags) _ k (a .e) _ _ _ _ _ _ _ (top-three (a .p .flags) (omega (arith, c .before .before .before .before .before .before .before .before .before .before .before .before .before .before .before .good .1 .1 .0 .1 .1 .0)) (n .0 .0 .1) (n .0 .1) (n .1)) (y .0 L k most h)), omega (arith, y .1), y .2)
+    ((λ L k most h. by-last L (a .p .id) (a .p .flags) _ k (a .e) _ _ _ _ _ _ _ (top-three (a .p .flags) (omega (arith, c .before .before .before .before .before .before .before .before .before .before .before .before .before .before .before .before .good .1 .1 .0 .1 .1 .0)) (n .0 .0 .1) (n .0 .1) (n .1)) (y .0 L k most h)), omega (arith, y .1), y .2)
 
 pub by-indicator-spec : {M : Type 1} → statement M
 by-indicator-spec =
     tie.close
     (tie.spec
     whole-requires
-    hold-first-requires
-    with-held-requires
+    first-requires
     middle-requires
-    with-held-requires-2
     last-requires
     same-length
     same-length-2
