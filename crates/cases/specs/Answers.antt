@@ -1,5 +1,5 @@
 -- The bytes of an answer's head, and what a case asks for: docs/ARCHITECTURE.md, "Format of cases and answers".
-use Rattle.std.specs.Prelude.{ℕ, ◌+◌, ◌/◌, ◌%◌, cond, List, [], ◌∷◌, ◌++◌, eqb, get_or}
+use Rattle.std.specs.Prelude.{ℕ, ◌+◌, ◌%◌, cond, List, [], ◌∷◌, ◌++◌, eqb, get_or}
 use Rattle.std.proofs.Math.Option.{Option}
 use Rattle.meaning.specs.Bytes.{Bytes, be16_at, be32_at, put32}
 use Rattle.meaning.specs.Narrow.{Change, change_table, change_payload, change_packet}
@@ -34,7 +34,7 @@ change_as case_kind M o id input = cond (eqb case_kind 1) (change_table o input)
 
 -- The modes of a byte: bit 0 plain IP.
 unfoldable pub modes_of : ℕ → Modes
-modes_of bits = record { plain_ip = is_one (bits % 2); strict_joining = is_one (bits / 2 % 2) }
+modes_of bits = record { plain_ip = is_one (bits % 2) }
 
 -- The head of a narrowing: flags or wishes first; from an offset on service, identifier, and the lengths of output and input.
 unfoldable pub head_at : Bytes → ℕ → ℕ → Head

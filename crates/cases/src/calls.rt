@@ -220,7 +220,7 @@ fn one_run(
         return false;
     }
     let modes = head[1];
-    if 3 < modes {
+    if 1 < modes {
         return false;
     }
     let h = asked_at(&head, 2, modes, 0, be16(&head, 20));

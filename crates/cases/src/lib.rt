@@ -158,7 +158,6 @@ pub fn modes_of(bits: u8) -> Modes
 {
     Modes {
         plain_ip: bits % 2 == 1,
-        strict_joining: bits / 2 % 2 == 1,
     }
 }
 
@@ -213,7 +212,7 @@ fn plain_case(case_kind: u8, input: &mut [u8; INPUT], out: &mut [u8; OUTPUT]) ->
     one_narrowing(case_kind, head_at(&head, 1, 0), input, out)
 }
 
-// One case of case kind 7 to 9, which are 1 to 3 with the wishes of case kind 4 and a byte of modes, of which bits 0 and 1 have a meaning.
+// One case of case kind 7 to 9, which are 1 to 3 with the wishes of case kind 4 and a byte of modes, of which bit 0 has a meaning.
 fn case_with_modes(case_kind: u8, input: &mut [u8; INPUT], out: &mut [u8; OUTPUT]) -> bool {
     let mut head = [0u8; 14];
     if !fill_all(&mut head) {
@@ -223,7 +222,7 @@ fn case_with_modes(case_kind: u8, input: &mut [u8; INPUT], out: &mut [u8; OUTPUT
         return false;
     }
     let modes = head[1];
-    if 3 < modes {
+    if 1 < modes {
         return false;
     }
     one_narrowing(case_kind % 6, head_at(&head, 2, modes), input, out)

@@ -41,7 +41,7 @@ pub record Between (L : Limits) (M : Modes) (o : Options) (st : State) (s : Reco
   pub good : Good L
   pub record_is : s.handed ≡ record_of L M o s.handed.leading st
   pub state_is : state_of s.handed s.work s.bodies s.map_room ≡ st
-  pub holds : HoldsState L M o st
+  pub holds : HoldsState L o st
   pub work_long : length s.work ≡ L.work
   pub bodies_long : length s.bodies ≡ L.total
 
@@ -78,7 +78,7 @@ pub begins : (L : Limits) (M : Modes) (o : Options) (s : Recorder) → Begun L M
 begins L M o s b =
     let h = started_handed L M o s.map_room (sym b.1.answer_is ∙ b.2) in
     let g = good_start L (length s.map_room) o h.0 in
-    let k = fresh_holds L M o s.map_room (omega (arith, good_limit L.work g.0.work_good)) g.1 g.2 in
+    let k = fresh_holds L o s.map_room (omega (arith, good_limit L.work g.0.work_good)) g.1 g.2 in
     let r : s.handed ≡ record_of L M o 0 (fresh s.map_room) = b.3 ∙ b.1.handed_is ∙ h.1 in
     record {
       good = g.0;
@@ -94,13 +94,13 @@ begins L M o s b =
 -- What the definition says of a push on a state.
 abbrev after : Bool → Limits → Modes → Options → ℕ → State → Record → Lent → Called
 after true L M o leading st r c =
-    record { number = 0; out = (push L M o st c.0).out; counts = (push L M o st c.0).counts; handed = record_of L M o (leading_pushed L M o st c.0 leading) (push L M o st c.0).state }
+    record { number = 0; out = (push L M o st c.0).out; counts = (push L M o st c.0).counts; handed = record_of L M o (leading_pushed L o st c.0 leading) (push L M o st c.0).state }
 after false L M o leading st r c = record { number = call_refusal L st c; out = []; counts = counts_of 0; handed = r }
 
 abbrev pub form : ℕ → Limits → Modes → Options → ℕ → State → Record → Bytes → Called
 form x L M o leading st r chunk =
     cond (eqb x 0)
-    (record { number = 0; out = (push L M o st chunk).out; counts = (push L M o st chunk).counts; handed = record_of L M o (leading_pushed L M o st chunk leading) (push L M o st chunk).state })
+    (record { number = 0; out = (push L M o st chunk).out; counts = (push L M o st chunk).counts; handed = record_of L M o (leading_pushed L o st chunk leading) (push L M o st chunk).state })
     (record { number = x; out = []; counts = counts_of 0; handed = r })
 
 pub called_by : (r : Record) (work bodies : Bytes) (map_room : List ℕ) (chunk : Bytes) (n : ℕ)
@@ -179,7 +179,7 @@ module _ (L : Limits) (M : Modes) (o : Options) (st : State) (s : Recorder) (h :
               subst (λ (b : Bool). Between L M o (cond b (push L M o st chunk).state st) t) (sym e)
                   (record {
                     good = h.good;
-                    record_is = own_leading L M o (leading_pushed L M o st chunk s.handed.leading) (push L M o st chunk).state t.handed (a.1 ∙ p.handed_is ∙ ap (λ (z : Called). z.handed) q);
+                    record_is = own_leading L M o (leading_pushed L o st chunk s.handed.leading) (push L M o st chunk).state t.handed (a.1 ∙ p.handed_is ∙ ap (λ (z : Called). z.handed) q);
                     state_is = state_then e;
                     holds = push_holds L M o st chunk (good_limit L.work h.good.work_good) h.holds;
                     work_long = p.work_length ∙ h.work_long;

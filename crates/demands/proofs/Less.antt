@@ -174,7 +174,7 @@ module _ (s : Recorder) (chunk out : Bytes) (x : pushed.Pushed) (out' : Bytes) (
   pub adds_up : answer_number x.answer ≡ 0
       → (x.counts.accepted ≡ length (accepted s chunk))
       × (s.handed.held_count + length chunk ≡ length (flatten (accepted s chunk)) + x.counts.skipped + t.handed.held_count)
-      × (x.counts.lost ≡ lost_of (firsts st'.known.map_heads) (observed_mpts s.handed.limits s.handed.modes st'.known (accepted s chunk)))
+      × (x.counts.lost ≡ lost_of (firsts st'.known.map_heads) (observed_mpts s.handed.limits st'.known (accepted s chunk)))
   adds_up e =
       let q = called_accepted s chunk out (eq-eqb c.number 0 (sym a.0.answer_is ∙ e)) in
       let k = record_parts s.handed (length s.work) (length s.bodies) (length s.map_room) q.0 in
@@ -188,7 +188,7 @@ module _ (s : Recorder) (chunk out : Bytes) (x : pushed.Pushed) (out' : Bytes) (
             ∙ bytes_add_up s.handed.limits s.handed.modes s.handed.options st' chunk some_wishes
             ∙ (λ i. (ap lengths packets ∙ lengths_flat (accepted s chunk)) i + (sym counts i).skipped + sym after i),
         ap (λ (z : Counts). z.lost) counts ∙ lost_recounted s.handed.limits s.handed.modes s.handed.options st' chunk some_wishes few
-            ∙ ap (λ (ps : List Bytes). lost_of (firsts st'.known.map_heads) (observed_mpts s.handed.limits s.handed.modes st'.known ps)) packets,
+            ∙ ap (λ (ps : List Bytes). lost_of (firsts st'.known.map_heads) (observed_mpts s.handed.limits st'.known ps)) packets,
       )
 
 pub recount : Recount

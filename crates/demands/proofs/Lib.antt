@@ -6,7 +6,6 @@ pub mod Refusing
 pub mod Once
 pub mod Total
 pub mod Less
-pub mod Strict
 pub mod Examples
 pub mod NotEmpty
 pub mod Face

@@ -14,14 +14,13 @@ use Rattle.meaning.specs.Writing.{Wrote}
 use Rattle.meaning.specs.Lists.{sum}
 use Rattle.meaning.specs.Learn.{Fragment}
 use Rattle.meaning.specs.Refusals.{answer_number}
-use Rattle.meaning.specs.Record.{State, Record, pair_of, fragment_identifier, fragment_flags, fragment_length, bodies_of, lens, packed_in, fragments_in, state_of, held_counter}
+use Rattle.meaning.specs.Record.{State, Record, pair_of, fragment_identifier, fragment_flags, fragment_length, bodies_of, lens, packed_in, fragments_in, state_of}
 use Rattle.meaning.specs.Soundness.{sound_refusal}
 use Rattle.meaning.specs.Calls.{Called}
 use Rattle.meaning.specs.Rules.{dropped}
 use Rattle.meaning.specs.Push.{push, push_refusal, called}
 use Rattle.meaning.specs.Dropped.{dropped_now}
 use Rattle.meaning.specs.declared.Options.{Options}
-use Rattle.meaning.specs.declared.Modes.{Modes}
 use Rattle.meaning.proofs.Writes.{wrote_one}
 use Rattle.meaning.proofs.AnswerLaws.{answer_told}
 use Rattle.meaning.proofs.LayoutLaws.{packed_bodies, apart}
@@ -71,14 +70,14 @@ drop_front zero m b = ap (λ (k : ℕ). take k b) (zero-add m)
 drop_front (suc n) m [] = ap (drop (suc n)) (take-nil (suc n + m)) ∙ sym (take-nil m)
 drop_front (suc n) m (x ∷ b) = ap (λ (k : ℕ). drop (suc n) (take k (x ∷ b))) (suc-add n m) ∙ drop_front n m b
 
-by_front : (M : Modes) (hs : List ℕ) (b : Bytes) → packed_in M hs (take (lens hs) b) ≡ packed_in M hs b
+by_front : (hs : List ℕ) (b : Bytes) → packed_in hs (take (lens hs) b) ≡ packed_in hs b
 unfolding packed_in lens sum
-by_front M [] b = refl
-by_front M (h ∷ hs) b =
+by_front [] b = refl
+by_front (h ∷ hs) b =
     let n = fragment_length h in
     let m = lens hs in
-    ap₂ (λ (x : Bytes) (fs : List Fragment). record { identifier = fragment_identifier h; flags = fragment_flags h; counter = held_counter M h; body = x } ∷ fs)
-    (take-take n (n + m) b (omega arith)) (ap (packed_in M hs) (drop_front n m b) ∙ by_front M hs (drop n b))
+    ap₂ (λ (x : Bytes) (fs : List Fragment). record { identifier = fragment_identifier h; flags = fragment_flags h; body = x } ∷ fs)
+    (take-take n (n + m) b (omega arith)) (ap (packed_in hs) (drop_front n m b) ∙ by_front hs (drop n b))
 
 abbrev pub state_in : Recorder → State
 state_in s = state_of s.handed s.work s.bodies s.map_room
@@ -90,11 +89,10 @@ state_same s t e =
     let h = e.handed_same in
     let front : (bodies_in s).0 ≡ (bodies_in t).0 = ap (λ (x : Bytes × Bytes). x.0) e.used_same.1 in
     let back : (bodies_in s).1 ≡ (bodies_in t).1 = ap (λ (x : Bytes × Bytes). x.1) e.used_same.1 in
-    let f : packed_in s.handed.modes (leading_in s.handed) s.bodies ≡ packed_in t.handed.modes (leading_in t.handed) t.bodies =
-    sym (by_front s.handed.modes (leading_in s.handed) s.bodies) ∙ ap (λ (r : Record). packed_in r.modes (leading_in r) (bodies_in s).0) h ∙ ap (packed_in t.handed.modes (leading_in t.handed)) front ∙ by_front t.handed.modes (leading_in t.handed) t.bodies in
-    let g : packed_in s.handed.modes (others_in s.handed) (drop (length s.bodies - lens (others_in s.handed)) s.bodies)
-    ≡ packed_in t.handed.modes (others_in t.handed) (drop (length t.bodies - lens (others_in t.handed)) t.bodies) =
-    ap (λ (r : Record). packed_in r.modes (others_in r) (bodies_in s).1) h ∙ ap (packed_in t.handed.modes (others_in t.handed)) back in
+    let f : packed_in (leading_in s.handed) s.bodies ≡ packed_in (leading_in t.handed) t.bodies =
+    sym (by_front (leading_in s.handed) s.bodies) ∙ ap₂ packed_in (ap leading_in h) front ∙ by_front (leading_in t.handed) t.bodies in
+    let g : packed_in (others_in s.handed) (drop (length s.bodies - lens (others_in s.handed)) s.bodies)
+    ≡ packed_in (others_in t.handed) (drop (length t.bodies - lens (others_in t.handed)) t.bodies) = ap₂ packed_in (ap others_in h) back in
     λ i. record {
       held = e.used_same.0 i;
       known = record {
@@ -110,13 +108,13 @@ state_same s t e =
 -- And the other way: the bodies at the front, and those at the end.
 front_told : (s : Recorder) → bodies_of (take s.handed.leading (state_in s).known.fragments) ≡ (bodies_in s).0
 unfolding state_of fragments_in
-front_told s = ap bodies_of (apart s.handed.modes s.handed.leading (heads_in s.handed) s.bodies).0 ∙ packed_bodies s.handed.modes (leading_in s.handed) s.bodies
+front_told s = ap bodies_of (apart s.handed.leading (heads_in s.handed) s.bodies).0 ∙ packed_bodies (leading_in s.handed) s.bodies
 
 back_told : (s : Recorder) → bodies_of (drop s.handed.leading (state_in s).known.fragments) ≡ (bodies_in s).1
 unfolding state_of fragments_in
 back_told s =
     let n = length s.bodies - lens (others_in s.handed) in
-    ap bodies_of (apart s.handed.modes s.handed.leading (heads_in s.handed) s.bodies).1 ∙ packed_bodies s.handed.modes (others_in s.handed) (drop n s.bodies)
+    ap bodies_of (apart s.handed.leading (heads_in s.handed) s.bodies).1 ∙ packed_bodies (others_in s.handed) (drop n s.bodies)
     ∙ take_all (lens (others_in s.handed)) (drop n s.bodies) (omega (arith, length-drop n s.bodies))
 
 pub state_tells : (s t : Recorder) → s.handed ≡ t.handed → state_in s ≡ state_in t → length s.work ≡ length t.work → length s.bodies ≡ length t.bodies → Same s t

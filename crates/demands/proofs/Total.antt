@@ -151,7 +151,7 @@ module _ (s : Recorder) (chunk out : Bytes) where
   st = (push r.limits r.modes r.options (state_of r s.work s.bodies s.map_room) chunk).state
 
   abbrev led : ℕ
-  led = leading_pushed r.limits r.modes r.options (state_of r s.work s.bodies s.map_room) chunk r.leading
+  led = leading_pushed r.limits r.options (state_of r s.work s.bodies s.map_room) chunk r.leading
 
   -- the fragment room: what the bodies leave free is what stood behind as many bytes
   abbrev kept : Bytes

@@ -7,8 +7,6 @@ use Rattle.meaning.specs.Bytes.{Bytes}
 use Rattle.meaning.specs.Packets.{cut}
 use Rattle.meaning.specs.Wishes.{wants_assets, copies_all, captions_only}
 use Rattle.meaning.specs.Narrow.{Change, narrowed_packet, change_table, change_payload, change_packet, narrow_refusal, none_of_each}
-use Rattle.meaning.specs.Learn.{Known}
-use Rattle.meaning.specs.Complete.{payloads_of, known_after, joined_in, Complete}
 use Rattle.meaning.specs.Rooms.{packet_limit, good_work_room, good_fragment_room, good_map_room}
 use Rattle.meaning.specs.Refusals.{answer_number, narrowing_number, narrowing_changed, narrowing_length}
 use Rattle.meaning.specs.Record.{Record, lens, state_of}
@@ -198,30 +196,7 @@ pub record InWords : Type 0 where
       → answer_number x.answer ≡ 0 → copies_all s.handed.options ≡ false → let k = (state_of s.handed s.work s.bodies s.map_room).known in
       (x.counts.accepted ≡ length (accepted s chunk))
       × (s.handed.held_count + length chunk ≡ length (flatten (accepted s chunk)) + x.counts.skipped + t.handed.held_count)
-      × (x.counts.lost ≡ lost_of (firsts k.map_heads) (observed_mpts s.handed.limits s.handed.modes k (accepted s chunk)))
-
--- ---- strict joining, 02 [4]: of the packets that a series accepted, in order, each that joins a message has with it the end of all of that
--- message's fragments
-abbrev pub known_in : Recorder → Known
-known_in s = (state_of s.handed s.work s.bodies s.map_room).known
-
-abbrev pub accepted_in : (s : Recorder) (cs : List Call) (xs : List Result) (t : Recorder) → Series s cs xs t → List Bytes
-accepted_in s [] [] t r = []
-accepted_in s (Push chunk out ∷ cs) (Pushed x out' ∷ xs) t (u, a, r) = cond (eqb (answer_number x.answer) 0) (accepted s chunk) [] ++ accepted_in u cs xs t r
-accepted_in s (Ask ∷ cs) (Asked x ∷ xs) t (u, a, r) = accepted_in u cs xs t r
-accepted_in s (Push chunk out ∷ cs) (Asked x ∷ xs) t (u, a, r) = []
-accepted_in s (Ask ∷ cs) (Pushed x out' ∷ xs) t (u, a, r) = []
-accepted_in s [] (x ∷ xs) t r = []
-accepted_in s (c ∷ cs) [] t r = []
-
-pub record Strict : Type 0 where
-  -- what is known after a series is what these packets teach, in every mode
-  pub learned : (L : Limits) (M : Modes) (o : Options) (s : Recorder) (cs : List Call) (xs : List Result) (t : Recorder) → Begun L M o s → copies_all o ≡ false → (r : Series s cs xs t)
-      → known_in t ≡ known_after L M (known_in s) (accepted_in s cs xs t r)
-  -- and what is joined on the way is complete
-  pub complete : (L : Limits) (M : Modes) (o : Options) (s : Recorder) (cs : List Call) (xs : List Result) (t : Recorder) → Begun L M o s → M.strict_joining ≡ true → (r : Series s cs xs t)
-      → (before : List Bytes) (q : Bytes) (behind : List Bytes) → accepted_in s cs xs t r ≡ before ++ (q ∷ behind)
-      → (p : ℕ) (m : Bytes) → joined_in L M p (known_after L M (known_in s) before) q ≡ some m → Complete (payloads_of p (before ++ (q ∷ []))) m
+      × (x.counts.lost ≡ lost_of (firsts k.map_heads) (observed_mpts s.handed.limits k (accepted s chunk)))
 
 -- ---- 01's starred examples: the tables of 1 to 10, each into every output that is long enough; 11, one chunk; and 12, two
 pub record Starred : Type 0 where

@@ -102,7 +102,7 @@ pub record Spot (p : ℕ) (fs : List Fragment) : Type 0 where
   pub index : length before ≡ index_of p fs
   pub found : fragment_of p fs ≡ some fragment
   pub rest : without p fs ≡ before ++ behind
-  pub grows : (c : ℕ) (b : Bytes) → grow_in p c b fs ≡ before ++ (grown fragment c b ∷ behind)
+  pub grows : (b : Bytes) → grow_in p b fs ≡ before ++ (grown fragment b ∷ behind)
 
 none_of : (p : ℕ) (fs : List Fragment) → any (eqb p) (identifiers fs) ≡ false → without p fs ≡ fs
 unfolding any without keep is_of
@@ -126,7 +126,7 @@ module _ (p : ℕ) (f : Fragment) (fs : List Fragment) where
     index = rw e refl;
     found = rw e refl;
     rest = rw e (none_of p fs (subst (λ (q : ℕ). any (eqb q) (identifiers fs) ≡ false) (of_same p f e) once));
-    grows = λ c b. rw e refl;
+    grows = λ b. rw e refl;
   }
 
   there : is_of p f ≡ false → Spot p fs → Spot p (f ∷ fs)
@@ -139,7 +139,7 @@ module _ (p : ℕ) (f : Fragment) (fs : List Fragment) where
     index = rw e (ap suc s.index);
     found = rw e s.found;
     rest = rw e (ap (λ (l : List Fragment). f ∷ l) s.rest);
-    grows = λ c b. rw e (ap (λ (l : List Fragment). f ∷ l) (s.grows c b));
+    grows = λ b. rw e (ap (λ (l : List Fragment). f ∷ l) (s.grows b));
   }
 
   index_of_lem : is_of p f ≡ false → index_of p (f ∷ fs) ≡ suc (index_of p fs)
@@ -192,13 +192,13 @@ others_count index n p fs c at d = go (ltb index n) refl
     go false e = c ∙ sym (ap length (missing p fs (let z : n ≤ index = ltb-false index n e in omega arith)).0)
 
 -- For a last: what is left without a fragment is the same whether it has grown or not.
-pub without_grown : (p c : ℕ) (b : Bytes) (fs : List Fragment) → without p (grow_in p c b fs) ≡ without p fs
+pub without_grown : (p : ℕ) (b : Bytes) (fs : List Fragment) → without p (grow_in p b fs) ≡ without p fs
 unfolding without keep grow_in is_of
-without_grown p c b [] = refl
-without_grown p c b (f ∷ fs) = go (eqb f.identifier p) refl (without_grown p c b fs)
+without_grown p b [] = refl
+without_grown p b (f ∷ fs) = go (eqb f.identifier p) refl (without_grown p b fs)
   where
-    go : (a : Bool) → eqb f.identifier p ≡ a → without p (grow_in p c b fs) ≡ without p fs
-        → without p (cond a (grown f c b ∷ fs) (f ∷ grow_in p c b fs)) ≡ cond (not a) (f ∷ without p fs) (without p fs)
+    go : (a : Bool) → eqb f.identifier p ≡ a → without p (grow_in p b fs) ≡ without p fs
+        → without p (cond a (grown f b ∷ fs) (f ∷ grow_in p b fs)) ≡ cond (not a) (f ∷ without p fs) (without p fs)
     go true e again = rw e refl
     go false e again = rw e (ap (λ (l : List Fragment). f ∷ l) again)
 
@@ -223,18 +223,18 @@ without_is p fs d = go (ltb (index_of p fs) (length fs)) refl
 
 -- ---- how many lead afterwards
 
-pub index_grown : (p c : ℕ) (b : Bytes) (fs : List Fragment) → (index_of p (grow_in p c b fs) ≡ index_of p fs) × (length (grow_in p c b fs) ≡ length fs)
+pub index_grown : (p : ℕ) (b : Bytes) (fs : List Fragment) → (index_of p (grow_in p b fs) ≡ index_of p fs) × (length (grow_in p b fs) ≡ length fs)
 unfolding index_of grow_in is_of
-index_grown p c b [] = (refl, refl)
-index_grown p c b (f ∷ fs) = go (eqb f.identifier p) refl (index_grown p c b fs)
+index_grown p b [] = (refl, refl)
+index_grown p b (f ∷ fs) = go (eqb f.identifier p) refl (index_grown p b fs)
   where
-    go : (a : Bool) → eqb f.identifier p ≡ a → (index_of p (grow_in p c b fs) ≡ index_of p fs) × (length (grow_in p c b fs) ≡ length fs)
-        → (index_of p (cond a (grown f c b ∷ fs) (f ∷ grow_in p c b fs)) ≡ cond a 0 (suc (index_of p fs))) × (length (cond a (grown f c b ∷ fs) (f ∷ grow_in p c b fs)) ≡ suc (length fs))
+    go : (a : Bool) → eqb f.identifier p ≡ a → (index_of p (grow_in p b fs) ≡ index_of p fs) × (length (grow_in p b fs) ≡ length fs)
+        → (index_of p (cond a (grown f b ∷ fs) (f ∷ grow_in p b fs)) ≡ cond a 0 (suc (index_of p fs))) × (length (cond a (grown f b ∷ fs) (f ∷ grow_in p b fs)) ≡ suc (length fs))
     go true e again = (rw e refl, refl)
     go false e again = (rw e (ap suc again.0), ap suc again.1)
 
-pub grown_length : (p c : ℕ) (b : Bytes) (fs : List Fragment) → length (grow_in p c b fs) ≡ length fs
-grown_length p c b fs = (index_grown p c b fs).1
+pub grown_length : (p : ℕ) (b : Bytes) (fs : List Fragment) → length (grow_in p b fs) ≡ length fs
+grown_length p b fs = (index_grown p b fs).1
 
 index_without : (p : ℕ) (fs : List Fragment) → index_of p (without p fs) ≡ length (without p fs)
 unfolding index_of without keep is_of
@@ -277,10 +277,10 @@ module _ (p : ℕ) (fs : List Fragment) (leading : ℕ) where
   pub leading_none : length fs ≤ index_of p fs → leading_after p fs fs leading ≡ leading
   leading_none h = neither p fs fs leading h h
 
-  pub leading_grown : (c : ℕ) (b : Bytes) → index_of p fs < length fs → leading_after p fs (grow_in p c b fs) leading ≡ index_of p fs + 1
-  leading_grown c b h =
-      let e = index_grown p c b fs in
-      has p fs (grow_in p c b fs) leading (omega (arith, e.0, e.1)) ∙ ap (λ (n : ℕ). n + 1) e.0
+  pub leading_grown : (b : Bytes) → index_of p fs < length fs → leading_after p fs (grow_in p b fs) leading ≡ index_of p fs + 1
+  leading_grown b h =
+      let e = index_grown p b fs in
+      has p fs (grow_in p b fs) leading (omega (arith, e.0, e.1)) ∙ ap (λ (n : ℕ). n + 1) e.0
 
   pub leading_behind : (f : Fragment) → f.identifier ≡ p → leading_after p fs (without p fs ++ (f ∷ [])) leading ≡ length (without p fs) + 1
   leading_behind f e =

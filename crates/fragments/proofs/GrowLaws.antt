@@ -7,24 +7,21 @@ use mathlib.Core.List.{List, [], ◌∷◌, ◌++◌}
 use mathlib.Core.Option.{Option, some, some-injective}
 use native.Mathlib.Omega.{arith}
 use lib.ListN.{length, take, drop, get_or, set}
-use lib.Dec.{eqb, leb, ltb}
+use lib.Dec.{leb, ltb}
 use borrow.Author.Tests.{ltb-true, ltb-false, leb-true, leb-false, le-leb, lt-leb}
 use Rattle.meaning.specs.Bytes.{Bytes}
 use Rattle.meaning.specs.Writing.{Wrote}
-use Rattle.meaning.specs.Learn.{Fragment, without, fragment_of, grow_in, follows, hold_first, fits, joins, middle_of, middle}
-use Rattle.meaning.specs.Record.{fragment_flags, fragment_counter, fragment_length, lens}
+use Rattle.meaning.specs.Learn.{Fragment, without, fragment_of, grow_in, hold_first, fits, middle_of, middle}
+use Rattle.meaning.specs.Record.{fragment_flags, fragment_length, lens}
 use Rattle.meaning.specs.Leading.{index_of, leading_after}
 use Rattle.meaning.specs.Soundness.{HoldsFragments}
 use Rattle.meaning.specs.declared.Limits.{Limits}
-use Rattle.meaning.specs.declared.Modes.{Modes}
 use Rattle.meaning.proofs.ListLaws.{and_both}
 use Rattle.meaning.proofs.MoveLaws.{once_none}
-use Rattle.meaning.proofs.SoundnessLaws.{Tells}
-use Rattle.meaning.proofs.SoundnessKept.{first_holds, fits_within, grow_holds}
-use Rattle.fragments.specs.Fragments.{index_in, grown_head, others_of, TakesOut, FreeMoved, Packed, KeptFragments, KeepsFragments, Numbers, HeldAfter, Nearest, Stands, GivesUp, DropsAt, Drops, GivesBack, held_behind, PutsBehind, HoldsFirst, comes_next, joins_by, Lengthens, GrewAt, GrowsWithin, GrowsAtIndex, LearnsMiddle}
+use Rattle.meaning.proofs.SoundnessKept.{first_holds, middle_holds}
+use Rattle.fragments.specs.Fragments.{index_in, others_of, TakesOut, FreeMoved, Packed, KeptFragments, KeepsFragments, Numbers, HeldAfter, Nearest, Stands, GivesUp, DropsAt, Drops, GivesBack, held_behind, PutsBehind, HoldsFirst, Lengthens, GrewAt, GrowsWithin, GrowsAtIndex, LearnsMiddle}
 use Rattle.fragments.specs.declared.Held.{Held}
 use Rattle.fragments.specs.declared.Grown.{Grown}
-use Rattle.fragments.specs.declared.Joining.{Joining}
 use Rattle.fragments.specs.declared.Place.{Place}
 use Rattle.fragments.proofs.FragmentLaws.{lens_turn, lens_less, missing, own_turn, own_ends, others_count, index_grown, grown_length, without_grown, not_found, leading_gone, leading_none, leading_grown, leading_behind}
 use Rattle.fragments.proofs.RoomLaws.{numbers, sum_is, index_is, nearest_kept, free_moved, There, there, left_last, left_next, grown_in, others_bytes, put_kept, held_so, full_so, short_so}
@@ -159,22 +156,22 @@ pack_numbers n fragment_heads bodies place s ns =
     let o = stands_so n fragment_heads place s in
     (o.0, o.1, omega (arith, s.all_is, ns.within), o.2, o.3)
 
-pub put : (place : Place) (p flags c : ℕ) (b : Bytes) (n : ℕ) (fragment_heads bodies : List ℕ) → c < 256 → place.index < 256 → Stands n fragment_heads place → Numbers n fragment_heads bodies
+pub put : (place : Place) (p flags : ℕ) (b : Bytes) (n : ℕ) (fragment_heads bodies : List ℕ) → place.index < 256 → Stands n fragment_heads place → Numbers n fragment_heads bodies
     → place.all - place.own + length b ≤ length bodies → (mid : Bytes) (count q head : ℕ) (fragment_heads₁ bodies' : List ℕ) → count ≡ others_of place.index n → length bodies' ≡ length mid
     → Packed place.index place.leading place.start (place.start + place.own) place.free place.all bodies mid → Wrote b mid (place.all - place.own) bodies' q
-    → TakesOut place.index n fragment_heads fragment_heads₁ → head ≡ p * 281474976710656 + flags % 64 * 1099511627776 + c * 4294967296 + length b
-    → PutsBehind place.index p flags c b n place.leading fragment_heads bodies (record { count = count + 1; leading = count + 1 }) (set fragment_heads₁ count head) bodies'
-put place p flags c b n fragment_heads bodies byte few s ns fit mid count q head fragment_heads₁ bodies' ec same m w out eh = record {
+    → TakesOut place.index n fragment_heads fragment_heads₁ → head ≡ p * 281474976710656 + flags % 64 * 1099511627776 + length b
+    → PutsBehind place.index p flags b n place.leading fragment_heads bodies (record { count = count + 1; leading = count + 1 }) (set fragment_heads₁ count head) bodies'
+put place p flags b n fragment_heads bodies few s ns fit mid count q head fragment_heads₁ bodies' ec same m w out eh = record {
   held = λ L fs at k.
       let T : ℕ = L.total in
       let small : count < 256 = others_small place.index n count s.index_low few ns.few ec in
-      let others : others_of place.index n ≡ length (without p fs) = (out p fs k.hold.once at k.heads).count in
+      let c : others_of place.index n ≡ length (without p fs) = (out p fs k.hold.once at k.heads).count in
       let bytes = others_bytes T p fs place.index n place.leading fragment_heads bodies at s.index_low k in
-      let e : hold_first L p flags c b fs ≡ held_behind p flags c b fs = held_so L p flags c b fs (omega arith) (omega (arith, s.own_is, s.all_is, k.total)) in
-      let hold : HoldsFragments T (held_behind p flags c b fs) = subst (HoldsFragments T) e (first_holds L p flags c b fs byte k.hold) in (
+      let e : hold_first L p flags b fs ≡ held_behind p flags b fs = held_so L p flags b fs (omega arith) (omega (arith, s.own_is, s.all_is, k.total)) in
+      let hold : HoldsFragments T (held_behind p flags b fs) = subst (HoldsFragments T) e (first_holds L p flags b fs k.hold) in (
         subst (λ (l : List Fragment). KeptFragments T l (count + 1) (count + 1) (set fragment_heads₁ count head) bodies') (sym e)
             (put_kept T p fs place.index n place.leading fragment_heads bodies at s.index_low k s.leading_low place.start (place.start + place.own) place.free place.all mid s.start_is
-            (ap (λ (z : ℕ). place.start + z) s.own_is) s.free_is s.all_is m flags c b (place.all - place.own) count q fragment_heads₁ (set fragment_heads₁ count head) bodies'
+            (ap (λ (z : ℕ). place.start + z) s.own_is) s.free_is s.all_is m flags b (place.all - place.own) count q fragment_heads₁ (set fragment_heads₁ count head) bodies'
             (ap (λ (z : ℕ). place.all - z) s.own_is) ec small same w out (ap (set fragment_heads₁ count) eh) hold),
         e,
       );
@@ -190,9 +187,9 @@ first_room index b rest bodies e =
     (ltb-true index 256 h.0, leb-true (rest + length b) (length bodies) h.1)
 
 -- by the place of what it takes the place of
-module _ (p flags c : ℕ) (b : Bytes) (n leading : ℕ) (fragment_heads bodies : List ℕ) (place : Place) (e : place.index ≡ index_in p (take n fragment_heads)) (s : Stands n fragment_heads place) where
-  pub first_held : (r : Held) (fragment_heads' bodies' : List ℕ) → Nearest n leading place.leading → PutsBehind place.index p flags c b n place.leading fragment_heads bodies r fragment_heads' bodies'
-      → HoldsFirst p flags c b n leading fragment_heads bodies r fragment_heads' bodies'
+module _ (p flags : ℕ) (b : Bytes) (n leading : ℕ) (fragment_heads bodies : List ℕ) (place : Place) (e : place.index ≡ index_in p (take n fragment_heads)) (s : Stands n fragment_heads place) where
+  pub first_held : (r : Held) (fragment_heads' bodies' : List ℕ) → Nearest n leading place.leading → PutsBehind place.index p flags b n place.leading fragment_heads bodies r fragment_heads' bodies'
+      → HoldsFirst p flags b n leading fragment_heads bodies r fragment_heads' bodies'
   first_held r fragment_heads' bodies' m g = record {
     held = λ L fs k.
         let at : place.index ≡ index_of p fs = e ∙ index_is L.total fs n leading fragment_heads bodies k p in
@@ -200,13 +197,13 @@ module _ (p flags c : ℕ) (b : Bytes) (n leading : ℕ) (fragment_heads bodies 
         record {
           kept = h.0;
           leading_is = g.leading_is ∙ ap (λ (z : ℕ). z + 1) (others_count place.index n p fs k.heads.count at k.hold.once)
-              ∙ sym (leading_behind p fs leading (record { identifier = p; flags = flags % 64; counter = c; body = b }) refl) ∙ ap (λ (l : List Fragment). leading_after p fs l leading) (sym h.1);
+              ∙ sym (leading_behind p fs leading (record { identifier = p; flags = flags % 64; body = b }) refl) ∙ ap (λ (l : List Fragment). leading_after p fs l leading) (sym h.1);
         };
     once = g.once;
   }
 
   pub first_not_held : (r : Held) (fragment_heads' bodies' : List ℕ) → n ≤ 256 → (ltb place.index 256 && leb (place.all - place.own + length b) (length bodies)) ≡ false
-      → DropsAt place.index n leading fragment_heads bodies r fragment_heads' bodies' → HoldsFirst p flags c b n leading fragment_heads bodies r fragment_heads' bodies'
+      → DropsAt place.index n leading fragment_heads bodies r fragment_heads' bodies' → HoldsFirst p flags b n leading fragment_heads bodies r fragment_heads' bodies'
   first_not_held r fragment_heads' bodies' few wrong g = record {
     held = λ L fs k.
         let at : place.index ≡ index_of p fs = e ∙ index_is L.total fs n leading fragment_heads bodies k p in
@@ -215,15 +212,15 @@ module _ (p flags c : ℕ) (b : Bytes) (n leading : ℕ) (fragment_heads bodies 
   }
     where
       gone : (x : Bool) → ltb place.index 256 ≡ x → (L : Limits) (fs : List Fragment) → place.index ≡ index_of p fs → KeptFragments L.total fs n leading fragment_heads bodies
-          → hold_first L p flags c b fs ≡ without p fs
+          → hold_first L p flags b fs ≡ without p fs
       gone true q L fs at k =
           let z : leb (place.all - place.own + length b) (length bodies) ≡ false = subst (λ (x : Bool). (x && leb (place.all - place.own + length b) (length bodies)) ≡ false) q wrong in
           let bytes = others_bytes L.total p fs place.index n leading fragment_heads bodies at s.index_low k in
-          short_so L p flags c b fs (omega (arith, s.own_is, s.all_is, leb-false (place.all - place.own + length b) (length bodies) z, k.total))
+          short_so L p flags b fs (omega (arith, s.own_is, s.all_is, leb-false (place.all - place.own + length b) (length bodies) z, k.total))
       gone false q L fs at k =
           let h : 256 ≤ place.index = ltb-false place.index 256 q in
           let l : length fs ≤ index_of p fs = omega (arith, k.heads.count) in
-          full_so L p flags c b fs (omega (arith, ap length (missing p fs l).0, k.heads.count))
+          full_so L p flags b fs (omega (arith, ap length (missing p fs l).0, k.heads.count))
 
 -- ---- whether a further body fits
 
@@ -243,15 +240,15 @@ module _ (m old most all total : ℕ) where
 
 -- ---- a further body
 
-pub lengthened : (place : Place) (c : ℕ) (b : Bytes) (n : ℕ) (fragment_heads bodies : List ℕ) (mid fragment_heads' bodies' : List ℕ) (q : ℕ) → place.index < n → Stands n fragment_heads place
+pub lengthened : (place : Place) (b : Bytes) (n : ℕ) (fragment_heads bodies : List ℕ) (mid fragment_heads' bodies' : List ℕ) (q : ℕ) → place.index < n → Stands n fragment_heads place
     → Numbers n fragment_heads bodies → place.all + length b ≤ length bodies
     → FreeMoved place.leading (place.index + 1) place.free (place.start + place.own) place.all bodies mid → length bodies' ≡ length mid
-    → Wrote b mid (place.start + place.own) bodies' q → fragment_heads' ≡ set fragment_heads place.index (grown_head (get_or fragment_heads place.index 0) c (length b))
-    → Lengthens place.index c b n place.leading fragment_heads bodies fragment_heads' bodies'
-lengthened place c b n fragment_heads bodies mid fragment_heads' bodies' q lt s ns fit m same w eh = record {
+    → Wrote b mid (place.start + place.own) bodies' q → fragment_heads' ≡ set fragment_heads place.index (get_or fragment_heads place.index 0 + length b)
+    → Lengthens place.index b n place.leading fragment_heads bodies fragment_heads' bodies'
+lengthened place b n fragment_heads bodies mid fragment_heads' bodies' q lt s ns fit m same w eh = record {
   grows = λ T p fs at k hold.
       let k' = free_moved T fs n place.leading fragment_heads bodies k (place.index + 1) place.free (place.start + place.own) place.all mid s.leading_low (omega arith) s.free_is ee s.all_is m in
-      grown_in T p fs place.index n (place.index + 1) fragment_heads mid at lt k' c b fragment_heads' bodies' q refl (omega (arith, s.all_is, m.same)) same
+      grown_in T p fs place.index n (place.index + 1) fragment_heads mid at lt k' b fragment_heads' bodies' q refl (omega (arith, s.all_is, m.same)) same
       (subst (λ (z : ℕ). Wrote b mid z bodies' q) ee w) eh hold;
   once = let f = free_numbers fragment_heads n place.leading (place.index + 1) place.free (place.start + place.own) place.all (length bodies) s.leading_low (omega arith) ns.within s.free_is ee s.all_is in
       once_grown place.leading (place.index + 1) place.free (place.start + place.own) place.all bodies mid f.0 f.1 f.2 f.3 f.4 m b bodies' q fit w;
@@ -260,24 +257,13 @@ lengthened place c b n fragment_heads bodies mid fragment_heads' bodies' q lt s 
     ee : place.start + place.own ≡ lens (take (place.index + 1) fragment_heads)
     ee = ends_so n fragment_heads place s lt
 
--- a head has the counter in a byte
-counter_byte : (f : Fragment) → Tells f → f.counter < 256
-unfolding fragment_counter
-counter_byte f t = omega (arith, t.counter_is)
-
 -- by its place
-module _ (j : Joining) (b : Bytes) (n leading : ℕ) (fragment_heads bodies : List ℕ) (place : Place) (s : Stands n fragment_heads place) (lt : place.index < n) where
-  abbrev fitting : Bool
-  fitting = leb (place.own + length b) j.most && leb (place.all + length b) (length bodies)
-
+module _ (most : ℕ) (b : Bytes) (n leading : ℕ) (fragment_heads bodies : List ℕ) (place : Place) (s : Stands n fragment_heads place) (lt : place.index < n) where
   abbrev test : Bool
-  test = comes_next j (fragment_counter (get_or fragment_heads place.index 0)) && fitting
-
-  fitting_so : test ≡ true → fitting ≡ true
-  fitting_so ok = (and_both (comes_next j (fragment_counter (get_or fragment_heads place.index 0))) fitting ok).1
+  test = leb (place.own + length b) most && leb (place.all + length b) (length bodies)
 
   pub fits_room : test ≡ true → place.all + length b ≤ length bodies
-  fits_room ok = leb-true (place.all + length b) (length bodies) (and_both (leb (place.own + length b) j.most) (leb (place.all + length b) (length bodies)) (fitting_so ok)).1
+  fits_room ok = leb-true (place.all + length b) (length bodies) (and_both (leb (place.own + length b) most) (leb (place.all + length b) (length bodies)) ok).1
 
   own_length : (T p : ℕ) (fs : List Fragment) → place.index ≡ index_of p fs → KeptFragments T fs n leading fragment_heads bodies → (t : There p fs place.index fragment_heads) → place.own ≡ length t.fragment.body
   own_length T p fs at k t =
@@ -286,28 +272,24 @@ module _ (j : Joining) (b : Bytes) (n leading : ℕ) (fragment_heads bodies : Li
       let turn = lens_turn fragment_heads place.index (omega (arith, ns.few, ns.slots_all)) in
       omega (arith, s.own_is, own_turn fragment_heads place.index n (omega arith))
 
-  fits_is : (L : Limits) (p : ℕ) (fs : List Fragment) → place.index ≡ index_of p fs → L.most ≡ j.most → KeptFragments L.total fs n leading fragment_heads bodies → (t : There p fs place.index fragment_heads)
-      → fits L t.fragment b fs ≡ fitting
+  fits_is : (L : Limits) (p : ℕ) (fs : List Fragment) → place.index ≡ index_of p fs → L.most ≡ most → KeptFragments L.total fs n leading fragment_heads bodies → (t : There p fs place.index fragment_heads)
+      → fits L t.fragment b fs ≡ test
   unfolding fits
   fits_is L p fs at em k t =
       ap₂ (λ (x y : Bool). x && y) (ap₂ (λ (x y : ℕ). leb (x + length b) y) (sym (own_length L.total p fs at k t)) em)
       (ap₂ (λ (x y : ℕ). leb (x + length b) y) (sym (s.all_is ∙ sum_is L.total fs n leading fragment_heads bodies k)) (sym k.total))
 
-  joins_is : (L : Limits) (p : ℕ) (fs : List Fragment) → place.index ≡ index_of p fs → L.most ≡ j.most → KeptFragments L.total fs n leading fragment_heads bodies → (t : There p fs place.index fragment_heads)
-      → joins_by L j t.fragment b fs ≡ test
-  joins_is L p fs at em k t =
-      ap₂ (λ (x : ℕ) (y : Bool). comes_next j x && y) (sym (ap fragment_counter t.head_is ∙ t.tells.counter_is)) (fits_is L p fs at em k t)
-
-  pub grew : j.counter < 256 → (end flags : ℕ) (fragment_heads' bodies' : List ℕ) → Nearest n leading place.leading
+  pub grew : (end flags : ℕ) (fragment_heads' bodies' : List ℕ) → Nearest n leading place.leading
       → end ≡ place.start + place.own + length b → flags ≡ fragment_flags (get_or fragment_heads place.index 0) → test ≡ true
-      → Lengthens place.index j.counter b n place.leading fragment_heads bodies fragment_heads' bodies'
-      → GrowsAtIndex place.index j b n leading fragment_heads bodies (Grown.At place.start end flags (record { count = n; leading = place.index + 1 })) fragment_heads' bodies'
-  grew byte end flags fragment_heads' bodies' m ee ef ok u = record {
+      → Lengthens place.index b n place.leading fragment_heads bodies fragment_heads' bodies'
+      → GrowsAtIndex place.index most b n leading fragment_heads bodies (Grown.At place.start end flags (record { count = n; leading = place.index + 1 })) fragment_heads' bodies'
+  grew end flags fragment_heads' bodies' m ee ef ok u = record {
     is = λ L p fs at em k.
         let t = there L.total p fs place.index n leading fragment_heads bodies at lt k in
         let f = t.fragment in
-        let fit : fits L f b fs ≡ true = fits_is L p fs at em k t ∙ fitting_so ok in
-        let hold : HoldsFragments L.total (grow_in p j.counter b fs) = grow_holds L.total p j.counter b fs byte (fits_within L f b fs fit) k.hold in
+        let fit : fits L f b fs ≡ true = fits_is L p fs at em k t ∙ ok in
+        let hold : HoldsFragments L.total (grow_in p b fs) =
+        subst (λ (a : Bool). HoldsFragments L.total (cond a (grow_in p b fs) (without p fs))) fit (middle_holds L p b fs (some f) k.hold) in
         let g = u.grows L.total p fs at (nearest_kept L.total fs n leading fragment_heads bodies k place.leading m) hold in
         let one : g.fragment ≡ f = some-injective _ _ (sym g.found ∙ t.found) in
         let len : place.own ≡ length f.body = own_length L.total p fs at k t in
@@ -317,44 +299,42 @@ module _ (j : Joining) (b : Bytes) (n leading : ℕ) (fragment_heads bodies : Li
         record {
           fragment = f;
           found = t.found;
-          counter_small = counter_byte t.fragment t.tells;
-          joins = joins_is L p fs at em k t ∙ ok;
+          fitting = fit;
           kept = g.kept;
           leading_is = ap (λ (z : ℕ). z + 1) at;
           leading_low = omega arith;
           flags_are = ef ∙ ap fragment_flags t.head_is ∙ t.tells.flags_are;
           ordered = omega arith;
           inside = omega (arith, g.kept.total, k.total);
-          body_is = ap₂ (λ (x i : ℕ). take x (drop i bodies')) size s.start_is
+          body_is = ap₂ (λ (j i : ℕ). take j (drop i bodies')) size s.start_is
               ∙ subst (λ (h : Fragment). take (length h.body + length b) (drop (lens (take place.index fragment_heads)) bodies') ≡ h.body ++ b) one g.body_is;
         };
     once = u.once;
   }
 
   pub discarded : (r : Held) (fragment_heads' bodies' : List ℕ) → test ≡ false → DropsAt place.index n leading fragment_heads bodies r fragment_heads' bodies'
-      → GrowsAtIndex place.index j b n leading fragment_heads bodies (Grown.Discarded r) fragment_heads' bodies'
+      → GrowsAtIndex place.index most b n leading fragment_heads bodies (Grown.Discarded r) fragment_heads' bodies'
   discarded r fragment_heads' bodies' wrong u = record {
     is = λ L p fs at em k.
         let t = there L.total p fs place.index n leading fragment_heads bodies at lt k in
         record {
           fragment = t.fragment;
           found = t.found;
-          counter_small = counter_byte t.fragment t.tells;
-          joins = joins_is L p fs at em k t ∙ wrong;
+          fitting = fits_is L p fs at em k t ∙ wrong;
           left = u.left L.total p fs at k;
         };
     once = u.once b;
   }
 
-module _ (p : ℕ) (j : Joining) (b : Bytes) (n leading : ℕ) (fragment_heads bodies : List ℕ) where
-  pub grows_there : (i : ℕ) (r : Grown) (fragment_heads' bodies' : List ℕ) → i ≡ index_in p (take n fragment_heads) → GrowsAtIndex i j b n leading fragment_heads bodies r fragment_heads' bodies'
-      → GrowsWithin p j b n leading fragment_heads bodies r fragment_heads' bodies'
+module _ (p most : ℕ) (b : Bytes) (n leading : ℕ) (fragment_heads bodies : List ℕ) where
+  pub grows_there : (i : ℕ) (r : Grown) (fragment_heads' bodies' : List ℕ) → i ≡ index_in p (take n fragment_heads) → GrowsAtIndex i most b n leading fragment_heads bodies r fragment_heads' bodies'
+      → GrowsWithin p most b n leading fragment_heads bodies r fragment_heads' bodies'
   grows_there i r fragment_heads' bodies' e g = record {
     is = λ L fs em k. g.is L p fs (e ∙ index_is L.total fs n leading fragment_heads bodies k p) em k;
     once = g.once;
   }
 
-  pub absent : (i : ℕ) → i ≡ index_in p (take n fragment_heads) → n ≤ i → GrowsWithin p j b n leading fragment_heads bodies Grown.Absent fragment_heads bodies
+  pub absent : (i : ℕ) → i ≡ index_in p (take n fragment_heads) → n ≤ i → GrowsWithin p most b n leading fragment_heads bodies Grown.Absent fragment_heads bodies
   absent i e h = record {
     is = λ L fs em k. ((missing p fs (omega (arith, e, index_is L.total fs n leading fragment_heads bodies k p, k.heads.count))).1, refl, refl);
     once = once_none bodies b;
@@ -362,44 +342,38 @@ module _ (p : ℕ) (j : Joining) (b : Bytes) (n leading : ℕ) (fragment_heads b
 
   -- ---- a middle
 
-  -- in the definition's words: what came before has one more
-  joins_same : (L : Limits) (M : Modes) (fs : List Fragment) (f : Fragment) → M.strict_joining ≡ j.strict → j.before ≡ j.counter + 1 → joins L M j.counter f b fs ≡ joins_by L j f b fs
-  unfolding joins follows
-  joins_same L M fs f es eb = ap₂ (λ (x : Bool) (y : ℕ). cond x (eqb f.counter y) true && fits L f b fs) es (sym eb)
-
-  middle_is : (L : Limits) (M : Modes) (fs : List Fragment) (f : Fragment) (a : Bool) → fragment_of p fs ≡ some f → joins L M j.counter f b fs ≡ a
-      → middle L M p j.counter b fs ≡ cond a (grow_in p j.counter b fs) (without p fs)
+  middle_is : (L : Limits) (fs : List Fragment) (f : Fragment) (a : Bool) → fragment_of p fs ≡ some f → fits L f b fs ≡ a → middle L p b fs ≡ cond a (grow_in p b fs) (without p fs)
   unfolding middle
-  middle_is L M fs f a found joined = ap (λ (o : Option Fragment). middle_of o L M p j.counter b fs) found ∙ ap (λ (x : Bool). cond x (grow_in p j.counter b fs) (without p fs)) joined
+  middle_is L fs f a found fitting = ap (λ (o : Option Fragment). middle_of o L p b fs) found ∙ ap (λ (x : Bool). cond x (grow_in p b fs) (without p fs)) fitting
 
-  pub middle_joined : (start end flags : ℕ) (h : Held) (fragment_heads' bodies' : List ℕ) → GrowsWithin p j b n leading fragment_heads bodies (Grown.At start end flags h) fragment_heads' bodies'
-      → LearnsMiddle p j b n leading fragment_heads bodies h fragment_heads' bodies'
+  pub middle_joined : (start end flags : ℕ) (h : Held) (fragment_heads' bodies' : List ℕ) → GrowsWithin p most b n leading fragment_heads bodies (Grown.At start end flags h) fragment_heads' bodies'
+      → LearnsMiddle p most b n leading fragment_heads bodies h fragment_heads' bodies'
   middle_joined start end flags h fragment_heads' bodies' u = record {
-    learned = λ L M fs em es eb k.
+    learned = λ L fs em k.
         let g = u.is L fs em k in
-        let e : grow_in p j.counter b fs ≡ middle L M p j.counter b fs = sym (middle_is L M fs g.fragment true g.found (joins_same L M fs g.fragment es eb ∙ g.joins)) in
-        let i : index_of p fs < length fs = omega (arith, g.leading_is, g.leading_low, g.kept.heads.count, grown_length p j.counter b fs) in
+        let e : grow_in p b fs ≡ middle L p b fs = sym (middle_is L fs g.fragment true g.found g.fitting) in
+        let i : index_of p fs < length fs = omega (arith, g.leading_is, g.leading_low, g.kept.heads.count, grown_length p b fs) in
         subst (λ (l : List Fragment). HeldAfter L.total p fs l leading h fragment_heads' bodies') e
-        (record { kept = g.kept; leading_is = g.leading_is ∙ sym (leading_grown p fs leading j.counter b i) });
+        (record { kept = g.kept; leading_is = g.leading_is ∙ sym (leading_grown p fs leading b i) });
     once = u.once;
   }
 
-  pub middle_discarded : (h : Held) (fragment_heads' bodies' : List ℕ) → GrowsWithin p j b n leading fragment_heads bodies (Grown.Discarded h) fragment_heads' bodies'
-      → LearnsMiddle p j b n leading fragment_heads bodies h fragment_heads' bodies'
+  pub middle_discarded : (h : Held) (fragment_heads' bodies' : List ℕ) → GrowsWithin p most b n leading fragment_heads bodies (Grown.Discarded h) fragment_heads' bodies'
+      → LearnsMiddle p most b n leading fragment_heads bodies h fragment_heads' bodies'
   middle_discarded h fragment_heads' bodies' u = record {
-    learned = λ L M fs em es eb k.
+    learned = λ L fs em k.
         let g = u.is L fs em k in
-        subst (λ (l : List Fragment). HeldAfter L.total p fs l leading h fragment_heads' bodies') (sym (middle_is L M fs g.fragment false g.found (joins_same L M fs g.fragment es eb ∙ g.joins))) g.left;
+        subst (λ (l : List Fragment). HeldAfter L.total p fs l leading h fragment_heads' bodies') (sym (middle_is L fs g.fragment false g.found g.fitting)) g.left;
     once = u.once;
   }
 
-  pub middle_absent : (fragment_heads' bodies' : List ℕ) → GrowsWithin p j b n leading fragment_heads bodies Grown.Absent fragment_heads' bodies'
-      → LearnsMiddle p j b n leading fragment_heads bodies (record { count = n; leading = leading }) fragment_heads' bodies'
+  pub middle_absent : (fragment_heads' bodies' : List ℕ) → GrowsWithin p most b n leading fragment_heads bodies Grown.Absent fragment_heads' bodies'
+      → LearnsMiddle p most b n leading fragment_heads bodies (record { count = n; leading = leading }) fragment_heads' bodies'
   unfolding middle
   middle_absent fragment_heads' bodies' u = record {
-    learned = λ L M fs em es eb k.
+    learned = λ L fs em k.
         let g = u.is L fs em k in
-        let e : fs ≡ middle L M p j.counter b fs = sym (ap (λ (o : Option Fragment). middle_of o L M p j.counter b fs) g.0) in
+        let e : fs ≡ middle L p b fs = sym (ap (λ (o : Option Fragment). middle_of o L p b fs) g.0) in
         subst (λ (l : List Fragment). HeldAfter L.total p fs l leading (record { count = n; leading = leading }) fragment_heads' bodies') e
         (record {
           kept = subst (λ (l : List ℕ). KeptFragments L.total fs n leading l bodies') (sym g.1) (subst (λ (l : Bytes). KeptFragments L.total fs n leading fragment_heads l) (sym g.2) k);
@@ -410,19 +384,19 @@ module _ (p : ℕ) (j : Joining) (b : Bytes) (n leading : ℕ) (fragment_heads b
 
 -- ---- a last that was joined: it grew, and is given back
 
-module _ (L : Limits) (j : Joining) (p : ℕ) (b : Bytes) (fs : List Fragment) (start end flags : ℕ) (h : Held) (fragment_heads : List ℕ) (bodies : Bytes) (g : GrewAt L j p b fs start end flags h fragment_heads bodies) where
+module _ (L : Limits) (p : ℕ) (b : Bytes) (fs : List Fragment) (start end flags : ℕ) (h : Held) (fragment_heads : List ℕ) (bodies : Bytes) (g : GrewAt L p b fs start end flags h fragment_heads bodies) where
   pub grew_numbers : (0 < h.leading) × (h.leading ≤ h.count) × (h.count ≤ 256) × (length fragment_heads ≡ 256)
   grew_numbers =
-      let ns = numbers L.total (grow_in p j.counter b fs) h.count h.leading fragment_heads bodies g.kept in
+      let ns = numbers L.total (grow_in p b fs) h.count h.leading fragment_heads bodies g.kept in
       (omega (arith, g.leading_is), g.leading_low, ns.few, ns.slots_all)
 
   pub joined_gone : (r : Held) (fragment_heads' : List ℕ) (leading : ℕ) → GivesBack h.count h.leading fragment_heads r fragment_heads'
       → HeldAfter L.total p fs (without p fs) leading r fragment_heads' bodies
   joined_gone r fragment_heads' leading w =
-      let same : index_of p (grow_in p j.counter b fs) ≡ index_of p fs = (index_grown p j.counter b fs).0 in
+      let same : index_of p (grow_in p b fs) ≡ index_of p fs = (index_grown p b fs).0 in
       record {
-        kept = subst (λ (l : List Fragment). KeptFragments L.total l r.count r.leading fragment_heads' bodies) (without_grown p j.counter b fs)
-            (w.1 L.total p (grow_in p j.counter b fs) bodies (g.leading_is ∙ ap (λ (z : ℕ). z + 1) (sym same)) g.kept);
+        kept = subst (λ (l : List Fragment). KeptFragments L.total l r.count r.leading fragment_heads' bodies) (without_grown p b fs)
+            (w.1 L.total p (grow_in p b fs) bodies (g.leading_is ∙ ap (λ (z : ℕ). z + 1) (sym same)) g.kept);
         leading_is = (let z : r.leading ≡ index_of p fs = omega (arith, w.0, g.leading_is) in z)
-            ∙ sym (leading_gone p fs leading (omega (arith, g.leading_is, g.leading_low, g.kept.heads.count, grown_length p j.counter b fs)));
+            ∙ sym (leading_gone p fs leading (omega (arith, g.leading_is, g.leading_low, g.kept.heads.count, grown_length p b fs)));
       }

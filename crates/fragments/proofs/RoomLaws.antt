@@ -1,6 +1,6 @@
 -- Heads and a room that hold fragments: their numbers, and what they hold when the free bytes move, when a fragment goes, when one is put behind
 -- the others and when one grows. Rests on FragmentLaws and BlockLaws, and on LayoutLaws of `meaning`.
-use Prim.Native.Nat.{ℕ, suc, ◌+◌, ◌-◌, ◌*◌, ◌%◌, ◌≤◌, ◌<◌, ◌/◌}
+use Prim.Native.Nat.{ℕ, suc, ◌+◌, ◌-◌, ◌*◌, ◌%◌, ◌≤◌, ◌<◌}
 use mathlib.Core.Path.{◌≡◌, refl, sym, ap, ap₂, ◌∙◌, subst}
 use mathlib.Core.Bool.{Bool, true, false, cond, ◌&&◌}
 use mathlib.Core.List.{List, [], ◌∷◌, ◌++◌, map, map-append, append_assoc, append-nil}
@@ -13,14 +13,14 @@ use borrow.Author.Tests.{ltb-true, ltb-false, leb-true, leb-false, lt-ltb, le-lt
 use Rattle.meaning.specs.Bytes.{Bytes}
 use Rattle.meaning.specs.Writing.{Wrote}
 use Rattle.meaning.specs.Learn.{Fragment, without, fragment_bytes, fragment_of, grown, grow_in, hold_first}
-use Rattle.meaning.specs.Record.{slots, fragment_head, bodies_of, room_of, lens, fragment_identifier, fragment_flags, fragment_length}
+use Rattle.meaning.specs.Record.{slots, fragment_head, bodies_of, room_of, lens}
 use Rattle.meaning.specs.Leading.{index_of}
 use Rattle.meaning.specs.Soundness.{distinct, identifiers, HoldsFragments}
 use Rattle.meaning.specs.declared.Limits.{Limits}
 use Rattle.meaning.proofs.SoundnessKept.{without_holds}
 use Rattle.meaning.proofs.LayoutLaws.{bodies_append, bodies_next, bodies_one, bodies_none, bytes_of_lem, longer_take, shorter_drop, take_map, drop_map}
 use Rattle.meaning.proofs.SoundnessLaws.{Tells, TellAll, heads_tell, used, tell_take, tell_drop, lens_heads}
-use Rattle.fragments.specs.Fragments.{index_in, grown_head, Heads, others_of, length_at, TakesOut, FreeMoved, Packed, KeptFragments, Numbers, Nearest, held_behind, Grows}
+use Rattle.fragments.specs.Fragments.{index_in, Heads, others_of, length_at, TakesOut, FreeMoved, Packed, KeptFragments, Numbers, Nearest, held_behind, Grows}
 use Rattle.fragments.proofs.FragmentLaws.{index_fragment_heads, Spot, spot, missing, without_is}
 use Rattle.fragments.proofs.BlockLaws.{moved_down, moved_up, filled, second, third, tail, closed_heads, one_zero}
 
@@ -231,16 +231,9 @@ tell_apart : (xs : List Fragment) (f : Fragment) (ys : List Fragment) → TellAl
 tell_apart [] f ys h = h.0
 tell_apart (x ∷ xs) f ys h = tell_apart xs f ys h.1
 
-grown_head_lem : (f : Fragment) (c : ℕ) (b : Bytes) → Tells f → grown_head (fragment_head f) c (length b) ≡ fragment_head (grown f c b)
-unfolding grown_head fragment_head fragment_identifier fragment_flags
-grown_head_lem f c b t =
-    let h = fragment_head f in
-    let front : h / 1099511627776 ≡ f.identifier * 256 + f.flags = front_is h f.identifier f.flags t.identifier_is t.flags_are in
-    let len : fragment_length h ≡ length f.body = t.length_is in
-    omega (arith, front, len, length-append f.body b)
-  where
-    front_is : (h i a : ℕ) → h / 281474976710656 ≡ i → h / 1099511627776 % 256 ≡ a → h / 1099511627776 ≡ i * 256 + a
-    front_is h i a x y = omega arith
+grown_head : (f : Fragment) (b : Bytes) → fragment_head f + length b ≡ fragment_head (grown f b)
+unfolding fragment_head
+grown_head f b = omega (arith, length-append f.body b)
 
 -- the head of the fragment at an index
 pub record There (p : ℕ) (fs : List Fragment) (index : ℕ) (fragment_heads : List ℕ) : Type 0 where
@@ -271,9 +264,6 @@ module _ (T p : ℕ) (fs : List Fragment) (index n leading : ℕ) (fragment_head
       heads_are fs n fragment_heads k.heads ∙ ap (λ (l : List ℕ). l ++ replicate (256 - n) 0) (ap (map fragment_head) here.whole ∙ map-append fragment_head xs (f ∷ ys))
       ∙ append_assoc (map fragment_head xs) (fragment_head f ∷ map fragment_head ys) (replicate (256 - n) 0)
 
-  own_tells : Tells f
-  own_tells = tell_apart xs f ys (subst TellAll here.whole (tell T fs n leading fragment_heads bodies k))
-
   head_at : get_or fragment_heads index 0 ≡ fragment_head f
   head_at =
       ap (λ (l : List ℕ). get_or l index 0) heads_split
@@ -284,7 +274,7 @@ module _ (T p : ℕ) (fs : List Fragment) (index n leading : ℕ) (fragment_head
     fragment = f;
     found = here.found;
     head_is = head_at;
-    tells = own_tells;
+    tells = tell_apart xs f ys (subst TellAll here.whole (tell T fs n leading fragment_heads bodies k));
   }
 
   take_xs : take index fs ≡ xs
@@ -337,11 +327,11 @@ module _ (T p : ℕ) (fs : List Fragment) (index n leading : ℕ) (fragment_head
 
   -- ---- it grows, where the free bytes are behind it
 
-  pub grown_in : (c : ℕ) (b : Bytes) (fragment_heads' : List ℕ) (bodies' : Bytes) (q : ℕ) → leading ≡ index + 1 → lens (take n fragment_heads) + length b ≤ length bodies → length bodies' ≡ length bodies
-      → Wrote b bodies (lens (take (index + 1) fragment_heads)) bodies' q → fragment_heads' ≡ set fragment_heads index (grown_head (get_or fragment_heads index 0) c (length b)) → HoldsFragments T (grow_in p c b fs)
-      → Grows T p c b fs n (index + 1) (lens (take index fragment_heads)) fragment_heads' bodies'
-  grown_in c b fragment_heads' bodies' q el fit same w eh hold =
-      let g : Fragment = grown f c b in
+  pub grown_in : (b : Bytes) (fragment_heads' : List ℕ) (bodies' : Bytes) (q : ℕ) → leading ≡ index + 1 → lens (take n fragment_heads) + length b ≤ length bodies → length bodies' ≡ length bodies
+      → Wrote b bodies (lens (take (index + 1) fragment_heads)) bodies' q → fragment_heads' ≡ set fragment_heads index (get_or fragment_heads index 0 + length b) → HoldsFragments T (grow_in p b fs)
+      → Grows T p b fs n (index + 1) (lens (take index fragment_heads)) fragment_heads' bodies'
+  grown_in b fragment_heads' bodies' q el fit same w eh hold =
+      let g : Fragment = grown f b in
       let ba : bodies_of (take (index + 1) fs) ≡ bodies_of xs ++ f.body =
       ap bodies_of (take_f (index + 1) 0 refl) ∙ bodies_append xs (f ∷ []) ∙ ap (λ (z : Bytes). bodies_of xs ++ z) (bodies_one f) in
       let rs₀ : bodies ≡ (bodies_of xs ++ f.body) ++ (k.free ++ bodies_of ys) =
@@ -354,11 +344,11 @@ module _ (T p : ℕ) (fs : List Fragment) (index n leading : ℕ) (fragment_head
       let rs : bodies' ≡ ((bodies_of xs ++ f.body) ++ b) ++ (rest ++ bodies_of ys) =
       filled (bodies_of xs ++ f.body) k.free (bodies_of ys) b bodies bodies' (lens (take (index + 1) fragment_heads)) q rs₀ end_is gl w in
       let zeros : List ℕ = replicate (256 - n) 0 in
-      let hv : grown_head (get_or fragment_heads index 0) c (length b) ≡ fragment_head g = ap (λ (z : ℕ). grown_head z c (length b)) head_at ∙ grown_head_lem f c b own_tells in
+      let hv : get_or fragment_heads index 0 + length b ≡ fragment_head g = ap (λ (z : ℕ). z + length b) head_at ∙ grown_head f b in
       let hs : fragment_heads' ≡ map fragment_head xs ++ (fragment_head g ∷ (map fragment_head ys ++ zeros)) =
       eh ∙ ap₂ (λ (l : List ℕ) (z : ℕ). set l index z) heads_split hv
       ∙ set_at (map fragment_head xs) (fragment_head f) (map fragment_head ys ++ zeros) (fragment_head g) index (length-map xs fragment_head ∙ sym index_xs) in
-      let count : n ≡ length (xs ++ (g ∷ ys)) = omega (arith, k.heads.count, ap length here.whole, length-append xs (f ∷ ys), length-append xs (g ∷ ys)) in
+      let c : n ≡ length (xs ++ (g ∷ ys)) = omega (arith, k.heads.count, ap length here.whole, length-append xs (f ∷ ys), length-append xs (g ∷ ys)) in
       let one : index + 1 ≡ length xs + 1 = ap (λ (z : ℕ). z + 1) index_xs in
       let tg : bodies_of (take (index + 1) (xs ++ (g ∷ ys))) ≡ bodies_of xs ++ (f.body ++ b) =
       ap bodies_of (take_past xs g ys (index + 1) 0 one) ∙ bodies_append xs (g ∷ []) ∙ ap (λ (z : Bytes). bodies_of xs ++ z) (bodies_one g) in
@@ -368,16 +358,16 @@ module _ (T p : ℕ) (fs : List Fragment) (index n leading : ℕ) (fragment_head
       record {
         fragment = f;
         found = here.found;
-        kept = subst (λ (l : List Fragment). KeptFragments T l n (index + 1) fragment_heads' bodies') (sym (here.grows c b))
+        kept = subst (λ (l : List Fragment). KeptFragments T l n (index + 1) fragment_heads' bodies') (sym (here.grows b))
             (record {
-              heads = heads_from (xs ++ (g ∷ ys)) n fragment_heads' count
+              heads = heads_from (xs ++ (g ∷ ys)) n fragment_heads' c
                   (hs ∙ sym (append_assoc (map fragment_head xs) (fragment_head g ∷ map fragment_head ys) zeros) ∙ ap (λ (l : List ℕ). l ++ zeros) (sym (map-append fragment_head xs (g ∷ ys))));
               free = rest;
               room_is = rs ∙ ap (λ (z : Bytes). z ++ (rest ++ bodies_of ys)) (append_assoc (bodies_of xs) f.body b)
                   ∙ ap₂ (λ (s t : Bytes). s ++ (rest ++ t)) (sym tg) (sym dg) ∙ sym (room_is_parts (index + 1) (xs ++ (g ∷ ys)) rest);
               total = same ∙ k.total;
               total_few = k.total_few;
-              hold = subst (HoldsFragments T) (here.grows c b) hold;
+              hold = subst (HoldsFragments T) (here.grows b) hold;
             });
         body_is = second (bodies_of xs) (f.body ++ b) (rest ++ bodies_of ys) bodies' (lens (take index fragment_heads)) (length f.body + length b)
             (rs ∙ regroup (bodies_of xs) f.body b (rest ++ bodies_of ys)) start_is lb;
@@ -502,14 +492,14 @@ module _ (T p : ℕ) (fs : List Fragment) (index n leading : ℕ) (fragment_head
         go false e = front_led_not (ltb-false index leading e)
 
     -- a first behind them
-    pub put_kept : (flags counter : ℕ) (b : Bytes) (rest count q : ℕ) (fragment_heads₁ fragment_heads' : List ℕ) (bodies'' : Bytes) → rest ≡ all - length_at index n fragment_heads → count ≡ others_of index n → count < 256
+    pub put_kept : (flags : ℕ) (b : Bytes) (rest count q : ℕ) (fragment_heads₁ fragment_heads' : List ℕ) (bodies'' : Bytes) → rest ≡ all - length_at index n fragment_heads → count ≡ others_of index n → count < 256
         → length bodies'' ≡ length bodies' → Wrote b bodies' rest bodies'' q → TakesOut index n fragment_heads fragment_heads₁
-        → fragment_heads' ≡ set fragment_heads₁ count (p * 281474976710656 + flags % 64 * 1099511627776 + counter * 4294967296 + length b) → HoldsFragments T (held_behind p flags counter b fs)
-        → KeptFragments T (held_behind p flags counter b fs) (count + 1) (count + 1) fragment_heads' bodies''
+        → fragment_heads' ≡ set fragment_heads₁ count (p * 281474976710656 + flags % 64 * 1099511627776 + length b) → HoldsFragments T (held_behind p flags b fs)
+        → KeptFragments T (held_behind p flags b fs) (count + 1) (count + 1) fragment_heads' bodies''
     unfolding fragment_head
-    put_kept flags counter b rest count q fragment_heads₁ fragment_heads' bodies'' er ec few same w out eh hold =
+    put_kept flags b rest count q fragment_heads₁ fragment_heads' bodies'' er ec few same w out eh hold =
         let os : List Fragment = without p fs in
-        let f : Fragment = record { identifier = p; flags = flags % 64; counter = counter; body = b } in
+        let f : Fragment = record { identifier = p; flags = flags % 64; body = b } in
         let hs₁ : Heads os count fragment_heads₁ = subst (λ (i : ℕ). Heads os i fragment_heads₁) (sym ec) (out p fs k.hold.once at k.heads) in
         let z : 256 - count ≡ suc (256 - (count + 1)) = omega arith in
         let hs : fragment_heads₁ ≡ map fragment_head os ++ (0 ∷ replicate (256 - (count + 1)) 0) = heads_are os count fragment_heads₁ hs₁ ∙ ap (λ (i : ℕ). map fragment_head os ++ replicate i 0) z in
@@ -539,19 +529,19 @@ module _ (T p : ℕ) (fs : List Fragment) (index n leading : ℕ) (fragment_head
 
 -- ---- whether a first is held
 
-module _ (L : Limits) (p flags c : ℕ) (b : Bytes) (fs : List Fragment) where
-  pub held_so : length (without p fs) < 256 → fragment_bytes (without p fs) + length b ≤ L.total → hold_first L p flags c b fs ≡ held_behind p flags c b fs
+module _ (L : Limits) (p flags : ℕ) (b : Bytes) (fs : List Fragment) where
+  pub held_so : length (without p fs) < 256 → fragment_bytes (without p fs) + length b ≤ L.total → hold_first L p flags b fs ≡ held_behind p flags b fs
   unfolding hold_first
   held_so h l = rw (lt-ltb (length (without p fs)) 256 h, le-leb (fragment_bytes (without p fs) + length b) L.total l) refl
 
-  pub full_so : 256 ≤ length (without p fs) → hold_first L p flags c b fs ≡ without p fs
+  pub full_so : 256 ≤ length (without p fs) → hold_first L p flags b fs ≡ without p fs
   unfolding hold_first
   full_so h = rw (le-ltb (length (without p fs)) 256 h) refl
 
-  pub short_so : L.total < fragment_bytes (without p fs) + length b → hold_first L p flags c b fs ≡ without p fs
+  pub short_so : L.total < fragment_bytes (without p fs) + length b → hold_first L p flags b fs ≡ without p fs
   unfolding hold_first
   short_so l = go (ltb (length (without p fs)) 256)
     where
-      go : (a : Bool) → cond (a && leb (fragment_bytes (without p fs) + length b) L.total) (held_behind p flags c b fs) (without p fs) ≡ without p fs
+      go : (a : Bool) → cond (a && leb (fragment_bytes (without p fs) + length b) L.total) (held_behind p flags b fs) (without p fs) ≡ without p fs
       go true = rw (lt-leb (fragment_bytes (without p fs) + length b) L.total l) refl
       go false = refl

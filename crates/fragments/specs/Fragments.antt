@@ -1,19 +1,17 @@
 -- How the code holds fragments, and what its functions promise: the state that the heads and the room hold afterwards, whatever state they
 -- held, and that each byte of the room moved at most once.
-use Rattle.std.specs.Prelude.{ℕ, suc, ◌+◌, ◌-◌, ◌*◌, ◌/◌, ◌%◌, ◌≤◌, ◌<◌, ◌≡◌, Bool, true, false, cond, ◌&&◌, List, [], ◌∷◌, ◌++◌, map, length, take, drop, eqb, ltb}
+use Rattle.std.specs.Prelude.{ℕ, suc, ◌+◌, ◌-◌, ◌%◌, ◌≤◌, ◌<◌, ◌≡◌, true, false, cond, List, [], ◌∷◌, ◌++◌, map, length, take, drop, eqb, ltb}
 use Rattle.std.proofs.Math.Option.{none, some}
 use Rattle.meaning.specs.Bytes.{Bytes}
 use Rattle.meaning.specs.Writing.{Wrote}
 use Rattle.meaning.specs.Learn.{Fragment, without, fragment_of, grow_in, hold_first, fits, middle}
-use Rattle.meaning.specs.Record.{slots, fragment_head, fragment_identifier, fragment_length, room_of, lens}
+use Rattle.meaning.specs.Record.{slots, fragment_head, fragment_identifier, room_of, lens}
 use Rattle.meaning.specs.Leading.{index_of, leading_after}
 use Rattle.meaning.specs.Moves.{MovedOnce}
 use Rattle.meaning.specs.Soundness.{distinct, identifiers, HoldsFragments}
 use Rattle.meaning.specs.declared.Limits.{Limits}
-use Rattle.meaning.specs.declared.Modes.{Modes}
 use Rattle.fragments.specs.declared.Held.{Held}
 use Rattle.fragments.specs.declared.Grown.{Grown}
-use Rattle.fragments.specs.declared.Joining.{Joining}
 use Rattle.fragments.specs.declared.Place.{Place}
 
 -- ---- heads alone
@@ -23,11 +21,6 @@ unfoldable pub index_in : ℕ → List ℕ → ℕ
 unfolding fragment_identifier
 index_in p [] = 0
 index_in p (h ∷ hs) = cond (eqb (fragment_identifier h) p) 0 (suc (index_in p hs))
-
--- The head of a fragment that grew by n bytes, the last of them with counter c.
-unfoldable pub grown_head : ℕ → ℕ → ℕ → ℕ
-unfolding fragment_length
-grown_head h c n = h / 1099511627776 * 1099511627776 + c * 4294967296 + (fragment_length h + n)
 
 -- So many heads of these fragments in an array whose unused slots are zero.
 pub record Heads (fs : List Fragment) (n : ℕ) (fragment_heads : List ℕ) : Type 0 where
@@ -139,50 +132,41 @@ GivesBack n leading fragment_heads r fragment_heads' =
 
 -- ---- a first
 
-abbrev pub held_behind : ℕ → ℕ → ℕ → Bytes → List Fragment → List Fragment
-held_behind p flags c b fs = without p fs ++ (record { identifier = p; flags = flags % 64; counter = c; body = b } ∷ [])
+abbrev pub held_behind : ℕ → ℕ → Bytes → List Fragment → List Fragment
+held_behind p flags b fs = without p fs ++ (record { identifier = p; flags = flags % 64; body = b } ∷ [])
 
 -- It is held behind the others; what was held of its identifier stood at the index.
-pub record PutsBehind (index p flags c : ℕ) (b : Bytes) (n leading : ℕ) (fragment_heads : List ℕ) (bodies : Bytes) (r : Held) (fragment_heads' : List ℕ) (bodies' : Bytes) : Type 0 where
+pub record PutsBehind (index p flags : ℕ) (b : Bytes) (n leading : ℕ) (fragment_heads : List ℕ) (bodies : Bytes) (r : Held) (fragment_heads' : List ℕ) (bodies' : Bytes) : Type 0 where
   pub held : (L : Limits) (fs : List Fragment) → index ≡ index_of p fs → KeptFragments L.total fs n leading fragment_heads bodies
-      → KeptFragments L.total (hold_first L p flags c b fs) r.count r.leading fragment_heads' bodies' × (hold_first L p flags c b fs ≡ held_behind p flags c b fs)
+      → KeptFragments L.total (hold_first L p flags b fs) r.count r.leading fragment_heads' bodies' × (hold_first L p flags b fs ≡ held_behind p flags b fs)
   pub leading_is : r.leading ≡ others_of index n + 1
   pub once : MovedOnce bodies b bodies'
 
-pub record HoldsFirst (p flags c : ℕ) (b : Bytes) (n leading : ℕ) (fragment_heads : List ℕ) (bodies : Bytes) (r : Held) (fragment_heads' : List ℕ) (bodies' : Bytes) : Type 0 where
+pub record HoldsFirst (p flags : ℕ) (b : Bytes) (n leading : ℕ) (fragment_heads : List ℕ) (bodies : Bytes) (r : Held) (fragment_heads' : List ℕ) (bodies' : Bytes) : Type 0 where
   pub held : (L : Limits) (fs : List Fragment) → KeptFragments L.total fs n leading fragment_heads bodies
-      → HeldAfter L.total p fs (hold_first L p flags c b fs) leading r fragment_heads' bodies'
+      → HeldAfter L.total p fs (hold_first L p flags b fs) leading r fragment_heads' bodies'
   pub once : MovedOnce bodies b bodies'
 
 -- ---- a middle or last
 
--- Whether a body may come behind a fragment with counter c: in strict joining by the one that must have come before.
-abbrev pub comes_next : Joining → ℕ → Bool
-comes_next j c = cond j.strict (eqb c j.before) true
-
--- And whether it fits.
-abbrev pub joins_by : Limits → Joining → Fragment → Bytes → List Fragment → Bool
-joins_by L j f b fs = comes_next j f.counter && fits L f b fs
-
 -- The fragment at an index grows by b, is the last that leads then, and its body stands from `start` on.
-pub record Grows (T p c : ℕ) (b : Bytes) (fs : List Fragment) (n leading start : ℕ) (fragment_heads' : List ℕ) (bodies' : Bytes) : Type 0 where
+pub record Grows (T p : ℕ) (b : Bytes) (fs : List Fragment) (n leading start : ℕ) (fragment_heads' : List ℕ) (bodies' : Bytes) : Type 0 where
   pub fragment : Fragment
   pub found : fragment_of p fs ≡ some fragment
-  pub kept : KeptFragments T (grow_in p c b fs) n leading fragment_heads' bodies'
+  pub kept : KeptFragments T (grow_in p b fs) n leading fragment_heads' bodies'
   pub body_is : take (length fragment.body + length b) (drop start bodies') ≡ fragment.body ++ b
 
-pub record Lengthens (index c : ℕ) (b : Bytes) (n leading : ℕ) (fragment_heads : List ℕ) (bodies : Bytes) (fragment_heads' : List ℕ) (bodies' : Bytes) : Type 0 where
-  pub grows : (T p : ℕ) (fs : List Fragment) → index ≡ index_of p fs → KeptFragments T fs n leading fragment_heads bodies → HoldsFragments T (grow_in p c b fs)
-      → Grows T p c b fs n (index + 1) (lens (take index fragment_heads)) fragment_heads' bodies'
+pub record Lengthens (index : ℕ) (b : Bytes) (n leading : ℕ) (fragment_heads : List ℕ) (bodies : Bytes) (fragment_heads' : List ℕ) (bodies' : Bytes) : Type 0 where
+  pub grows : (T p : ℕ) (fs : List Fragment) → index ≡ index_of p fs → KeptFragments T fs n leading fragment_heads bodies → HoldsFragments T (grow_in p b fs)
+      → Grows T p b fs n (index + 1) (lens (take index fragment_heads)) fragment_heads' bodies'
   pub once : MovedOnce bodies b bodies'
 
--- It is joined: the fragment has grown, and its body stands from `start` to `end`.
-pub record GrewAt (L : Limits) (j : Joining) (p : ℕ) (b : Bytes) (fs : List Fragment) (start end flags : ℕ) (h : Held) (fragment_heads' : List ℕ) (bodies' : Bytes) : Type 0 where
+-- It fits: it has grown, and its body stands from `start` to `end`.
+pub record GrewAt (L : Limits) (p : ℕ) (b : Bytes) (fs : List Fragment) (start end flags : ℕ) (h : Held) (fragment_heads' : List ℕ) (bodies' : Bytes) : Type 0 where
   pub fragment : Fragment
   pub found : fragment_of p fs ≡ some fragment
-  pub counter_small : fragment.counter < 256
-  pub joins : joins_by L j fragment b fs ≡ true
-  pub kept : KeptFragments L.total (grow_in p j.counter b fs) h.count h.leading fragment_heads' bodies'
+  pub fitting : fits L fragment b fs ≡ true
+  pub kept : KeptFragments L.total (grow_in p b fs) h.count h.leading fragment_heads' bodies'
   pub leading_is : h.leading ≡ index_of p fs + 1
   pub leading_low : h.leading ≤ h.count
   pub flags_are : flags ≡ fragment.flags
@@ -190,32 +174,30 @@ pub record GrewAt (L : Limits) (j : Joining) (p : ℕ) (b : Bytes) (fs : List Fr
   pub inside : end ≤ length bodies'
   pub body_is : take (end - start) (drop start bodies') ≡ fragment.body ++ b
 
--- It is not: the fragment is given up.
-pub record GaveUp (L : Limits) (j : Joining) (p : ℕ) (b : Bytes) (fs : List Fragment) (leading : ℕ) (h : Held) (fragment_heads' : List ℕ) (bodies' : Bytes) : Type 0 where
+-- It does not: it is given up.
+pub record GaveUp (L : Limits) (p : ℕ) (b : Bytes) (fs : List Fragment) (leading : ℕ) (h : Held) (fragment_heads' : List ℕ) (bodies' : Bytes) : Type 0 where
   pub fragment : Fragment
   pub found : fragment_of p fs ≡ some fragment
-  pub counter_small : fragment.counter < 256
-  pub joins : joins_by L j fragment b fs ≡ false
+  pub fitting : fits L fragment b fs ≡ false
   pub left : HeldAfter L.total p fs (without p fs) leading h fragment_heads' bodies'
 
-abbrev pub GrownIs : Grown → Limits → Joining → ℕ → Bytes → List Fragment → ℕ → List ℕ → Bytes → List ℕ → Bytes → Type 0
-GrownIs (Grown.At start end flags h) L j p b fs leading fragment_heads bodies fragment_heads' bodies' = GrewAt L j p b fs start end flags h fragment_heads' bodies'
-GrownIs (Grown.Discarded h) L j p b fs leading fragment_heads bodies fragment_heads' bodies' = GaveUp L j p b fs leading h fragment_heads' bodies'
-GrownIs Grown.Absent L j p b fs leading fragment_heads bodies fragment_heads' bodies' = (fragment_of p fs ≡ none) × (fragment_heads' ≡ fragment_heads) × (bodies' ≡ bodies)
+abbrev pub GrownIs : Grown → Limits → ℕ → Bytes → List Fragment → ℕ → List ℕ → Bytes → List ℕ → Bytes → Type 0
+GrownIs (Grown.At start end flags h) L p b fs leading fragment_heads bodies fragment_heads' bodies' = GrewAt L p b fs start end flags h fragment_heads' bodies'
+GrownIs (Grown.Discarded h) L p b fs leading fragment_heads bodies fragment_heads' bodies' = GaveUp L p b fs leading h fragment_heads' bodies'
+GrownIs Grown.Absent L p b fs leading fragment_heads bodies fragment_heads' bodies' = (fragment_of p fs ≡ none) × (fragment_heads' ≡ fragment_heads) × (bodies' ≡ bodies)
 
-pub record GrowsWithin (p : ℕ) (j : Joining) (b : Bytes) (n leading : ℕ) (fragment_heads : List ℕ) (bodies : Bytes) (r : Grown) (fragment_heads' : List ℕ) (bodies' : Bytes) : Type 0 where
-  pub is : (L : Limits) (fs : List Fragment) → L.most ≡ j.most → KeptFragments L.total fs n leading fragment_heads bodies
-      → GrownIs r L j p b fs leading fragment_heads bodies fragment_heads' bodies'
+pub record GrowsWithin (p most : ℕ) (b : Bytes) (n leading : ℕ) (fragment_heads : List ℕ) (bodies : Bytes) (r : Grown) (fragment_heads' : List ℕ) (bodies' : Bytes) : Type 0 where
+  pub is : (L : Limits) (fs : List Fragment) → L.most ≡ most → KeptFragments L.total fs n leading fragment_heads bodies
+      → GrownIs r L p b fs leading fragment_heads bodies fragment_heads' bodies'
   pub once : MovedOnce bodies b bodies'
 
 -- The same, told by the index of the identifier's fragment.
-pub record GrowsAtIndex (index : ℕ) (j : Joining) (b : Bytes) (n leading : ℕ) (fragment_heads : List ℕ) (bodies : Bytes) (r : Grown) (fragment_heads' : List ℕ) (bodies' : Bytes) : Type 0 where
-  pub is : (L : Limits) (p : ℕ) (fs : List Fragment) → index ≡ index_of p fs → L.most ≡ j.most → KeptFragments L.total fs n leading fragment_heads bodies
-      → GrownIs r L j p b fs leading fragment_heads bodies fragment_heads' bodies'
+pub record GrowsAtIndex (index most : ℕ) (b : Bytes) (n leading : ℕ) (fragment_heads : List ℕ) (bodies : Bytes) (r : Grown) (fragment_heads' : List ℕ) (bodies' : Bytes) : Type 0 where
+  pub is : (L : Limits) (p : ℕ) (fs : List Fragment) → index ≡ index_of p fs → L.most ≡ most → KeptFragments L.total fs n leading fragment_heads bodies
+      → GrownIs r L p b fs leading fragment_heads bodies fragment_heads' bodies'
   pub once : MovedOnce bodies b bodies'
 
--- A middle: what came before has one more.
-pub record LearnsMiddle (p : ℕ) (j : Joining) (b : Bytes) (n leading : ℕ) (fragment_heads : List ℕ) (bodies : Bytes) (r : Held) (fragment_heads' : List ℕ) (bodies' : Bytes) : Type 0 where
-  pub learned : (L : Limits) (M : Modes) (fs : List Fragment) → L.most ≡ j.most → M.strict_joining ≡ j.strict → j.before ≡ j.counter + 1
-      → KeptFragments L.total fs n leading fragment_heads bodies → HeldAfter L.total p fs (middle L M p j.counter b fs) leading r fragment_heads' bodies'
+pub record LearnsMiddle (p most : ℕ) (b : Bytes) (n leading : ℕ) (fragment_heads : List ℕ) (bodies : Bytes) (r : Held) (fragment_heads' : List ℕ) (bodies' : Bytes) : Type 0 where
+  pub learned : (L : Limits) (fs : List Fragment) → L.most ≡ most → KeptFragments L.total fs n leading fragment_heads bodies
+      → HeldAfter L.total p fs (middle L p b fs) leading r fragment_heads' bodies'
   pub once : MovedOnce bodies b bodies'

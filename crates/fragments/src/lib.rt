@@ -1,18 +1,18 @@
-// Fragments of messages: their heads in an array, identifier, flags, counter and length in one number. Of their bodies the first, those that lead, stand
+// Fragments of messages: their heads in an array, identifier, flags and length in one number. Of their bodies the first, those that lead, stand
 // one after the other at the front of the room, the others so at its end. The free bytes between them go behind the one that grows, so that
 // for one incoming body only what stands between their old and their new place moves, and each byte of it once.
-ghost use Rattle.std.specs.Prelude.{◌≡◌, ◌+◌, ◌-◌, ◌*◌, ◌%◌, ◌≤◌, ◌<◌, ◌&&◌, [], ◌∷◌, ◌++◌, length, take, drop, get_or, leb, ltb};
+ghost use Rattle.std.specs.Prelude.{◌≡◌, ◌+◌, ◌-◌, ◌*◌, ◌%◌, ◌≤◌, ◌<◌, ◌&&◌, [], ◌∷◌, ◌++◌, length, take, drop, leb, ltb};
 ghost use Rattle.meaning.specs.Writing.{Wrote};
-ghost use Rattle.meaning.specs.Record.{fragment_flags, fragment_counter, fragment_length, lens};
-ghost use Rattle.fragments.specs.Fragments.{index_in, grown_head, others_of, length_at, TakesOut, FreeMoved, Packed, KeepsFragments, Numbers, Nearest, Stands, GivesUp, DropsAt, Drops, GivesBack, PutsBehind, HoldsFirst, comes_next, Lengthens, GrowsWithin, GrowsAtIndex, LearnsMiddle};
+ghost use Rattle.meaning.specs.Record.{fragment_flags, fragment_length, lens};
+ghost use Rattle.fragments.specs.Fragments.{index_in, others_of, length_at, TakesOut, FreeMoved, Packed, KeepsFragments, Numbers, Nearest, Stands, GivesUp, DropsAt, Drops, GivesBack, PutsBehind, HoldsFirst, Lengthens, GrowsWithin, GrowsAtIndex, LearnsMiddle};
 
 use octets::{copy, move_down, move_up};
 
 // What a head says of its fragment: its length.
 fn length_of(head: u64) -> usize
-    ensures { (result ≡ fragment_length head) × (result < 4294967296) }
+    ensures { (result ≡ fragment_length head) × (result < 1099511627776) }
 {
-    (head % 4294967296) as usize
+    (head % 1099511627776) as usize
 }
 
 // Its flags.
@@ -22,54 +22,35 @@ fn flags_of(head: u64) -> u8
     (head / 1099511627776 % 256) as u8
 }
 
-// The counter of the fragment that came last.
-fn counter_of(head: u64) -> usize
-    ensures { result ≡ fragment_counter head }
-{
-    (head / 4294967296 % 256) as usize
-}
-
 // The head of a fragment of `n` bytes; of the flags the low six bits.
-fn fragment_head(id: u16, flags: u8, counter: u8, n: usize) -> u64
-    requires { n < 4294967296 }
-    ensures { result ≡ id * 281474976710656 + flags % 64 * 1099511627776 + counter * 4294967296 + n }
+fn fragment_head(id: u16, flags: u8, n: usize) -> u64
+    requires { n < 1099511627776 }
+    ensures { result ≡ id * 281474976710656 + flags % 64 * 1099511627776 + n }
 {
     let low = flags & 0x3f;
-    (id as u64) * 281474976710656
-        + (low as u64) * 1099511627776
-        + (counter as u64) * 4294967296
-        + (n as u64)
+    (id as u64) * 281474976710656 + (low as u64) * 1099511627776 + (n as u64)
 }
 
-// The head of a fragment that grows by `m` bytes, the last of them with this counter.
-fn longer(head: u64, counter: u8, m: usize) -> u64
-    requires { fragment_length head + m < 4294967296 }
-    ensures { result ≡ grown_head head counter m }
+// The head of a fragment that grows by `m` bytes.
+fn longer(head: u64, m: usize) -> u64
+    requires { fragment_length head + m < 1099511627776 }
+    ensures { result ≡ head + m }
 {
-    let front = head / 1099511627776 * 1099511627776;
-    front + (counter as u64) * 4294967296 + (head % 4294967296 + (m as u64))
-}
-
-// The bytes of the fragments from `from` on and before `to`: what those before `to` have more than those before `from`.
-fn bytes_between(fragment_heads: &[u64; 256], from: usize, to: usize) -> usize
-    requires { (from ≤ to) × (to ≤ 256) × (length fragment_heads.now ≡ 256) }
-    ensures { (lens (take from fragment_heads.now) + result ≡ lens (take to fragment_heads.now)) × (result ≤ to * 4294967296) }
-{
-    let mut sum: usize = 0;
-    let mut i: usize = from;
-    while i < to {
-        sum += length_of(fragment_heads[i]);
-        i += 1;
-    }
-    sum
+    head + (m as u64)
 }
 
 // The bytes of the first `n` fragments.
 fn fragment_bytes(fragment_heads: &[u64; 256], n: usize) -> usize
     requires { (n ≤ 256) × (length fragment_heads.now ≡ 256) }
-    ensures { (result ≡ lens (take n fragment_heads.now)) × (result ≤ n * 4294967296) }
+    ensures { (result ≡ lens (take n fragment_heads.now)) × (result ≤ n * 1099511627776) }
 {
-    bytes_between(fragment_heads, 0, n)
+    let mut sum: usize = 0;
+    let mut i: usize = 0;
+    while i < n {
+        sum += length_of(fragment_heads[i]);
+        i += 1;
+    }
+    sum
 }
 
 // The index of the identifier's fragment, `n` where there is none.
@@ -251,17 +232,6 @@ struct Place {
     all: usize,
 }
 
-// The bytes of the first `to` fragments, where the first `from` have `bytes`.
-fn bytes_from(bytes: usize, from: usize, to: usize, fragment_heads: &[u64; 256]) -> usize
-    requires { (from ≤ 256) × (to ≤ 256) × (length fragment_heads.now ≡ 256) × (bytes ≡ lens (take from fragment_heads.now)) × (bytes ≤ from * 4294967296) }
-    ensures { (result ≡ lens (take to fragment_heads.now)) × (result ≤ 512 * 4294967296) }
-{
-    if to < from {
-        return fragment_bytes(fragment_heads, to);
-    }
-    bytes + bytes_between(fragment_heads, from, to)
-}
-
 // The place of the fragment at `index`, or of one that would stand behind all.
 fn place_of(index: usize, n: usize, leading: usize, fragment_heads: &[u64; 256]) -> Place
     requires { (index ≤ n) × (n ≤ 256) × (length fragment_heads.now ≡ 256) }
@@ -270,8 +240,8 @@ fn place_of(index: usize, n: usize, leading: usize, fragment_heads: &[u64; 256])
     let near = nearest(n, leading);
     let start = fragment_bytes(fragment_heads, index);
     let own = length_at(fragment_heads, n, index);
-    let free = bytes_from(start, index, near, fragment_heads);
-    let all = free + bytes_between(fragment_heads, near, n);
+    let free = fragment_bytes(fragment_heads, near);
+    let all = fragment_bytes(fragment_heads, n);
     Place {
         index,
         leading: near,
@@ -307,20 +277,19 @@ fn put_behind(
     place: Place,
     id: u16,
     flags: u8,
-    counter: u8,
     body: &[u8],
     n: usize,
     fragment_heads: &mut [u64; 256],
     bodies: &mut [u8],
 ) -> Held
     requires { (place.index < 256) × Stands n fragment_heads.old place × Numbers n fragment_heads.old bodies.old × (place.all - place.own + length body.now ≤ length bodies.old) }
-    ensures { PutsBehind place.index id flags counter body.now n place.leading fragment_heads.old bodies.old result fragment_heads.new bodies.new }
+    ensures { PutsBehind place.index id flags body.now n place.leading fragment_heads.old bodies.old result fragment_heads.new bodies.new }
 {
     pack(place, bodies);
     copy(body, bodies, place.all - place.own);
     take_out(fragment_heads, n, place.index);
     let count = others(place.index, n);
-    fragment_heads[count] = fragment_head(id, flags, counter, body.len());
+    fragment_heads[count] = fragment_head(id, flags, body.len());
     Held {
         count: count + 1,
         leading: count + 1,
@@ -342,7 +311,6 @@ fn first_fits(index: usize, m: usize, rest: usize, total: usize) -> bool
 pub fn hold_first(
     id: u16,
     flags: u8,
-    counter: u8,
     body: &[u8],
     n: usize,
     leading: usize,
@@ -350,12 +318,12 @@ pub fn hold_first(
     bodies: &mut [u8],
 ) -> Held
     requires { KeepsFragments n leading fragment_heads.old bodies.old }
-    ensures { HoldsFirst id flags counter body.now n leading fragment_heads.old bodies.old result fragment_heads.new bodies.new }
+    ensures { HoldsFirst id flags body.now n leading fragment_heads.old bodies.old result fragment_heads.new bodies.new }
 {
     let index = find_fragment(fragment_heads, n, id);
     let place = place_of(index, n, leading, fragment_heads);
     if first_fits(place.index, body.len(), place.all - place.own, bodies.len()) {
-        return put_behind(place, id, flags, counter, body, n, fragment_heads, bodies);
+        return put_behind(place, id, flags, body, n, fragment_heads, bodies);
     }
     drop_at(place.index, n, leading, fragment_heads, bodies)
 }
@@ -374,49 +342,16 @@ fn fits(m: usize, old: usize, most: usize, all: usize, total: usize) -> bool
     m <= total - all
 }
 
-// How a further body is joined: whether counters are asked, the one that must have come before, its own, and the most bytes of one message.
-#[derive(Drop)]
-pub struct Joining {
-    pub strict: bool,
-    pub before: usize,
-    pub counter: u8,
-    pub most: usize,
-}
-
-// Whether a body may come behind a fragment with this counter.
-fn comes_next(j: Joining, counter: usize) -> bool
-    ensures { result ≡ comes_next j counter }
-{
-    if j.strict {
-        return counter == j.before;
-    }
-    true
-}
-
-// Whether a body of `m` bytes is joined to the fragment of this place: it fits and comes next. Asked in this order the head is not needed
-// where the fragment is looked for, which reads less of each then.
-fn joins(j: Joining, place: Place, m: usize, total: usize, fragment_heads: &[u64; 256]) -> bool
-    requires { (place.all ≤ total) × (place.index < 256) × (length fragment_heads.now ≡ 256) }
-    ensures { result ≡ (comes_next j (fragment_counter (get_or fragment_heads.now place.index 0)) && (leb (place.own + m) j.most && leb (place.all + m) total)) }
-{
-    if fits(m, place.own, j.most, place.all, total) {
-        let index = place.index;
-        return comes_next(j, counter_of(fragment_heads[index]));
-    }
-    false
-}
-
 // The fragment of this place with `body` behind it: the free bytes come there and take it up. Answers where it ends then.
 fn lengthen(
     place: Place,
-    counter: u8,
     body: &[u8],
     n: usize,
     fragment_heads: &mut [u64; 256],
     bodies: &mut [u8],
 ) -> usize
     requires { (place.index < n) × Stands n fragment_heads.old place × Numbers n fragment_heads.old bodies.old × (place.all + length body.now ≤ length bodies.old) }
-    ensures lengthens { Lengthens place.index counter body.now n place.leading fragment_heads.old bodies.old fragment_heads.new bodies.new }
+    ensures lengthens { Lengthens place.index body.now n place.leading fragment_heads.old bodies.old fragment_heads.new bodies.new }
     ensures value { result ≡ place.start + place.own + length body.now }
 {
     let index = place.index;
@@ -424,7 +359,7 @@ fn lengthen(
     let m = body.len();
     move_free(place.leading, index + 1, place.free, end, place.all, bodies);
     copy(body, bodies, end);
-    fragment_heads[index] = longer(fragment_heads[index], counter, m);
+    fragment_heads[index] = longer(fragment_heads[index], m);
     end + m
 }
 
@@ -441,23 +376,23 @@ pub enum Grown {
     Absent,
 }
 
-// The fragment of this place grows by `body`, or is given up where it is not joined.
+// The fragment of this place grows by `body` within the limits, or is given up.
 fn grow_at(
     place: Place,
     body: &[u8],
-    j: Joining,
+    most: usize,
     n: usize,
     leading: usize,
     fragment_heads: &mut [u64; 256],
     bodies: &mut [u8],
 ) -> Grown
     requires { (place.index < n) × Nearest n leading place.leading × Stands n fragment_heads.old place × Numbers n fragment_heads.old bodies.old }
-    ensures { GrowsAtIndex place.index j body.now n leading fragment_heads.old bodies.old result fragment_heads.new bodies.new }
+    ensures { GrowsAtIndex place.index most body.now n leading fragment_heads.old bodies.old result fragment_heads.new bodies.new }
 {
     let index = place.index;
-    if joins(j, place, body.len(), bodies.len(), fragment_heads) {
+    if fits(body.len(), place.own, most, place.all, bodies.len()) {
         let flags = flags_of(fragment_heads[index]);
-        let end = lengthen(place, j.counter, body, n, fragment_heads, bodies);
+        let end = lengthen(place, body, n, fragment_heads, bodies);
         let held = Held {
             count: n,
             leading: index + 1,
@@ -472,41 +407,41 @@ fn grow_at(
     Grown::Discarded(drop_at(index, n, leading, fragment_heads, bodies))
 }
 
-// A further body for the identifier's fragment: it is joined, or the fragment is given up.
+// A further body for the identifier's fragment: it grows within `most` and the room, or is given up.
 pub fn grow(
     id: u16,
     body: &[u8],
-    j: Joining,
+    most: usize,
     n: usize,
     leading: usize,
     fragment_heads: &mut [u64; 256],
     bodies: &mut [u8],
 ) -> Grown
     requires { KeepsFragments n leading fragment_heads.old bodies.old }
-    ensures { GrowsWithin id j body.now n leading fragment_heads.old bodies.old result fragment_heads.new bodies.new }
+    ensures { GrowsWithin id most body.now n leading fragment_heads.old bodies.old result fragment_heads.new bodies.new }
 {
-    let at = find_fragment(fragment_heads, n, id);
-    if at < n {
-        let place = place_of(at, n, leading, fragment_heads);
-        return grow_at(place, body, j, n, leading, fragment_heads, bodies);
+    let index = find_fragment(fragment_heads, n, id);
+    if index < n {
+        let place = place_of(index, n, leading, fragment_heads);
+        return grow_at(place, body, most, n, leading, fragment_heads, bodies);
     }
     Grown::Absent
 }
 
-// A middle: joined to the identifier's fragment, if there is one.
+// A middle: joined to the identifier's fragment, if there is one and it fits.
 pub fn middle(
     id: u16,
     body: &[u8],
-    j: Joining,
+    most: usize,
     n: usize,
     leading: usize,
     fragment_heads: &mut [u64; 256],
     bodies: &mut [u8],
 ) -> Held
     requires { KeepsFragments n leading fragment_heads.old bodies.old }
-    ensures { LearnsMiddle id j body.now n leading fragment_heads.old bodies.old result fragment_heads.new bodies.new }
+    ensures { LearnsMiddle id most body.now n leading fragment_heads.old bodies.old result fragment_heads.new bodies.new }
 {
-    match grow(id, body, j, n, leading, fragment_heads, bodies) {
+    match grow(id, body, most, n, leading, fragment_heads, bodies) {
         Grown::At {
             start: _,
             end: _,

@@ -9,7 +9,6 @@ use lib.ListN.{replicate}
 use Rattle.meaning.specs.Bytes.{Bytes}
 use Rattle.meaning.specs.Sets.{with_id}
 use Rattle.meaning.specs.Narrow.{narrow_payload}
-use Rattle.meaning.specs.Wishes.{all_off}
 use Rattle.meaning.specs.Learn.{Fragment, Known, learn_plt, observe, lists}
 use Rattle.meaning.specs.Rules.{drops, ready}
 use Rattle.meaning.specs.Start.{no_words}
@@ -130,7 +129,7 @@ full = record {
 abbrev limits : Limits
 limits = record { work = 65536; total = 65536; most = 65536 }
 
-pub lost_counts : (observe limits all_off 0x100 payload full ≡ record { known = full; lost = 1 }) × ((observe limits all_off 0x103F payload full).lost ≡ 0)
+pub lost_counts : (observe limits 0x100 payload full ≡ record { known = full; lost = 1 }) × ((observe limits 0x103F payload full).lost ≡ 0)
 unfolding observe no_words
 lost_counts = (refl, refl)
 
@@ -140,7 +139,7 @@ abbrev six : Bytes
 six = 1 ∷ 2 ∷ 3 ∷ 4 ∷ 5 ∷ 6 ∷ []
 
 abbrev part_of : ℕ → Bytes → Fragment
-part_of p b = record { identifier = p; flags = 0; counter = 0; body = b }
+part_of p b = record { identifier = p; flags = 0; body = b }
 
 abbrev holding : List Fragment → Known
 holding fs = record { plt_seen = false; packages = []; map_heads = []; map_room = spare 32768; data_set = no_words; fragments = fs }
@@ -156,15 +155,15 @@ middle b = 0x80 ∷ 0x00 ∷ b
 
 pub record Joining : Type 0 where
   -- five more do not fit beside the six, four do
-  pub total_met : (observe small all_off 8 (first (1 ∷ 2 ∷ 3 ∷ 4 ∷ [])) (holding (part_of 7 six ∷ []))).known ≡ holding (part_of 7 six ∷ part_of 8 (1 ∷ 2 ∷ 3 ∷ 4 ∷ []) ∷ [])
-  pub total_passed : (observe small all_off 8 (first (1 ∷ 2 ∷ 3 ∷ 4 ∷ 5 ∷ [])) (holding (part_of 7 six ∷ []))).known ≡ holding (part_of 7 six ∷ [])
+  pub total_met : (observe small 8 (first (1 ∷ 2 ∷ 3 ∷ 4 ∷ [])) (holding (part_of 7 six ∷ []))).known ≡ holding (part_of 7 six ∷ part_of 8 (1 ∷ 2 ∷ 3 ∷ 4 ∷ []) ∷ [])
+  pub total_passed : (observe small 8 (first (1 ∷ 2 ∷ 3 ∷ 4 ∷ 5 ∷ [])) (holding (part_of 7 six ∷ []))).known ≡ holding (part_of 7 six ∷ [])
   -- a new first replaces its identifier's old one
-  pub first_again : (observe small all_off 7 (first (9 ∷ [])) (holding (part_of 7 six ∷ []))).known ≡ holding (part_of 7 (9 ∷ []) ∷ [])
+  pub first_again : (observe small 7 (first (9 ∷ [])) (holding (part_of 7 six ∷ []))).known ≡ holding (part_of 7 (9 ∷ []) ∷ [])
   -- M is met by eight bytes and passed by nine, which discards the fragment
-  pub most_met : (observe small all_off 7 (middle (7 ∷ 8 ∷ [])) (holding (part_of 7 six ∷ []))).known ≡ holding (part_of 7 (six ++ (7 ∷ 8 ∷ [])) ∷ [])
-  pub most_passed : (observe small all_off 7 (middle (7 ∷ 8 ∷ 9 ∷ [])) (holding (part_of 7 six ∷ []))).known ≡ holding []
+  pub most_met : (observe small 7 (middle (7 ∷ 8 ∷ [])) (holding (part_of 7 six ∷ []))).known ≡ holding (part_of 7 (six ++ (7 ∷ 8 ∷ [])) ∷ [])
+  pub most_passed : (observe small 7 (middle (7 ∷ 8 ∷ 9 ∷ [])) (holding (part_of 7 six ∷ []))).known ≡ holding []
   -- a middle without a first is ignored
-  pub no_first : (observe small all_off 8 (middle (7 ∷ [])) (holding (part_of 7 six ∷ []))).known ≡ holding (part_of 7 six ∷ [])
+  pub no_first : (observe small 8 (middle (7 ∷ [])) (holding (part_of 7 six ∷ []))).known ≡ holding (part_of 7 six ∷ [])
 
 pub joining : Joining
 unfolding observe no_words

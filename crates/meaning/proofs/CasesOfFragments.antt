@@ -6,14 +6,13 @@ use mathlib.Core.List.{List, [], ◌∷◌, ◌++◌}
 use mathlib.Core.Option.{none, some}
 use lib.ListN.{length, replicate, drop}
 use Rattle.meaning.specs.Bytes.{Bytes}
-use Rattle.meaning.specs.Wishes.{all_off}
 use Rattle.meaning.specs.Learn.{Fragment, Known, Learnt, is_of, without, fragment_bytes, fragment_of, grow_in, hold_first, fits, middle, joined, last, observe, learn}
 use Rattle.meaning.specs.declared.Limits.{Limits}
 use Rattle.meaning.proofs.Examples.{M, M₁}
 use Rattle.meaning.proofs.CasesOfLearning.{knowing, was, in_second}
 
 abbrev piece : ℕ → Bytes → Fragment
-piece p b = record { identifier = p; flags = 3; counter = 0; body = b }
+piece p b = record { identifier = p; flags = 3; body = b }
 
 abbrev seven_and_eight : List Fragment
 seven_and_eight = piece 7 (1 ∷ 2 ∷ []) ∷ piece 8 (3 ∷ 4 ∷ 5 ∷ []) ∷ []
@@ -33,22 +32,22 @@ pub record Pieces : Type 0 where
   pub found : fragment_of 8 seven_and_eight ≡ some (piece 8 (3 ∷ 4 ∷ 5 ∷ []))
   pub not_found : fragment_of 9 seven_and_eight ≡ none
   -- in arrival order, and where it stands
-  pub longer : grow_in 7 0 (9 ∷ []) seven_and_eight ≡ piece 7 (1 ∷ 2 ∷ 9 ∷ []) ∷ piece 8 (3 ∷ 4 ∷ 5 ∷ []) ∷ []
-  pub longer_second : grow_in 8 0 (9 ∷ []) seven_and_eight ≡ piece 7 (1 ∷ 2 ∷ []) ∷ piece 8 (3 ∷ 4 ∷ 5 ∷ 9 ∷ []) ∷ []
+  pub longer : grow_in 7 (9 ∷ []) seven_and_eight ≡ piece 7 (1 ∷ 2 ∷ 9 ∷ []) ∷ piece 8 (3 ∷ 4 ∷ 5 ∷ []) ∷ []
+  pub longer_second : grow_in 8 (9 ∷ []) seven_and_eight ≡ piece 7 (1 ∷ 2 ∷ []) ∷ piece 8 (3 ∷ 4 ∷ 5 ∷ 9 ∷ []) ∷ []
   -- the low six bits; M is not tested on a first
-  pub held : hold_first small 7 0x43 0 (1 ∷ 2 ∷ 3 ∷ 4 ∷ 5 ∷ []) [] ≡ piece 7 (1 ∷ 2 ∷ 3 ∷ 4 ∷ 5 ∷ []) ∷ []
-  pub total_met : hold_first small 9 3 0 (1 ∷ 2 ∷ 3 ∷ []) seven_and_eight ≡ seven_and_eight ++ (piece 9 (1 ∷ 2 ∷ 3 ∷ []) ∷ [])
-  pub total_passed : hold_first small 9 3 0 (1 ∷ 2 ∷ 3 ∷ 4 ∷ []) seven_and_eight ≡ seven_and_eight
+  pub held : hold_first small 7 0x43 (1 ∷ 2 ∷ 3 ∷ 4 ∷ 5 ∷ []) [] ≡ piece 7 (1 ∷ 2 ∷ 3 ∷ 4 ∷ 5 ∷ []) ∷ []
+  pub total_met : hold_first small 9 3 (1 ∷ 2 ∷ 3 ∷ []) seven_and_eight ≡ seven_and_eight ++ (piece 9 (1 ∷ 2 ∷ 3 ∷ []) ∷ [])
+  pub total_passed : hold_first small 9 3 (1 ∷ 2 ∷ 3 ∷ 4 ∷ []) seven_and_eight ≡ seven_and_eight
   -- fewer than 256 others; the identifier's own does not count
-  pub others_255 : length (hold_first small 9 3 0 [] (pieces 255 0x100)) ≡ 256
-  pub others_256 : length (hold_first small 9 3 0 [] (pieces 256 0x100)) ≡ 256
-  pub its_own_again : length (hold_first small 0x100 3 0 [] (pieces 256 0x100)) ≡ 256
+  pub others_255 : length (hold_first small 9 3 [] (pieces 255 0x100)) ≡ 256
+  pub others_256 : length (hold_first small 9 3 [] (pieces 256 0x100)) ≡ 256
+  pub its_own_again : length (hold_first small 0x100 3 [] (pieces 256 0x100)) ≡ 256
   pub most_met : (fits small (piece 7 (1 ∷ 2 ∷ [])) (9 ∷ 9 ∷ []) seven_and_eight ≡ true) × (fits small (piece 7 (1 ∷ 2 ∷ [])) (9 ∷ 9 ∷ 9 ∷ []) seven_and_eight ≡ false)
   pub total_of_all : (fits (record { work = 0; total = 6; most = 4 }) (piece 7 (1 ∷ 2 ∷ [])) (9 ∷ 9 ∷ []) seven_and_eight ≡ false)
       × (fits (record { work = 0; total = 7; most = 4 }) (piece 7 (1 ∷ 2 ∷ [])) (9 ∷ 9 ∷ []) seven_and_eight ≡ true)
-  pub middle_grows : middle small all_off 7 0 (9 ∷ 9 ∷ []) seven_and_eight ≡ piece 7 (1 ∷ 2 ∷ 9 ∷ 9 ∷ []) ∷ piece 8 (3 ∷ 4 ∷ 5 ∷ []) ∷ []
-  pub middle_discards : middle small all_off 7 0 (9 ∷ 9 ∷ 9 ∷ []) seven_and_eight ≡ piece 8 (3 ∷ 4 ∷ 5 ∷ []) ∷ []
-  pub middle_alone : middle small all_off 9 0 (9 ∷ []) seven_and_eight ≡ seven_and_eight
+  pub middle_grows : middle small 7 (9 ∷ 9 ∷ []) seven_and_eight ≡ piece 7 (1 ∷ 2 ∷ 9 ∷ 9 ∷ []) ∷ piece 8 (3 ∷ 4 ∷ 5 ∷ []) ∷ []
+  pub middle_discards : middle small 7 (9 ∷ 9 ∷ 9 ∷ []) seven_and_eight ≡ piece 8 (3 ∷ 4 ∷ 5 ∷ []) ∷ []
+  pub middle_alone : middle small 9 (9 ∷ []) seven_and_eight ≡ seven_and_eight
   -- the first's flags and 0 as its two bytes
   pub both_joined : joined (piece 7 (1 ∷ 2 ∷ [])) (3 ∷ []) ≡ 3 ∷ 0 ∷ 1 ∷ 2 ∷ 3 ∷ []
 
@@ -88,7 +87,7 @@ abbrev pub beside : List Fragment → Known → Known
 beside fs k = record { plt_seen = k.plt_seen; packages = k.packages; map_heads = k.map_heads; map_room = k.map_room; data_set = k.data_set; fragments = fs }
 
 abbrev pub of_six : ℕ → Bytes → Fragment
-of_six flags b = record { identifier = 6; flags = flags; counter = 0; body = b }
+of_six flags b = record { identifier = 6; flags = flags; body = b }
 
 abbrev nothing : Known → Learnt
 nothing k = record { known = k; lost = 0 }
@@ -97,21 +96,21 @@ abbrev pub packet : ℕ → Bytes → Bytes
 packet payload_type s = 0x7F ∷ 0x03 ∷ 0x00 ∷ 0x00 ∷ 0x00 ∷ 0x00 ∷ 0x61 ∷ 0x00 ∷ payload_type ∷ 0x00 ∷ 0x06 ∷ 1 ∷ 2 ∷ 3 ∷ 4 ∷ 5 ∷ 6 ∷ 7 ∷ 8 ∷ s
 
 pub record Payloads : Type 0 where
-  pub last_joins : last limits all_off 6 0 M (beside (of_six 0 front ∷ []) was) ≡ nothing (beside [] in_second)
-  pub last_too_long : last small all_off 6 0 M (beside (of_six 0 front ∷ []) was) ≡ nothing (beside [] was)
-  pub last_alone_lem : last limits all_off 6 0 (front ++ M) was ≡ nothing was
-  pub a-whole : observe limits all_off 6 (0x00 ∷ 0x55 ∷ front ++ M) (beside (of_six 0 [] ∷ []) was) ≡ nothing (beside [] in_second)
-  pub a_first : observe limits all_off 6 (0x40 ∷ 0x55 ∷ front) (beside [] was) ≡ nothing (beside (of_six 0 front ∷ []) was)
-  pub a-middle : observe limits all_off 6 (0x80 ∷ 0x55 ∷ 9 ∷ []) (beside (of_six 0 front ∷ []) was) ≡ nothing (beside (of_six 0 (front ++ (9 ∷ [])) ∷ []) was)
-  pub a-last : observe limits all_off 6 (0xC0 ∷ 0x55 ∷ M) (beside (of_six 0 front ∷ []) was) ≡ nothing (beside [] in_second)
+  pub last_joins : last limits 6 M (beside (of_six 0 front ∷ []) was) ≡ nothing (beside [] in_second)
+  pub last_too_long : last small 6 M (beside (of_six 0 front ∷ []) was) ≡ nothing (beside [] was)
+  pub last_alone_lem : last limits 6 (front ++ M) was ≡ nothing was
+  pub a-whole : observe limits 6 (0x00 ∷ 0x55 ∷ front ++ M) (beside (of_six 0 [] ∷ []) was) ≡ nothing (beside [] in_second)
+  pub a_first : observe limits 6 (0x40 ∷ 0x55 ∷ front) (beside [] was) ≡ nothing (beside (of_six 0 front ∷ []) was)
+  pub a-middle : observe limits 6 (0x80 ∷ 0x55 ∷ 9 ∷ []) (beside (of_six 0 front ∷ []) was) ≡ nothing (beside (of_six 0 (front ++ (9 ∷ [])) ∷ []) was)
+  pub a-last : observe limits 6 (0xC0 ∷ 0x55 ∷ M) (beside (of_six 0 front ∷ []) was) ≡ nothing (beside [] in_second)
   -- a whole of one byte drops what is held, an empty payload nothing
-  pub one_byte : observe limits all_off 6 (0x00 ∷ []) (beside (of_six 0 front ∷ []) was) ≡ nothing (beside [] was)
-  pub empty : observe limits all_off 6 [] (beside (of_six 0 front ∷ []) was) ≡ nothing (beside (of_six 0 front ∷ []) was)
+  pub one_byte : observe limits 6 (0x00 ∷ []) (beside (of_six 0 front ∷ []) was) ≡ nothing (beside [] was)
+  pub empty : observe limits 6 [] (beside (of_six 0 front ∷ []) was) ≡ nothing (beside (of_six 0 front ∷ []) was)
   -- 65 is in the data set
-  pub never_of_data : observe limits all_off 65 (0x00 ∷ 0x55 ∷ front ++ M) was ≡ nothing was
-  pub signalling : learn limits all_off was (packet 0x02 (0x00 ∷ 0x55 ∷ front ++ M)) ≡ nothing in_second
-  pub media : learn limits all_off was (packet 0x00 (0x00 ∷ 0x55 ∷ front ++ M)) ≡ nothing was
-  pub unread : learn limits all_off was (0x7F ∷ 0xFE ∷ 0x00 ∷ 0x00 ∷ []) ≡ nothing was
+  pub never_of_data : observe limits 65 (0x00 ∷ 0x55 ∷ front ++ M) was ≡ nothing was
+  pub signalling : learn limits was (packet 0x02 (0x00 ∷ 0x55 ∷ front ++ M)) ≡ nothing in_second
+  pub media : learn limits was (packet 0x00 (0x00 ∷ 0x55 ∷ front ++ M)) ≡ nothing was
+  pub unread : learn limits was (0x7F ∷ 0xFE ∷ 0x00 ∷ 0x00 ∷ []) ≡ nothing was
 
 pub payload_cases : Payloads
 unfolding last observe learn

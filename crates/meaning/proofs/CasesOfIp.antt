@@ -129,7 +129,7 @@ afresh_cases = record {
 -- ---- narrowing: the PLT of 01's example 7 in plain IP
 
 abbrev plain_on : Modes
-plain_on = record { plain_ip = true; strict_joining = false }
+plain_on = record { plain_ip = true }
 
 abbrev two : Bytes
 two = alone_in 0x13 (plt_with 0x01)

@@ -5,7 +5,6 @@ use mathlib.Core.Bool.{true, false}
 use mathlib.Core.List.{List, [], ◌∷◌}
 use lib.ListN.{take, drop}
 use Rattle.meaning.specs.Bytes.{Bytes}
-use Rattle.meaning.specs.Wishes.{all_off}
 use Rattle.meaning.specs.Learn.{Fragment, Known, over, hold_first, grow_in, without, is_of, fragment_bytes}
 use Rattle.meaning.specs.Leading.{index_of, has_fragment, leading_after, leading_observed, leading_over, leading_pushed}
 use Rattle.meaning.specs.Moves.{Move, moved_out, among, taken_by, written_by}
@@ -15,7 +14,7 @@ use Rattle.meaning.proofs.CasesOfLearning.{was}
 use Rattle.meaning.proofs.CasesOfFragments.{limits, beside, packet}
 
 abbrev piece : ℕ → Bytes → Fragment
-piece p b = record { identifier = p; flags = 3; counter = 0; body = b }
+piece p b = record { identifier = p; flags = 3; body = b }
 
 abbrev three : List Fragment
 three = piece 7 (1 ∷ []) ∷ piece 8 (2 ∷ []) ∷ piece 9 (3 ∷ []) ∷ []
@@ -26,12 +25,12 @@ pub record Leads : Type 0 where
   pub index : (index_of 7 three ≡ 0) × (index_of 9 three ≡ 2) × (index_of 6 three ≡ 3)
   pub has : (has_fragment 9 three ≡ true) × (has_fragment 6 three ≡ false)
   -- the one that grew is the last that leads, whatever led before
-  pub grew : (leading_after 8 three (grow_in 8 0 (5 ∷ []) three) 3 ≡ 2) × (leading_after 8 three (grow_in 8 0 (5 ∷ []) three) 0 ≡ 2)
+  pub grew : (leading_after 8 three (grow_in 8 (5 ∷ []) three) 3 ≡ 2) × (leading_after 8 three (grow_in 8 (5 ∷ []) three) 0 ≡ 2)
   -- what went leaves those before it
   pub went : (leading_after 8 three (without 8 three) 3 ≡ 1) × (leading_after 8 three (without 8 three) 0 ≡ 1)
   -- behind a first that is held nothing stands
-  pub came : leading_after 6 three (hold_first (record { work = 0; total = 9; most = 9 }) 6 3 0 (4 ∷ []) three) 1 ≡ 4
-  pub came_again : leading_after 7 three (hold_first (record { work = 0; total = 9; most = 9 }) 7 3 0 (4 ∷ []) three) 1 ≡ 3
+  pub came : leading_after 6 three (hold_first (record { work = 0; total = 9; most = 9 }) 6 3 (4 ∷ []) three) 1 ≡ 4
+  pub came_again : leading_after 7 three (hold_first (record { work = 0; total = 9; most = 9 }) 7 3 (4 ∷ []) three) 1 ≡ 3
   -- with no fragment before and after nothing changes, and a number that is handed in stays as it is
   pub stayed : (leading_after 6 three three 2 ≡ 2) × (leading_after 6 three three 1000 ≡ 1000)
 
@@ -72,18 +71,18 @@ abbrev chunk_of_six : Bytes
 chunk_of_six = 0x7F ∷ 0x03 ∷ 0x00 ∷ 0x12 ∷ drop 4 (packet 0x02 middle_of_six)
 
 pub record Followed : Type 0 where
-  pub observed : (leading_observed limits all_off 6 middle_of_six k 0 ≡ 2) × (leading_observed limits all_off 6 whole_of_six k 3 ≡ 1)
-  pub not_observed : (leading_observed limits all_off 6 [] k 3 ≡ 3) × (leading_observed limits all_off 65 middle_of_six k 1 ≡ 1)
-  pub one_packet : leading_over limits all_off k (packet 0x02 middle_of_six ∷ []) 0 ≡ 2
-  pub no_signalling : leading_over limits all_off k (packet 0x00 middle_of_six ∷ []) 0 ≡ 0
-  pub unread : leading_over limits all_off k ((0x7F ∷ 0xFE ∷ 0x00 ∷ 0x00 ∷ []) ∷ []) 0 ≡ 0
+  pub observed : (leading_observed limits 6 middle_of_six k 0 ≡ 2) × (leading_observed limits 6 whole_of_six k 3 ≡ 1)
+  pub not_observed : (leading_observed limits 6 [] k 3 ≡ 3) × (leading_observed limits 65 middle_of_six k 1 ≡ 1)
+  pub one_packet : leading_over limits k (packet 0x02 middle_of_six ∷ []) 0 ≡ 2
+  pub no_signalling : leading_over limits k (packet 0x00 middle_of_six ∷ []) 0 ≡ 0
+  pub unread : leading_over limits k ((0x7F ∷ 0xFE ∷ 0x00 ∷ 0x00 ∷ []) ∷ []) 0 ≡ 0
   -- what the first taught, the second meets
-  pub in_turn : (leading_over limits all_off k (packet 0x02 whole_of_six ∷ packet 0x02 middle_of_six ∷ []) 3 ≡ 1)
-      × (leading_over limits all_off k (packet 0x02 middle_of_six ∷ packet 0x02 whole_of_six ∷ []) 3 ≡ 1)
-  pub none : leading_over limits all_off k [] 3 ≡ 3
+  pub in_turn : (leading_over limits k (packet 0x02 whole_of_six ∷ packet 0x02 middle_of_six ∷ []) 3 ≡ 1)
+      × (leading_over limits k (packet 0x02 middle_of_six ∷ packet 0x02 whole_of_six ∷ []) 3 ≡ 1)
+  pub none : leading_over limits k [] 3 ≡ 3
   -- held bytes and chunk are one run
-  pub pushed : leading_pushed limits all_off some_wanted (record { held = take 5 chunk_of_six; known = k }) (drop 5 chunk_of_six) 0 ≡ 2
-  pub copied : leading_pushed limits all_off all_wanted (record { held = []; known = k }) chunk_of_six 0 ≡ 0
+  pub pushed : leading_pushed limits some_wanted (record { held = take 5 chunk_of_six; known = k }) (drop 5 chunk_of_six) 0 ≡ 2
+  pub copied : leading_pushed limits all_wanted (record { held = []; known = k }) chunk_of_six 0 ≡ 0
 
 pub followed : Followed
 unfolding leading_observed leading_over leading_pushed

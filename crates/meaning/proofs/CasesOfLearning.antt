@@ -45,7 +45,7 @@ room_cases = record {
 -- ---- something of each: service 9, a list of one carousel for identifier 5, the data set 2 and 65, a fragment of 7
 
 abbrev pub some_fragment : List Fragment
-some_fragment = record { identifier = 7; flags = 1; counter = 0; body = 1 ∷ 2 ∷ [] } ∷ []
+some_fragment = record { identifier = 7; flags = 1; body = 1 ∷ 2 ∷ [] } ∷ []
 
 abbrev pub knowing : Bool → List (ℕ × ℕ) → List (ℕ × ℕ) → List ℕ → Words → Known
 knowing seen packages maps map_room words = record { plt_seen = seen; packages = packages; map_heads = maps; map_room = map_room; data_set = words; fragments = some_fragment }

@@ -49,7 +49,7 @@ pub record Bodies : Type 0 where
   -- the last entry of the service at any location
   pub last_stays : plt_only 0x0401 packages ≡ some (1 ∷ at5 ++ more)
   pub no_such : plt_only 0x0403 packages ≡ none
-  pub last_of : last_of 0x0401 [] (some at0) ≡ some at0
+  pub last_of_lem : last_of 0x0401 [] (some at0) ≡ some at0
   pub on_zero : new_body (service 0x0401) 0 0x80 packages ≡ some (1 ∷ at5 ++ more)
   pub on_another : new_body (service 0x0401) 1 0x80 packages ≡ none
   pub no_service : new_body no_captions 0 0x80 packages ≡ none
@@ -71,7 +71,7 @@ body_cases = record {
   firsts = (refl, refl, refl);
   last_stays = refl;
   no_such = refl;
-  last_of = refl;
+  last_of_lem = refl;
   on_zero = refl;
   on_another = refl;
   no_service = refl;

@@ -8,9 +8,8 @@ use native.Mathlib.Omega.{arith}
 use lib.ListN.{length, drop, replicate, length-replicate}
 use Rattle.meaning.specs.Bytes.{Bytes}
 use Rattle.meaning.specs.Lists.{any, sum}
-use Rattle.meaning.specs.Wishes.{all_off}
 use Rattle.meaning.specs.Learn.{Fragment, Known, fragment_bytes}
-use Rattle.meaning.specs.Soundness.{rising, distinct, Uncounted, HoldsPackages, HoldsMaps, HoldsFragments, Holds}
+use Rattle.meaning.specs.Soundness.{rising, distinct, HoldsPackages, HoldsMaps, HoldsFragments, Holds}
 use Rattle.meaning.specs.Less.{Fewer, Thinned}
 use Rattle.meaning.specs.declared.Service.TheVariants.{Only}
 use Rattle.meaning.specs.declared.Options.{Options}
@@ -33,7 +32,7 @@ one_of_two = record { from = (7 ∷ 8 ∷ []) ∷ []; some_of = Sublistᴰ.cons 
 -- ---- identifiers and counts as large as they may be
 
 abbrev piece : Fragment
-piece = record { identifier = 7; flags = 255; counter = 255; body = 1 ∷ 2 ∷ [] }
+piece = record { identifier = 7; flags = 255; body = 1 ∷ 2 ∷ [] }
 
 abbrev known : Known
 known = record { plt_seen = true; packages = (1, 65535) ∷ (2, 9) ∷ []; map_heads = (0x700, 9) ∷ (5, 255) ∷ []; map_room = replicate 32768 0; data_set = []; fragments = piece ∷ [] }
@@ -43,7 +42,7 @@ unfolding rising distinct fragment_bytes
 held_at_limits = record {
   packages_hold = record { few = omega arith; rise = refl; small = (omega arith, (omega arith, tt)) };
   maps_hold = record { few = omega arith; once = refl; small = (omega arith, (omega arith, tt)) };
-  fragments_hold = record { few = omega arith; once = refl; small = (omega arith, omega arith, tt); within = omega arith };
+  fragments_hold = record { few = omega arith; once = refl; flags = (omega arith, tt); within = omega arith };
   map_room_all = length-replicate {A = ℕ} 32768 0;
 }
 
@@ -56,10 +55,7 @@ pub record TooMany : Type 0 where
   pub assets_of_a_map : HoldsMaps ((5, 256) ∷ []) → ⊥
   pub fragments : (T : ℕ) (fs : List Fragment) → length fs ≡ 257 → HoldsFragments T fs → ⊥
   pub fragment_bytes_lem : (T : ℕ) (fs : List Fragment) → fragment_bytes fs ≡ T + 1 → HoldsFragments T fs → ⊥
-  pub fragment_flags_lem : HoldsFragments 9 (record { identifier = 7; flags = 256; counter = 0; body = [] } ∷ []) → ⊥
-  pub fragment_counter_lem : HoldsFragments 9 (record { identifier = 7; flags = 0; counter = 256; body = [] } ∷ []) → ⊥
-  -- in plain joining no counter is kept, in strict joining any
-  pub counter_in_plain : Uncounted all_off (piece ∷ []) → ⊥
+  pub fragment_flags_lem : HoldsFragments 9 (record { identifier = 7; flags = 256; body = [] } ∷ []) → ⊥
   -- the first wants EIT, the second does not
   pub wishes : Fewer (record { service = Only 1; caption = true; carousel = true; eit = true; other = true }) (record { service = Only 1; caption = true; carousel = true; eit = false; other = true }) → ⊥
 
@@ -71,8 +67,6 @@ too_many = record {
   assets_of_a_map = λ h. omega (arith, h.small.0);
   fragments = λ T fs e h. omega (arith, e, h.few);
   fragment_bytes_lem = λ T fs e h. omega (arith, e, h.within);
-  fragment_flags_lem = λ h. omega (arith, h.small.0);
-  fragment_counter_lem = λ h. omega (arith, h.small.1);
-  counter_in_plain = λ h. omega (arith, h.0 refl);
+  fragment_flags_lem = λ h. omega (arith, h.flags.0);
   wishes = λ h. clash (cc (h.eit_too refl));
 }

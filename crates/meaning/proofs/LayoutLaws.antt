@@ -2,7 +2,7 @@
 -- just that. Rests on the definitions alone.
 use Prim.Native.Nat.{ℕ, zero, suc, ◌+◌, ◌-◌, ◌≤◌, ◌<◌}
 use mathlib.Core.Path.{◌≡◌, refl, sym, ap, ap₂, ◌∙◌}
-use mathlib.Core.Bool.{Bool, true, false, cond}
+use mathlib.Core.Bool.{Bool, true, false}
 use mathlib.Core.List.{List, [], ◌∷◌, ◌++◌, map, map-append, flatten, append_assoc, append-nil}
 use native.Mathlib.Omega.{arith}
 use lib.ListN.{length, take, drop, length-append, length-drop, take-append-drop, drop_of_length-le}
@@ -12,9 +12,8 @@ use borrow.Author.Tests.{leb-true, leb-false}
 use Rattle.meaning.specs.Bytes.{Bytes}
 use Rattle.meaning.specs.Lists.{sum}
 use Rattle.meaning.specs.Learn.{Fragment, fragment_bytes}
-use Rattle.meaning.specs.Record.{fragment_head, fragment_identifier, fragment_flags, fragment_counter, fragment_length, held_counter, head_in, bodies_of, room_of, lens, packed_in, fragments_in}
-use Rattle.meaning.specs.Soundness.{identifiers, SmallFields, Uncounted}
-use Rattle.meaning.specs.declared.Modes.{Modes}
+use Rattle.meaning.specs.Record.{fragment_head, fragment_identifier, fragment_flags, fragment_length, bodies_of, room_of, lens, packed_in, fragments_in}
+use Rattle.meaning.specs.Soundness.{identifiers, SmallFlags}
 
 -- ---- bodies
 
@@ -85,104 +84,77 @@ lens_parts i hs = ap lens (sym (take-append-drop i hs)) ∙ lens_append (take i 
 
 -- ---- bodies that stand one after the other, read out
 
-packed_none : (M : Modes) (bodies : Bytes) → packed_in M [] bodies ≡ []
+packed_none : (bodies : Bytes) → packed_in [] bodies ≡ []
 unfolding packed_in
-packed_none M bodies = refl
+packed_none bodies = refl
 
-packed_identifiers : (M : Modes) (hs : List ℕ) (bodies : Bytes) → identifiers (packed_in M hs bodies) ≡ map fragment_identifier hs
+packed_identifiers : (hs : List ℕ) (bodies : Bytes) → identifiers (packed_in hs bodies) ≡ map fragment_identifier hs
 unfolding packed_in
-packed_identifiers M [] bodies = refl
-packed_identifiers M (h ∷ hs) bodies = ap (λ (l : List ℕ). fragment_identifier h ∷ l) (packed_identifiers M hs (drop (fragment_length h) bodies))
+packed_identifiers [] bodies = refl
+packed_identifiers (h ∷ hs) bodies = ap (λ (l : List ℕ). fragment_identifier h ∷ l) (packed_identifiers hs (drop (fragment_length h) bodies))
 
-counter_small : (M : Modes) (h : ℕ) → held_counter M h < 256
-unfolding held_counter fragment_counter
-counter_small M h = go M.strict_joining
-  where
-    go : (a : Bool) → cond a (fragment_counter h) 0 < 256
-    go true = omega arith
-    go false = omega arith
-
-packed_small : (M : Modes) (hs : List ℕ) (bodies : Bytes) → SmallFields (packed_in M hs bodies)
+packed_flags : (hs : List ℕ) (bodies : Bytes) → SmallFlags (packed_in hs bodies)
 unfolding packed_in fragment_flags
-packed_small M [] bodies = tt
-packed_small M (h ∷ hs) bodies = (omega arith, counter_small M h, packed_small M hs (drop (fragment_length h) bodies))
+packed_flags [] bodies = tt
+packed_flags (h ∷ hs) bodies = (omega arith, packed_flags hs (drop (fragment_length h) bodies))
 
-packed_uncounted : (M : Modes) (hs : List ℕ) (bodies : Bytes) → Uncounted M (packed_in M hs bodies)
-unfolding packed_in held_counter
-packed_uncounted M [] bodies = tt
-packed_uncounted M (h ∷ hs) bodies = ((λ e. rw e), packed_uncounted M hs (drop (fragment_length h) bodies))
-
-packed_length : (M : Modes) (hs : List ℕ) (bodies : Bytes) → length (packed_in M hs bodies) ≡ length hs
+packed_length : (hs : List ℕ) (bodies : Bytes) → length (packed_in hs bodies) ≡ length hs
 unfolding packed_in
-packed_length M [] bodies = refl
-packed_length M (h ∷ hs) bodies = ap suc (packed_length M hs (drop (fragment_length h) bodies))
+packed_length [] bodies = refl
+packed_length (h ∷ hs) bodies = ap suc (packed_length hs (drop (fragment_length h) bodies))
 
-pub packed_bodies : (M : Modes) (hs : List ℕ) (bodies : Bytes) → bodies_of (packed_in M hs bodies) ≡ take (lens hs) bodies
+pub packed_bodies : (hs : List ℕ) (bodies : Bytes) → bodies_of (packed_in hs bodies) ≡ take (lens hs) bodies
 unfolding packed_in bodies_of flatten lens sum
-packed_bodies M [] bodies = refl
-packed_bodies M (h ∷ hs) bodies =
-    ap (λ (s : Bytes). take (fragment_length h) bodies ++ s) (packed_bodies M hs (drop (fragment_length h) bodies)) ∙ sym (take-add (fragment_length h) (lens hs) bodies)
+packed_bodies [] bodies = refl
+packed_bodies (h ∷ hs) bodies =
+    ap (λ (s : Bytes). take (fragment_length h) bodies ++ s) (packed_bodies hs (drop (fragment_length h) bodies)) ∙ sym (take-add (fragment_length h) (lens hs) bodies)
 
-head_again : (M : Modes) (h : ℕ) (body : Bytes) → length body ≡ fragment_length h
-    → fragment_head (record { identifier = fragment_identifier h; flags = fragment_flags h; counter = held_counter M h; body = body }) ≡ head_in M h
-unfolding fragment_head fragment_identifier fragment_flags head_in
-head_again M h body e = omega arith
+head_again : (h : ℕ) (body : Bytes) → length body ≡ fragment_length h → fragment_head (record { identifier = fragment_identifier h; flags = fragment_flags h; body = body }) ≡ h
+unfolding fragment_head fragment_identifier fragment_flags fragment_length
+head_again h body e = omega arith
 
--- Strict joining takes a head as it is.
-pub head_strict : (M : Modes) (h : ℕ) → M.strict_joining ≡ true → head_in M h ≡ h
-unfolding head_in held_counter fragment_counter fragment_length
-head_strict M h e = rw e (omega arith)
-
-packed_heads : (M : Modes) (hs : List ℕ) (bodies : Bytes) → lens hs ≤ length bodies → map fragment_head (packed_in M hs bodies) ≡ map (head_in M) hs
+packed_heads : (hs : List ℕ) (bodies : Bytes) → lens hs ≤ length bodies → map fragment_head (packed_in hs bodies) ≡ hs
 unfolding packed_in lens sum
-packed_heads M [] bodies w = refl
-packed_heads M (h ∷ hs) bodies w =
+packed_heads [] bodies w = refl
+packed_heads (h ∷ hs) bodies w =
     let n = fragment_length h in
-    ap₂ (λ (x : ℕ) (ys : List ℕ). x ∷ ys) (head_again M h (take n bodies) (length-take-le n bodies (omega arith)))
-    (packed_heads M hs (drop n bodies) (omega (arith, length-drop n bodies)))
+    ap₂ (λ (x : ℕ) (ys : List ℕ). x ∷ ys) (head_again h (take n bodies) (length-take-le n bodies (omega arith)))
+    (packed_heads hs (drop n bodies) (omega (arith, length-drop n bodies)))
 
-small_append : (xs ys : List Fragment) → SmallFields xs → SmallFields ys → SmallFields (xs ++ ys)
-small_append [] ys a b = b
-small_append (x ∷ xs) ys a b = (a.0, a.1, small_append xs ys a.2 b)
-
-uncounted_append : (M : Modes) (xs ys : List Fragment) → Uncounted M xs → Uncounted M ys → Uncounted M (xs ++ ys)
-uncounted_append M [] ys a b = b
-uncounted_append M (x ∷ xs) ys a b = (a.0, uncounted_append M xs ys a.1 b)
+flags_append : (xs ys : List Fragment) → SmallFlags xs → SmallFlags ys → SmallFlags (xs ++ ys)
+flags_append [] ys a b = b
+flags_append (x ∷ xs) ys a b = (a.0, flags_append xs ys a.1 b)
 
 -- ---- those that lead, and the others
 
-module _ (M : Modes) (leading : ℕ) (hs : List ℕ) (bodies : Bytes) where
+module _ (leading : ℕ) (hs : List ℕ) (bodies : Bytes) where
   abbrev start : ℕ
   start = length bodies - lens (drop leading hs)
 
   abbrev xs : List Fragment
-  xs = packed_in M (take leading hs) bodies
+  xs = packed_in (take leading hs) bodies
 
   abbrev ys : List Fragment
-  ys = packed_in M (drop leading hs) (drop start bodies)
+  ys = packed_in (drop leading hs) (drop start bodies)
 
-  pub identifiers_in : identifiers (fragments_in M leading hs bodies) ≡ map fragment_identifier hs
+  pub identifiers_in : identifiers (fragments_in leading hs bodies) ≡ map fragment_identifier hs
   unfolding fragments_in
   identifiers_in =
       map-append (λ (f : Fragment). f.identifier) xs ys
-      ∙ ap₂ (λ (s t : List ℕ). s ++ t) (packed_identifiers M (take leading hs) bodies) (packed_identifiers M (drop leading hs) (drop start bodies))
+      ∙ ap₂ (λ (s t : List ℕ). s ++ t) (packed_identifiers (take leading hs) bodies) (packed_identifiers (drop leading hs) (drop start bodies))
       ∙ sym (map-append fragment_identifier (take leading hs) (drop leading hs)) ∙ ap (map fragment_identifier) (take-append-drop leading hs)
 
-  pub small_in : SmallFields (fragments_in M leading hs bodies)
+  pub flags_in : SmallFlags (fragments_in leading hs bodies)
   unfolding fragments_in
-  small_in = small_append xs ys (packed_small M (take leading hs) bodies) (packed_small M (drop leading hs) (drop start bodies))
-
-  pub uncounted_in : Uncounted M (fragments_in M leading hs bodies)
-  unfolding fragments_in
-  uncounted_in = uncounted_append M xs ys (packed_uncounted M (take leading hs) bodies) (packed_uncounted M (drop leading hs) (drop start bodies))
+  flags_in = flags_append xs ys (packed_flags (take leading hs) bodies) (packed_flags (drop leading hs) (drop start bodies))
 
   length_xs : length xs ≡ length (take leading hs)
-  length_xs = packed_length M (take leading hs) bodies
+  length_xs = packed_length (take leading hs) bodies
 
-  pub length_in : length (fragments_in M leading hs bodies) ≡ length hs
+  pub length_in : length (fragments_in leading hs bodies) ≡ length hs
   unfolding fragments_in
   length_in =
-      length-append xs ys ∙ ap₂ (λ (a b : ℕ). a + b) length_xs (packed_length M (drop leading hs) (drop start bodies))
+      length-append xs ys ∙ ap₂ (λ (a b : ℕ). a + b) length_xs (packed_length (drop leading hs) (drop start bodies))
       ∙ sym (length-append (take leading hs) (drop leading hs)) ∙ ap length (take-append-drop leading hs)
 
   -- the first so many of them are those that lead
@@ -195,7 +167,7 @@ module _ (M : Modes) (leading : ℕ) (hs : List ℕ) (bodies : Bytes) where
           (take_at xs ys leading l, drop_at xs ys leading l)
       go false e =
           let h : length hs ≤ leading = (let z : length hs < leading = leb-false leading (length hs) e in omega arith) in
-          let y : ys ≡ [] = ap (λ (l : List ℕ). packed_in M l (drop start bodies)) (drop_of_length-le hs h) ∙ packed_none M (drop start bodies) in
+          let y : ys ≡ [] = ap (λ (l : List ℕ). packed_in l (drop start bodies)) (drop_of_length-le hs h) ∙ packed_none (drop start bodies) in
           let w : xs ++ ys ≡ xs = ap (λ (l : List Fragment). xs ++ l) y ∙ append-nil xs in
           let l : length xs ≤ leading = omega (arith, length_xs, ap length (take_all leading hs h)) in
           (ap (take leading) w ∙ take_all leading xs l, ap (drop leading) w ∙ drop_of_length-le xs l ∙ sym y)
@@ -206,24 +178,24 @@ module _ (M : Modes) (leading : ℕ) (hs : List ℕ) (bodies : Bytes) where
     back_length : length (drop start bodies) ≡ lens (drop leading hs)
     back_length = omega (arith, lens_parts leading hs, length-drop start bodies)
 
-    pub heads_in_lem : map fragment_head (fragments_in M leading hs bodies) ≡ map (head_in M) hs
+    pub heads_in_lem : map fragment_head (fragments_in leading hs bodies) ≡ hs
     unfolding fragments_in
     heads_in_lem =
         map-append fragment_head xs ys
-        ∙ ap₂ (λ (a b : List ℕ). a ++ b) (packed_heads M (take leading hs) bodies (omega (arith, lens_parts leading hs)))
-        (packed_heads M (drop leading hs) (drop start bodies) (omega (arith, back_length)))
-        ∙ sym (map-append (head_in M) (take leading hs) (drop leading hs)) ∙ ap (map (head_in M)) (take-append-drop leading hs)
+        ∙ ap₂ (λ (a b : List ℕ). a ++ b) (packed_heads (take leading hs) bodies (omega (arith, lens_parts leading hs)))
+        (packed_heads (drop leading hs) (drop start bodies) (omega (arith, back_length)))
+        ∙ take-append-drop leading hs
 
     abbrev pub free_in : Bytes
     free_in = take (start - lens (take leading hs)) (drop (lens (take leading hs)) bodies)
 
     bodies_xs : bodies_of xs ≡ take (lens (take leading hs)) bodies
-    bodies_xs = packed_bodies M (take leading hs) bodies
+    bodies_xs = packed_bodies (take leading hs) bodies
 
     bodies_ys : bodies_of ys ≡ drop start bodies
-    bodies_ys = packed_bodies M (drop leading hs) (drop start bodies) ∙ take_all (lens (drop leading hs)) (drop start bodies) (omega (arith, back_length))
+    bodies_ys = packed_bodies (drop leading hs) (drop start bodies) ∙ take_all (lens (drop leading hs)) (drop start bodies) (omega (arith, back_length))
 
-    pub room_in : bodies ≡ room_of leading (fragments_in M leading hs bodies) free_in
+    pub room_in : bodies ≡ room_of leading (fragments_in leading hs bodies) free_in
     unfolding room_of fragments_in
     room_in =
         let a : ℕ = lens (take leading hs) in
@@ -231,7 +203,7 @@ module _ (M : Modes) (leading : ℕ) (hs : List ℕ) (bodies : Bytes) where
         ∙ append_assoc (take a bodies) free_in (drop start bodies) ∙ ap₂ (λ (s t : Bytes). s ++ (free_in ++ t)) (sym bodies_xs) (sym bodies_ys)
         ∙ ap₂ (λ (s t : List Fragment). bodies_of s ++ (free_in ++ bodies_of t)) (sym apart.0) (sym apart.1)
 
-    pub bytes_in : fragment_bytes (fragments_in M leading hs bodies) ≡ lens hs
+    pub bytes_in : fragment_bytes (fragments_in leading hs bodies) ≡ lens hs
     unfolding fragments_in
     bytes_in =
         bytes_of_lem (xs ++ ys) ∙ ap length (bodies_append xs ys ∙ ap₂ (λ (s t : Bytes). s ++ t) bodies_xs bodies_ys) ∙ length-append (take (lens (take leading hs)) bodies) (drop start bodies)

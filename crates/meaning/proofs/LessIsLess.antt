@@ -44,11 +44,11 @@ module _ (L : Limits) (M : Modes) {o₁ o₂ : Options} (fewer : Fewer o₁ o₂
   pass_known : (k : Known) (ps : List Bytes) → (pass L M o₁ k ps).known ≡ (pass L M o₂ k ps).known
   unfolding pass
   pass_known k [] = refl
-  pass_known k (p ∷ ps) = go (withheld o₁ (learn L M k p).known (mmtp_of p)) (withheld o₂ (learn L M k p).known (mmtp_of p)) (pass_known (learn L M k p).known ps)
+  pass_known k (p ∷ ps) = go (withheld o₁ (learn L k p).known (mmtp_of p)) (withheld o₂ (learn L k p).known (mmtp_of p)) (pass_known (learn L k p).known ps)
     where
-      go : (a b : Bool) → (pass L M o₁ (learn L M k p).known ps).known ≡ (pass L M o₂ (learn L M k p).known ps).known
-          → (pass_one a (narrow_packet M o₁ p) p (learn L M k p).lost (pass L M o₁ (learn L M k p).known ps)).known
-          ≡ (pass_one b (narrow_packet M o₂ p) p (learn L M k p).lost (pass L M o₂ (learn L M k p).known ps)).known
+      go : (a b : Bool) → (pass L M o₁ (learn L k p).known ps).known ≡ (pass L M o₂ (learn L k p).known ps).known
+          → (pass_one a (narrow_packet M o₁ p) p (learn L k p).lost (pass L M o₁ (learn L k p).known ps)).known
+          ≡ (pass_one b (narrow_packet M o₂ p) p (learn L k p).lost (pass L M o₂ (learn L k p).known ps)).known
       go true true ih = ih
       go true false ih = ih
       go false true ih = ih
@@ -62,17 +62,17 @@ module _ (L : Limits) (M : Modes) {o₁ o₂ : Options} (fewer : Fewer o₁ o₂
   unfolding pass
   pass_thinned k [] = thinned_nil
   pass_thinned k (p ∷ ps) =
-      go (withheld o₁ (learn L M k p).known (mmtp_of p)) refl (withheld o₂ (learn L M k p).known (mmtp_of p)) refl (pass_thinned (learn L M k p).known ps)
+      go (withheld o₁ (learn L k p).known (mmtp_of p)) refl (withheld o₂ (learn L k p).known (mmtp_of p)) refl (pass_thinned (learn L k p).known ps)
     where
       r₁ : Passed
-      r₁ = pass L M o₁ (learn L M k p).known ps
+      r₁ = pass L M o₁ (learn L k p).known ps
 
       r₂ : Passed
-      r₂ = pass L M o₂ (learn L M k p).known ps
+      r₂ = pass L M o₂ (learn L k p).known ps
 
-      go : (a : Bool) → withheld o₁ (learn L M k p).known (mmtp_of p) ≡ a → (b : Bool) → withheld o₂ (learn L M k p).known (mmtp_of p) ≡ b
+      go : (a : Bool) → withheld o₁ (learn L k p).known (mmtp_of p) ≡ a → (b : Bool) → withheld o₂ (learn L k p).known (mmtp_of p) ≡ b
           → Thinned (narrowed_packet M o₁) r₁.out r₂.out
-          → Thinned (narrowed_packet M o₁) (pass_one a (narrow_packet M o₁ p) p (learn L M k p).lost r₁).out (pass_one b (narrow_packet M o₂ p) p (learn L M k p).lost r₂).out
+          → Thinned (narrowed_packet M o₁) (pass_one a (narrow_packet M o₁ p) p (learn L k p).lost r₁).out (pass_one b (narrow_packet M o₂ p) p (learn L k p).lost r₂).out
       go true ea true eb t = t
       go true ea false eb t = record { from = t.from; some_of = Sublistᴰ.cons t.some_of; changed = t.changed }
       go false ea false eb t = record {
@@ -80,7 +80,7 @@ module _ (L : Limits) (M : Modes) {o₁ o₂ : Options} (fewer : Fewer o₁ o₂
         some_of = Sublistᴰ.cons-cons refl t.some_of;
         changed = ap₂ (λ (x : Bytes) (l : List Bytes). x ∷ l) (sym (again p)) t.changed;
       }
-      go false ea true eb t = clash (cc (withheld_under fewer (learn L M k p).known (mmtp_of p) eb))
+      go false ea true eb t = clash (cc (withheld_under fewer (learn L k p).known (mmtp_of p) eb))
 
   -- ---- one call, neither set to copy all
 

@@ -11,7 +11,6 @@ pub mod CasesOfTables
 pub mod CasesOfNarrowing
 pub mod CasesOfLearning
 pub mod CasesOfFragments
-pub mod CasesOfJoining
 pub mod CasesOfLeading
 pub mod CasesOfRules
 pub mod CasesOfRefusals
@@ -46,8 +45,6 @@ pub mod CountLaws
 pub mod LessIsLess
 pub mod SoundnessKept
 pub mod LayoutLaws
-pub mod JoinLaws
-pub mod StrictLaws
 pub mod MoveLaws
 pub mod SoundnessLaws
 pub mod SpareLaws

@@ -21,12 +21,12 @@ use Rattle.meaning.specs.Tables.{Mpt, mpt, Package, plt, Table, is_mpt, is_plt, 
 use Rattle.meaning.specs.Wishes.{copies_all}
 use Rattle.meaning.specs.Narrow.{narrow_packet}
 use Rattle.meaning.specs.Rooms.{packet_limit}
-use Rattle.meaning.specs.Learn.{Fragment, Known, Learnt, learnt, Listed, assets_in, asset_numbers, lists_in, lists, over, place_for, listed, with_list, mpt_from, learn_mpt, plt_from, learn_plt, learn_table, and_lost, learn_tables, pa_tables, with_data, learn_message, learn_messages, with_fragments, without, fragment_of, counter_of, ends, joined, last_for, last, by_counter, by_indicator, observe, learn_from, learn}
+use Rattle.meaning.specs.Learn.{Fragment, Known, Learnt, learnt, Listed, assets_in, asset_numbers, lists_in, lists, over, place_for, listed, with_list, mpt_from, learn_mpt, plt_from, learn_plt, learn_table, and_lost, learn_tables, pa_tables, with_data, learn_message, learn_messages, with_fragments, without, fragment_of, fits, joined, last_for, last, by_indicator, observe, learn_from, learn}
 use Rattle.meaning.specs.Rules.{list_of}
 use Rattle.meaning.specs.Record.{State}
 use Rattle.meaning.specs.Soundness.{firsts, Holds}
 use Rattle.meaning.specs.Push.{withheld, Passed, pass_one, pass, filtered, push}
-use Rattle.meaning.specs.Recount.{mpt_in, mpts_in, ListKept, ListLost, joined_messages, messages_of_last, messages_by, observed_messages, mpt_identifiers, identifiers_from, observed_mpts, lost_of}
+use Rattle.meaning.specs.Recount.{mpt_in, mpts_in, ListKept, ListLost, joined_messages, messages_by, observed_messages, mpt_identifiers, identifiers_from, observed_mpts, lost_of}
 use Rattle.meaning.specs.declared.Limits.{Limits}
 use Rattle.meaning.specs.declared.Options.{Options}
 use Rattle.meaning.specs.declared.Modes.{Modes}
@@ -312,7 +312,7 @@ unfolding learn_messages mpt_identifiers flat_map
 told_messages p [] k few = told_none k k few refl
 told_messages p (m ∷ ms) k few = let h = told_message p m k few in told_then h (told_messages p ms (learn_message p m k).known h.few)
 
-module _ (L : Limits) (M : Modes) (p : ℕ) (k : Known) (few : length k.map_heads ≤ 64) where
+module _ (L : Limits) (p : ℕ) (k : Known) (few : length k.map_heads ≤ 64) where
   -- after fragments have changed
   told_fragments : (fs : List Fragment) (ms : List Message) → Told k (mpt_identifiers p ms) (learn_messages p ms (with_fragments fs k))
   told_fragments fs ms = told_from k (with_fragments fs k) refl (told_messages p ms (with_fragments fs k) few)
@@ -321,84 +321,72 @@ module _ (L : Limits) (M : Modes) (p : ℕ) (k : Known) (few : length k.map_head
   unfolding mpt_identifiers flat_map
   told_nothing k' e = told_none k k' few e
 
-  told_last : (f : Option Fragment) (c : ℕ) (b : Bytes) → Told k (mpt_identifiers p (joined_messages f L M c b k.fragments)) (last_for f L M p c b k)
-  told_last none c b = told_nothing k refl
-  told_last (some f) c b = go (ends L M c f b k.fragments)
+  told_last : (f : Option Fragment) (s : Bytes) → Told k (mpt_identifiers p (joined_messages f L s k.fragments)) (last_for f L p s k)
+  told_last none s = told_nothing k refl
+  told_last (some f) s = go (fits L f s k.fragments)
     where
       fs : List Fragment
       fs = without p k.fragments
 
-      go : (a : Bool) → Told k (mpt_identifiers p (cond a (messages (joined f b)) [])) (cond a (learn_messages p (messages (joined f b)) (with_fragments fs k)) (learnt (with_fragments fs k)))
-      go true = told_fragments fs (messages (joined f b))
+      go : (a : Bool) → Told k (mpt_identifiers p (cond a (messages (joined f s)) [])) (cond a (learn_messages p (messages (joined f s)) (with_fragments fs k)) (learnt (with_fragments fs k)))
+      go true = told_fragments fs (messages (joined f s))
       go false = told_nothing (with_fragments fs k) refl
 
-  told_first : (o : Option ℕ) (flags : ℕ) (b : Bytes) → Told k (mpt_identifiers p []) (by_counter o 0 L M p flags b k)
-  told_first none flags b = told_nothing _ refl
-  told_first (some c) flags b = told_nothing _ refl
-
-  told_middle : (o : Option ℕ) (flags : ℕ) (b : Bytes) → Told k (mpt_identifiers p []) (by_counter o 1 L M p flags b k)
-  told_middle none flags b = told_nothing _ refl
-  told_middle (some c) flags b = told_nothing _ refl
-
-  told_end : (o : Option ℕ) (n flags : ℕ) (b : Bytes) → Told k (mpt_identifiers p (messages_of_last o L M p b k)) (by_counter o (suc (suc n)) L M p flags b k)
+  told_by : (i flags : ℕ) (s : Bytes) → Told k (mpt_identifiers p (messages_by i L p (flags ∷ s) k)) (by_indicator i L p flags s k)
   unfolding last
-  told_end none n flags b = told_nothing _ refl
-  told_end (some c) n flags b = told_last (fragment_of p k.fragments) c b
-
-  told_by : (i flags : ℕ) (s : Bytes) → Told k (mpt_identifiers p (messages_by i L M p (flags ∷ s) k)) (by_indicator i L M p flags s k)
   told_by zero flags s = told_fragments (without p k.fragments) (messages (flags ∷ s))
-  told_by (suc zero) flags s = told_first (counter_of M s) flags (drop 1 s)
-  told_by (suc (suc zero)) flags s = told_middle (counter_of M s) flags (drop 1 s)
-  told_by (suc (suc (suc n))) flags s = told_end (counter_of M s) n flags (drop 1 s)
+  told_by (suc zero) flags s = told_nothing _ refl
+  told_by (suc (suc zero)) flags s = told_nothing _ refl
+  told_by (suc (suc (suc n))) flags s = told_last (fragment_of p k.fragments) (drop 1 s)
 
-  told_observed : (s : Bytes) → Told k (mpt_identifiers p (observed_messages L M p s k)) (observe L M p s k)
+  told_observed : (s : Bytes) → Told k (mpt_identifiers p (observed_messages L p s k)) (observe L p s k)
   unfolding observe observed_messages
   told_observed [] = told_nothing k refl
   told_observed (flags ∷ s) = go (in_set k.data_set p)
     where
-      go : (a : Bool) → Told k (mpt_identifiers p (cond a [] (messages_by (indicator flags) L M p (flags ∷ s) k))) (cond a (learnt k) (by_indicator (indicator flags) L M p flags s k))
+      go : (a : Bool) → Told k (mpt_identifiers p (cond a [] (messages_by (indicator flags) L p (flags ∷ s) k))) (cond a (learnt k) (by_indicator (indicator flags) L p flags s k))
       go true = told_nothing k refl
       go false = told_by (indicator flags) flags s
 
-told_packet : (L : Limits) (M : Modes) (k : Known) → length k.map_heads ≤ 64 → (x : Option Mmtp) → Told k (identifiers_from L M x k) (learn_from L M x k)
-told_packet L M k few none = told_none k k few refl
-told_packet L M k few (some m) = go (is_signalling m)
+told_packet : (L : Limits) (k : Known) → length k.map_heads ≤ 64 → (x : Option Mmtp) → Told k (identifiers_from L x k) (learn_from L x k)
+told_packet L k few none = told_none k k few refl
+told_packet L k few (some m) = go (is_signalling m)
   where
-    go : (a : Bool) → Told k (cond a (mpt_identifiers m.identifier (observed_messages L M m.identifier m.payload k)) []) (cond a (observe L M m.identifier m.payload k) (learnt k))
-    go true = told_observed L M m.identifier k few m.payload
+    go : (a : Bool) → Told k (cond a (mpt_identifiers m.identifier (observed_messages L m.identifier m.payload k)) []) (cond a (observe L m.identifier m.payload k) (learnt k))
+    go true = told_observed L m.identifier k few m.payload
     go false = told_none k k few refl
 
-told_learn : (L : Limits) (M : Modes) (k : Known) (p : Bytes) → length k.map_heads ≤ 64 → Told k (identifiers_from L M (mmtp_of p) k) (learn L M k p)
+told_learn : (L : Limits) (k : Known) (p : Bytes) → length k.map_heads ≤ 64 → Told k (identifiers_from L (mmtp_of p) k) (learn L k p)
 unfolding learn
-told_learn L M k p few = told_packet L M k few (mmtp_of p)
+told_learn L k p few = told_packet L k few (mmtp_of p)
 
 -- ---- a run, and a call
 
-pass_lost : (L : Limits) (M : Modes) (o : Options) (k : Known) (ps : List Bytes) → length k.map_heads ≤ 64 → (pass L M o k ps).lost ≡ lost_of (ids k) (observed_mpts L M k ps)
+pass_lost : (L : Limits) (M : Modes) (o : Options) (k : Known) (ps : List Bytes) → length k.map_heads ≤ 64 → (pass L M o k ps).lost ≡ lost_of (ids k) (observed_mpts L k ps)
 unfolding pass observed_mpts lost_of
 pass_lost L M o k [] few = refl
 pass_lost L M o k (p ∷ ps) few =
-    let t = told_learn L M k p few in
-    go (withheld o (learn L M k p).known (mmtp_of p)) t (pass_lost L M o (learn L M k p).known ps t.few)
+    let t = told_learn L k p few in
+    go (withheld o (learn L k p).known (mmtp_of p)) t (pass_lost L M o (learn L k p).known ps t.few)
   where
     r : Passed
-    r = pass L M o (learn L M k p).known ps
+    r = pass L M o (learn L k p).known ps
 
     rest : List ℕ
-    rest = observed_mpts L M (learn L M k p).known ps
+    rest = observed_mpts L (learn L k p).known ps
 
-    sums : Told k (identifiers_from L M (mmtp_of p) k) (learn L M k p) → r.lost ≡ lost_of (ids (learn L M k p).known) rest
-        → (learn L M k p).lost + r.lost ≡ lost_of (ids k) (identifiers_from L M (mmtp_of p) k ++ rest)
+    sums : Told k (identifiers_from L (mmtp_of p) k) (learn L k p) → r.lost ≡ lost_of (ids (learn L k p).known) rest
+        → (learn L k p).lost + r.lost ≡ lost_of (ids k) (identifiers_from L (mmtp_of p) k ++ rest)
     sums t ih =
-        ap₂ (λ (a c : ℕ). a + c) t.lost_is (ih ∙ ap (λ (h : List ℕ). lost_of h rest) t.held_is) ∙ sym (lost_append (ids k) (identifiers_from L M (mmtp_of p) k) rest)
+        ap₂ (λ (a c : ℕ). a + c) t.lost_is (ih ∙ ap (λ (h : List ℕ). lost_of h rest) t.held_is) ∙ sym (lost_append (ids k) (identifiers_from L (mmtp_of p) k) rest)
 
-    go : (a : Bool) → Told k (identifiers_from L M (mmtp_of p) k) (learn L M k p) → r.lost ≡ lost_of (ids (learn L M k p).known) rest
-        → (pass_one a (narrow_packet M o p) p (learn L M k p).lost r).lost ≡ lost_of (ids k) (identifiers_from L M (mmtp_of p) k ++ rest)
+    go : (a : Bool) → Told k (identifiers_from L (mmtp_of p) k) (learn L k p) → r.lost ≡ lost_of (ids (learn L k p).known) rest
+        → (pass_one a (narrow_packet M o p) p (learn L k p).lost r).lost ≡ lost_of (ids k) (identifiers_from L (mmtp_of p) k ++ rest)
     go true t ih = sums t ih
     go false t ih = sums t ih
 
 -- The maps lost of a call: of the MPTs of its packets in order, those that find no place beside the lists held before.
 pub lost_recounted : (L : Limits) (M : Modes) (o : Options) (st : State) (chunk : Bytes) → copies_all o ≡ false → length st.known.map_heads ≤ 64
-    → (push L M o st chunk).counts.lost ≡ lost_of (firsts st.known.map_heads) (observed_mpts L M st.known (cut (packet_limit L.work) (st.held ++ chunk)).packets)
+    → (push L M o st chunk).counts.lost ≡ lost_of (firsts st.known.map_heads) (observed_mpts L st.known (cut (packet_limit L.work) (st.held ++ chunk)).packets)
 unfolding push filtered
 lost_recounted L M o st chunk e few = rw e (pass_lost L M o st.known (cut (packet_limit L.work) (st.held ++ chunk)).packets few)

@@ -81,10 +81,10 @@ unfolding program_calls series
 calls_none M o = refl
 
 module _ (M : Modes) (o : Options) (w : wants_assets o ≡ true) where
-  pub calls_hold : (cs : List Bytes) → HoldsState program_limits M o (program_calls M o cs).state
+  pub calls_hold : (cs : List Bytes) → HoldsState program_limits o (program_calls M o cs).state
   unfolding program_calls
   calls_hold cs =
-      series_holds program_limits M o (fresh (replicate 32768 0)) (map program_lent cs) (omega (arith, limit_is)) (fresh_holds program_limits M o (replicate 32768 0) (omega (arith, limit_is)) (length-replicate {A = ℕ} 32768 0) w)
+      series_holds program_limits M o (fresh (replicate 32768 0)) (map program_lent cs) (omega (arith, limit_is)) (fresh_holds program_limits o (replicate 32768 0) (omega (arith, limit_is)) (length-replicate {A = ℕ} 32768 0) w)
 
   short_taken : (st : State) (c : Bytes) → length st.held < 32768 → length c ≤ 32768 → call_refusal program_limits st (program_lent c) ≡ 0
   unfolding call_refusal length_refusal packet_limit program_limits

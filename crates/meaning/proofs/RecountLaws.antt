@@ -541,13 +541,13 @@ table_recounted o t c e =
 pass_written : (L : Limits) (M : Modes) (o : Options) (k : Known) (ps : List Bytes) → Written M o ps (pass L M o k ps).out (pass L M o k ps).rewritten
 unfolding pass count narrowed_packet
 pass_written L M o k [] = record { from = []; some_of = Sublistᴰ.slnil; narrowed = refl; rewritten_are = refl }
-pass_written L M o k (p ∷ ps) = go (withheld o (learn L M k p).known (mmtp_of p)) (pass_written L M o (learn L M k p).known ps)
+pass_written L M o k (p ∷ ps) = go (withheld o (learn L k p).known (mmtp_of p)) (pass_written L M o (learn L k p).known ps)
   where
     r : Passed
-    r = pass L M o (learn L M k p).known ps
+    r = pass L M o (learn L k p).known ps
 
     go : (a : Bool) → Written M o ps r.out r.rewritten
-        → Written M o (p ∷ ps) (pass_one a (narrow_packet M o p) p (learn L M k p).lost r).out (pass_one a (narrow_packet M o p) p (learn L M k p).lost r).rewritten
+        → Written M o (p ∷ ps) (pass_one a (narrow_packet M o p) p (learn L k p).lost r).out (pass_one a (narrow_packet M o p) p (learn L k p).lost r).rewritten
     go true w = record { from = w.from; some_of = Sublistᴰ.cons w.some_of; narrowed = w.narrowed; rewritten_are = w.rewritten_are }
     go false w = record {
       from = p ∷ w.from;

@@ -83,13 +83,13 @@ unfolding record_of
 own_leading L M o leading st r e = e ∙ ap (λ (n : ℕ). record_of L M o n st) (sym (ap (λ (z : Record). z.leading) e))
 
 -- A start: whatever stands in work and fragment room.
-pub fresh_back : (L : Limits) (M : Modes) (o : Options) (work bodies : Bytes) (map_room : List ℕ) → L.total ≤ 16777216 → HoldsState L M o (fresh map_room)
+pub fresh_back : (L : Limits) (M : Modes) (o : Options) (work bodies : Bytes) (map_room : List ℕ) → L.total ≤ 16777216 → HoldsState L o (fresh map_room)
     → state_of (record_of L M o 0 (fresh map_room)) work bodies map_room ≡ fresh map_room
 unfolding fresh
 fresh_back L M o work bodies map_room few h =
     ap (λ (b : Bytes). state_of (record_of L M o 0 (fresh map_room)) work b map_room) (sym (room_none bodies)) ∙ state_back L M o 0 (fresh map_room) few h work bodies
 
-module _ (L : Limits) (M : Modes) (o : Options) (leading : ℕ) (st : State) (work_good : good_work_room L.work ≡ true) (fragments_good : good_fragment_room L.total L.most ≡ true) (h : HoldsState L M o st) where
+module _ (L : Limits) (M : Modes) (o : Options) (leading : ℕ) (st : State) (work_good : good_work_room L.work ≡ true) (fragments_good : good_fragment_room L.total L.most ≡ true) (h : HoldsState L o st) where
   -- its limits, modes and options, and how many lead
   record_says : (r : Record) → r ≡ record_of L M o leading st → (r.limits ≡ L) × (r.modes ≡ M) × (r.options ≡ o) × (r.leading ≡ leading)
   unfolding record_of
@@ -98,7 +98,7 @@ module _ (L : Limits) (M : Modes) (o : Options) (leading : ℕ) (st : State) (wo
   abbrev answered : ℕ → Limits → Modes → Options → ℕ → State → Record → Bytes → Called
   answered x L M o leading st r c =
       cond (eqb x 0)
-      (record { number = 0; out = (push L M o st c).out; counts = (push L M o st c).counts; handed = record_of L M o (leading_pushed L M o st c leading) (push L M o st c).state })
+      (record { number = 0; out = (push L M o st c).out; counts = (push L M o st c).counts; handed = record_of L M o (leading_pushed L o st c leading) (push L M o st c).state })
       (record { number = x; out = []; counts = counts_of 0; handed = r })
 
   called_by : (r : Record) (work bodies : Bytes) (map_room : List ℕ) (c : Lent)
@@ -111,7 +111,7 @@ module _ (L : Limits) (M : Modes) (o : Options) (leading : ℕ) (st : State) (wo
   pub called_taken : (r : Record) (work bodies : Bytes) (map_room : List ℕ) (c : Lent) → r ≡ record_of L M o leading st → state_of r work bodies map_room ≡ st
       → length work ≡ L.work → length bodies ≡ L.total → length map_room ≡ 32768 → call_refusal L st c ≡ 0
       → called r work bodies map_room c.0 c.1
-      ≡ record { number = 0; out = (push L M o st c.0).out; counts = (push L M o st c.0).counts; handed = record_of L M o (leading_pushed L M o st c.0 leading) (push L M o st c.0).state }
+      ≡ record { number = 0; out = (push L M o st c.0).out; counts = (push L M o st c.0).counts; handed = record_of L M o (leading_pushed L o st c.0 leading) (push L M o st c.0).state }
   called_taken r work bodies map_room c e s w b m q =
       let l = record_says r e in
       let x = (λ i. push_refusal (e i) (w i) (b i) (m i) (length c.0) c.1) ∙ refusal_same L M o leading st c work_good fragments_good h ∙ q in

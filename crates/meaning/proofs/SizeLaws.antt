@@ -178,12 +178,12 @@ module _ (Q : Bytes → Type 0) (L : Limits) (M : Modes) (o : Options) (keeps : 
   unfolding pass
   pass_each k [] h = each_none Q
   pass_each k (p ∷ ps) h =
-      go (withheld o (learn L M k p).known (mmtp_of p)) (narrow_packet M o p) refl (pass_each (learn L M k p).known ps (each_rest Q p ps h))
+      go (withheld o (learn L k p).known (mmtp_of p)) (narrow_packet M o p) refl (pass_each (learn L k p).known ps (each_rest Q p ps h))
     where
       r : Passed
-      r = pass L M o (learn L M k p).known ps
+      r = pass L M o (learn L k p).known ps
 
-      go : (a : Bool) (y : Option Bytes) → narrow_packet M o p ≡ y → Each Q r.out → Each Q (pass_one a y p (learn L M k p).lost r).out
+      go : (a : Bool) (y : Option Bytes) → narrow_packet M o p ≡ y → Each Q r.out → Each Q (pass_one a y p (learn L k p).lost r).out
       go true y e ih = ih
       go false none e ih = each_more Q p r.out (each_first Q p ps h) ih
       go false (some y) e ih = each_more Q y r.out (keeps p y (each_first Q p ps h) e) ih

@@ -17,10 +17,9 @@ use Rattle.meaning.specs.Readers.{◌>>=◌, Out, Reader, give, u8, u16, bytes, 
 use Rattle.meaning.specs.Mmtp.{Mmtp, mmtp_of, is_signalling}
 use Rattle.meaning.specs.Messages.{Message, messages, indicator}
 use Rattle.meaning.specs.Tables.{elsewhere, location_body, location, Entry, Mpt, mpt, Package, package_fields, package_entry, plt, service_of, Table, is_mpt, is_plt, pa}
-use Rattle.meaning.specs.Learn.{Fragment, Known, Listed, asset_numbers, over, learnt, place_for, list_asset, listed, with_list, mpt_from, learn_mpt, insert_package, add_package, packages_in, plt_from, learn_plt, learn_table, learn_tables, pa_tables, with_data, learn_message, learn_messages, with_fragments, is_of, without, fragment_bytes, fragment_of, grown, grow_in, counter_in, counter_of, follows, hold_first, fits, joins, middle_of, middle, ends, joined, last_for, last, by_counter, by_indicator, observe, learn_from, learn}
-use Rattle.meaning.specs.Soundness.{rising, distinct, firsts, identifiers, SecondsBelow, SmallFields, HoldsPackages, HoldsMaps, HoldsFragments, Holds}
+use Rattle.meaning.specs.Learn.{Fragment, Known, Listed, asset_numbers, over, learnt, place_for, list_asset, listed, with_list, mpt_from, learn_mpt, insert_package, add_package, packages_in, plt_from, learn_plt, learn_table, learn_tables, pa_tables, with_data, learn_message, learn_messages, with_fragments, is_of, without, fragment_bytes, fragment_of, grown, grow_in, hold_first, fits, middle_of, middle, joined, last_for, last, by_indicator, observe, learn_from, learn}
+use Rattle.meaning.specs.Soundness.{rising, distinct, firsts, identifiers, SecondsBelow, SmallFlags, HoldsPackages, HoldsMaps, HoldsFragments, Holds}
 use Rattle.meaning.specs.declared.Limits.{Limits}
-use Rattle.meaning.specs.declared.Modes.{Modes}
 use Rattle.meaning.proofs.ListLaws.{and_both, both_true, or_neither, keep_length}
 use Rattle.meaning.proofs.Framed.{before, many_framed}
 use Rattle.meaning.proofs.TableLaws.{u16_below, u8_split, mpt_split, package_framed}
@@ -337,13 +336,13 @@ keep_once g (f ∷ fs) d =
     go true x ih = rw x ih
     go false x ih = ih
 
-keep_small : (g : Fragment → Bool) (fs : List Fragment) → SmallFields fs → SmallFields (keep g fs)
+keep_flags : (g : Fragment → Bool) (fs : List Fragment) → SmallFlags fs → SmallFlags (keep g fs)
 unfolding keep
-keep_small g [] h = tt
-keep_small g (f ∷ fs) h = go (g f) (keep_small g fs h.2)
+keep_flags g [] h = tt
+keep_flags g (f ∷ fs) h = go (g f) (keep_flags g fs h.1)
   where
-    go : (b : Bool) → SmallFields (keep g fs) → SmallFields (cond b (f ∷ keep g fs) (keep g fs))
-    go true ih = (h.0, h.1, ih)
+    go : (b : Bool) → SmallFlags (keep g fs) → SmallFlags (cond b (f ∷ keep g fs) (keep g fs))
+    go true ih = (h.0, ih)
     go false ih = ih
 
 keep_within : (g : Fragment → Bool) (fs : List Fragment) → fragment_bytes (keep g fs) ≤ fragment_bytes fs
@@ -359,7 +358,7 @@ keep_holds : (T : ℕ) (g : Fragment → Bool) (fs : List Fragment) → HoldsFra
 keep_holds T g fs s = record {
   few = omega (arith, keep_length g fs, s.few);
   once = keep_once g fs s.once;
-  small = keep_small g fs s.small;
+  flags = keep_flags g fs s.flags;
   within = omega (arith, keep_within g fs, s.within);
 }
 
@@ -382,9 +381,9 @@ snoc_once (g ∷ fs) f d e =
     let x = or_neither (eqb f.identifier g.identifier) (any (eqb f.identifier) (identifiers fs)) e in
     rw (snoc_any g.identifier fs f (not_false _ h.0) (eqb_swap f.identifier g.identifier x.0)) (snoc_once fs f h.1 x.1)
 
-snoc_small : (fs : List Fragment) (f : Fragment) → SmallFields fs → f.flags < 256 → f.counter < 256 → SmallFields (fs ++ (f ∷ []))
-snoc_small [] f h l m = (l, m, tt)
-snoc_small (g ∷ fs) f h l m = (h.0, h.1, snoc_small fs f h.2 l m)
+snoc_flags : (fs : List Fragment) (f : Fragment) → SmallFlags fs → f.flags < 256 → SmallFlags (fs ++ (f ∷ []))
+snoc_flags [] f h l = (l, tt)
+snoc_flags (g ∷ fs) f h l = (h.0, snoc_flags fs f h.1 l)
 
 snoc_fragment_bytes : (fs : List Fragment) (f : Fragment) → fragment_bytes (fs ++ (f ∷ [])) ≡ fragment_bytes fs + length f.body
 unfolding fragment_bytes sum
@@ -406,9 +405,9 @@ pub without_holds : (T p : ℕ) (fs : List Fragment) → HoldsFragments T fs →
 unfolding without
 without_holds T p fs s = keep_holds T (λ f. not (is_of p f)) fs s
 
-pub first_holds : (L : Limits) (p flags c : ℕ) (b : Bytes) (fs : List Fragment) → c < 256 → HoldsFragments L.total fs → HoldsFragments L.total (hold_first L p flags c b fs)
+pub first_holds : (L : Limits) (p flags : ℕ) (b : Bytes) (fs : List Fragment) → HoldsFragments L.total fs → HoldsFragments L.total (hold_first L p flags b fs)
 unfolding hold_first
-first_holds L p flags c b fs l s = go (ltb (length others) 256 && leb (fragment_bytes others + length b) L.total) refl
+first_holds L p flags b fs s = go (ltb (length others) 256 && leb (fragment_bytes others + length b) L.total) refl
   where
     others : List Fragment
     others = without p fs
@@ -417,7 +416,7 @@ first_holds L p flags c b fs l s = go (ltb (length others) 256 && leb (fragment_
     held = without_holds L.total p fs s
 
     new : Fragment
-    new = record { identifier = p; flags = flags % 64; counter = c; body = b }
+    new = record { identifier = p; flags = flags % 64; body = b }
 
     go : (a : Bool) → (ltb (length others) 256 && leb (fragment_bytes others + length b) L.total) ≡ a → HoldsFragments L.total (cond a (others ++ (new ∷ [])) others)
     go false e = held
@@ -426,77 +425,71 @@ first_holds L p flags c b fs l s = go (ltb (length others) 256 && leb (fragment_
         record {
           few = omega (arith, ltb-true (length others) 256 h.0, length-append others (new ∷ []));
           once = snoc_once others new held.once (without_none p fs);
-          small = snoc_small others new held.small (omega arith) l;
+          flags = snoc_flags others new held.flags (omega arith);
           within = omega (arith, leb-true (fragment_bytes others + length b) L.total h.1, snoc_fragment_bytes others new);
         }
 
 -- a fragment that grows stays where it is
-grow_identifiers : (p c : ℕ) (b : Bytes) (fs : List Fragment) → identifiers (grow_in p c b fs) ≡ identifiers fs
+grow_identifiers : (p : ℕ) (b : Bytes) (fs : List Fragment) → identifiers (grow_in p b fs) ≡ identifiers fs
 unfolding grow_in
-grow_identifiers p c b [] = refl
-grow_identifiers p c b (f ∷ fs) = go (is_of p f) (grow_identifiers p c b fs)
+grow_identifiers p b [] = refl
+grow_identifiers p b (f ∷ fs) = go (is_of p f) (grow_identifiers p b fs)
   where
-    go : (a : Bool) → identifiers (grow_in p c b fs) ≡ identifiers fs → identifiers (cond a (grown f c b ∷ fs) (f ∷ grow_in p c b fs)) ≡ f.identifier ∷ identifiers fs
+    go : (a : Bool) → identifiers (grow_in p b fs) ≡ identifiers fs → identifiers (cond a (grown f b ∷ fs) (f ∷ grow_in p b fs)) ≡ f.identifier ∷ identifiers fs
     go true ih = refl
     go false ih = ap (λ (l : List ℕ). f.identifier ∷ l) ih
 
-grow_length : (p c : ℕ) (b : Bytes) (fs : List Fragment) → length (grow_in p c b fs) ≡ length fs
+grow_length : (p : ℕ) (b : Bytes) (fs : List Fragment) → length (grow_in p b fs) ≡ length fs
 unfolding grow_in
-grow_length p c b [] = refl
-grow_length p c b (f ∷ fs) = go (is_of p f) (grow_length p c b fs)
+grow_length p b [] = refl
+grow_length p b (f ∷ fs) = go (is_of p f) (grow_length p b fs)
   where
-    go : (a : Bool) → length (grow_in p c b fs) ≡ length fs → length (cond a (grown f c b ∷ fs) (f ∷ grow_in p c b fs)) ≡ suc (length fs)
+    go : (a : Bool) → length (grow_in p b fs) ≡ length fs → length (cond a (grown f b ∷ fs) (f ∷ grow_in p b fs)) ≡ suc (length fs)
     go true ih = refl
     go false ih = ap suc ih
 
-grow_small : (p c : ℕ) (b : Bytes) (fs : List Fragment) → c < 256 → SmallFields fs → SmallFields (grow_in p c b fs)
+grow_flags : (p : ℕ) (b : Bytes) (fs : List Fragment) → SmallFlags fs → SmallFlags (grow_in p b fs)
 unfolding grow_in
-grow_small p c b [] l h = tt
-grow_small p c b (f ∷ fs) l h = go (is_of p f) (grow_small p c b fs l h.2)
+grow_flags p b [] h = tt
+grow_flags p b (f ∷ fs) h = go (is_of p f) (grow_flags p b fs h.1)
   where
-    go : (a : Bool) → SmallFields (grow_in p c b fs) → SmallFields (cond a (grown f c b ∷ fs) (f ∷ grow_in p c b fs))
-    go true ih = (h.0, l, h.2)
-    go false ih = (h.0, h.1, ih)
+    go : (a : Bool) → SmallFlags (grow_in p b fs) → SmallFlags (cond a (grown f b ∷ fs) (f ∷ grow_in p b fs))
+    go true ih = h
+    go false ih = (h.0, ih)
 
-grow_fragment_bytes : (p c : ℕ) (b : Bytes) (fs : List Fragment) → fragment_bytes (grow_in p c b fs) ≤ fragment_bytes fs + length b
+grow_fragment_bytes : (p : ℕ) (b : Bytes) (fs : List Fragment) → fragment_bytes (grow_in p b fs) ≤ fragment_bytes fs + length b
 unfolding grow_in
-grow_fragment_bytes p c b [] = omega arith
-grow_fragment_bytes p c b (f ∷ fs) = go (is_of p f) (grow_fragment_bytes p c b fs)
+grow_fragment_bytes p b [] = omega arith
+grow_fragment_bytes p b (f ∷ fs) = go (is_of p f) (grow_fragment_bytes p b fs)
   where
-    go : (a : Bool) → fragment_bytes (grow_in p c b fs) ≤ fragment_bytes fs + length b → fragment_bytes (cond a (grown f c b ∷ fs) (f ∷ grow_in p c b fs)) ≤ fragment_bytes (f ∷ fs) + length b
-    go true ih = omega (arith, held_next (grown f c b) fs, held_next f fs, length-append f.body b)
-    go false ih = omega (arith, held_next f (grow_in p c b fs), held_next f fs)
+    go : (a : Bool) → fragment_bytes (grow_in p b fs) ≤ fragment_bytes fs + length b → fragment_bytes (cond a (grown f b ∷ fs) (f ∷ grow_in p b fs)) ≤ fragment_bytes (f ∷ fs) + length b
+    go true ih = omega (arith, held_next (grown f b) fs, held_next f fs, length-append f.body b)
+    go false ih = omega (arith, held_next f (grow_in p b fs), held_next f fs)
 
--- what fits has room
-pub fits_within : (L : Limits) (f : Fragment) (b : Bytes) (fs : List Fragment) → fits L f b fs ≡ true → fragment_bytes fs + length b ≤ L.total
+pub middle_holds : (L : Limits) (p : ℕ) (b : Bytes) (fs : List Fragment) (o : Option Fragment) → HoldsFragments L.total fs → HoldsFragments L.total (middle_of o L p b fs)
 unfolding fits
-fits_within L f b fs e = leb-true (fragment_bytes fs + length b) L.total (and_both (leb (length f.body + length b) L.most) (leb (fragment_bytes fs + length b) L.total) e).1
-
-pub grow_holds : (T p c : ℕ) (b : Bytes) (fs : List Fragment) → c < 256 → fragment_bytes fs + length b ≤ T → HoldsFragments T fs → HoldsFragments T (grow_in p c b fs)
-grow_holds T p c b fs l w s = record {
-  few = omega (arith, grow_length p c b fs, s.few);
-  once = ap distinct (grow_identifiers p c b fs) ∙ s.once;
-  small = grow_small p c b fs l s.small;
-  within = omega (arith, grow_fragment_bytes p c b fs, w);
-}
-
-pub middle_holds : (L : Limits) (M : Modes) (p c : ℕ) (b : Bytes) (fs : List Fragment) (o : Option Fragment) → c < 256 → HoldsFragments L.total fs → HoldsFragments L.total (middle_of o L M p c b fs)
-unfolding joins
-middle_holds L M p c b fs none l s = s
-middle_holds L M p c b fs (some f) l s = go (follows M c f && fits L f b fs) refl
+middle_holds L p b fs none s = s
+middle_holds L p b fs (some f) s = go (fits L f b fs) refl
   where
-    go : (a : Bool) → (follows M c f && fits L f b fs) ≡ a → HoldsFragments L.total (cond a (grow_in p c b fs) (without p fs))
+    go : (a : Bool) → fits L f b fs ≡ a → HoldsFragments L.total (cond a (grow_in p b fs) (without p fs))
     go false e = without_holds L.total p fs s
-    go true e = grow_holds L.total p c b fs l (fits_within L f b fs (and_both (follows M c f) (fits L f b fs) e).1) s
+    go true e =
+        let h = and_both (leb (length f.body + length b) L.most) (leb (fragment_bytes fs + length b) L.total) e in
+        record {
+          few = omega (arith, grow_length p b fs, s.few);
+          once = ap distinct (grow_identifiers p b fs) ∙ s.once;
+          flags = grow_flags p b fs s.flags;
+          within = omega (arith, grow_fragment_bytes p b fs, leb-true (fragment_bytes fs + length b) L.total h.1);
+        }
 
 -- ---- a payload, a packet
 
 abbrev pub with_fragments_lem : {T : ℕ} {k : Known} {fs : List Fragment} → Holds T k → HoldsFragments T fs → Holds T (with_fragments fs k)
 with_fragments_lem s f = record { packages_hold = s.packages_hold; maps_hold = s.maps_hold; fragments_hold = f; map_room_all = s.map_room_all }
 
-last_holds : (L : Limits) (M : Modes) (p c : ℕ) (b : Bytes) (k : Known) (o : Option Fragment) → Holds L.total k → Holds L.total (last_for o L M p c b k).known
-last_holds L M p c b k none s = s
-last_holds L M p c b k (some f) s = go (ends L M c f b k.fragments)
+last_holds : (L : Limits) (p : ℕ) (b : Bytes) (k : Known) (o : Option Fragment) → Holds L.total k → Holds L.total (last_for o L p b k).known
+last_holds L p b k none s = s
+last_holds L p b k (some f) s = go (fits L f b k.fragments)
   where
     rest : Holds L.total (with_fragments (without p k.fragments) k)
     rest = with_fragments_lem s (without_holds L.total p k.fragments s.fragments_hold)
@@ -505,47 +498,33 @@ last_holds L M p c b k (some f) s = go (ends L M c f b k.fragments)
     go true = messages_hold L.total p (messages (joined f b)) (with_fragments (without p k.fragments) k) rest
     go false = rest
 
--- A counter is a byte.
-pub counter_below : (M : Modes) (s : Bytes) (c : ℕ) → counter_of M s ≡ some c → c < 256
-unfolding counter_of
-counter_below M s c e = go M.strict_joining s e
-  where
-    go : (a : Bool) (s : Bytes) → cond a (counter_in s) (some 0) ≡ some c → c < 256
-    go true [] e = absurd (none-ne-some c e)
-    go true (x ∷ s) e = omega (arith, some-injective (x % 256) c e)
-    go false s e = omega (arith, some-injective 0 c e)
-
-counter_holds : (o : Option ℕ) (i : ℕ) (L : Limits) (M : Modes) (p flags : ℕ) (b : Bytes) (k : Known) → ((c : ℕ) → o ≡ some c → c < 256) → Holds L.total k
-    → Holds L.total (by_counter o i L M p flags b k).known
+indicator_holds : (i : ℕ) (L : Limits) (p flags : ℕ) (s : Bytes) (k : Known) → Holds L.total k → Holds L.total (by_indicator i L p flags s k).known
 unfolding middle last
-counter_holds none i L M p flags b k l h = with_fragments_lem h (without_holds L.total p k.fragments h.fragments_hold)
-counter_holds (some c) zero L M p flags b k l h = with_fragments_lem h (first_holds L p flags c b k.fragments (l c refl) h.fragments_hold)
-counter_holds (some c) (suc zero) L M p flags b k l h = with_fragments_lem h (middle_holds L M p c b k.fragments (fragment_of p k.fragments) (l c refl) h.fragments_hold)
-counter_holds (some c) (suc (suc i)) L M p flags b k l h = last_holds L M p c b k (fragment_of p k.fragments) h
-
-indicator_holds : (i : ℕ) (L : Limits) (M : Modes) (p flags : ℕ) (s : Bytes) (k : Known) → Holds L.total k → Holds L.total (by_indicator i L M p flags s k).known
-indicator_holds zero L M p flags s k h =
+indicator_holds zero L p flags s k h =
     messages_hold L.total p (messages (flags ∷ s)) (with_fragments (without p k.fragments) k)
     (with_fragments_lem h (without_holds L.total p k.fragments h.fragments_hold))
-indicator_holds (suc i) L M p flags s k h = counter_holds (counter_of M s) i L M p flags (drop 1 s) k (counter_below M s) h
+indicator_holds (suc zero) L p flags s k h = with_fragments_lem h (first_holds L p flags (drop 1 s) k.fragments h.fragments_hold)
+indicator_holds (suc (suc zero)) L p flags s k h =
+    with_fragments_lem h (middle_holds L p (drop 1 s) k.fragments (fragment_of p k.fragments) h.fragments_hold)
+indicator_holds (suc (suc (suc n))) L p flags s k h = last_holds L p (drop 1 s) k (fragment_of p k.fragments) h
 
-observe_holds : (L : Limits) (M : Modes) (p : ℕ) (s : Bytes) (k : Known) → Holds L.total k → Holds L.total (observe L M p s k).known
+observe_holds : (L : Limits) (p : ℕ) (s : Bytes) (k : Known) → Holds L.total k → Holds L.total (observe L p s k).known
 unfolding observe
-observe_holds L M p [] k h = h
-observe_holds L M p (flags ∷ s) k h = go (in_set k.data_set p)
+observe_holds L p [] k h = h
+observe_holds L p (flags ∷ s) k h = go (in_set k.data_set p)
   where
-    go : (a : Bool) → Holds L.total (cond a (learnt k) (by_indicator (indicator flags) L M p flags s k)).known
+    go : (a : Bool) → Holds L.total (cond a (learnt k) (by_indicator (indicator flags) L p flags s k)).known
     go true = h
-    go false = indicator_holds (indicator flags) L M p flags s k h
+    go false = indicator_holds (indicator flags) L p flags s k h
 
-pub learn_holds : (L : Limits) (M : Modes) (k : Known) (p : Bytes) → Holds L.total k → Holds L.total (learn L M k p).known
+pub learn_holds : (L : Limits) (k : Known) (p : Bytes) → Holds L.total k → Holds L.total (learn L k p).known
 unfolding learn
-learn_holds L M k p h = go (mmtp_of p)
+learn_holds L k p h = go (mmtp_of p)
   where
-    inner : (m : Mmtp) (a : Bool) → Holds L.total (cond a (observe L M m.identifier m.payload k) (learnt k)).known
-    inner m true = observe_holds L M m.identifier m.payload k h
+    inner : (m : Mmtp) (a : Bool) → Holds L.total (cond a (observe L m.identifier m.payload k) (learnt k)).known
+    inner m true = observe_holds L m.identifier m.payload k h
     inner m false = h
 
-    go : (o : Option Mmtp) → Holds L.total (learn_from L M o k).known
+    go : (o : Option Mmtp) → Holds L.total (learn_from L o k).known
     go none = h
     go (some m) = inner m (is_signalling m)

@@ -17,8 +17,8 @@ use Rattle.meaning.specs.Wishes.{wants_assets, copies_all}
 use Rattle.meaning.specs.Narrow.{narrow_packet}
 use Rattle.meaning.specs.Rooms.{packet_limit, good_work_room, good_fragment_room, good_map_room}
 use Rattle.meaning.specs.Learn.{Fragment, Known, learn, fragment_bytes}
-use Rattle.meaning.specs.Record.{State, slots, Record, pack_pair, pair_of, fragment_head, fragment_identifier, fragment_flags, fragment_counter, fragment_length, held_counter, record_of, bodies_of, room_of, lens, packed_in, fragments_in, state_of}
-use Rattle.meaning.specs.Soundness.{rising, distinct, sound_rooms, sound_held, sound_packages, sound_maps, sound_fragments, sound, firsts, identifiers, SecondsBelow, SmallFields, Uncounted, HoldsPackages, HoldsMaps, HoldsFragments, Holds}
+use Rattle.meaning.specs.Record.{State, slots, Record, pack_pair, pair_of, fragment_head, fragment_identifier, fragment_flags, fragment_length, record_of, bodies_of, room_of, lens, packed_in, fragments_in, state_of}
+use Rattle.meaning.specs.Soundness.{rising, distinct, sound_rooms, sound_held, sound_packages, sound_maps, sound_fragments, sound, firsts, identifiers, SecondsBelow, SmallFlags, HoldsPackages, HoldsMaps, HoldsFragments, Holds}
 use Rattle.meaning.specs.Start.{fresh, blank}
 use Rattle.meaning.specs.Push.{withheld, pass_one, pass, filtered, push, push_refusal}
 use Rattle.meaning.specs.Series.{Lent, call_refusal, series, series_on}
@@ -28,32 +28,29 @@ use Rattle.meaning.specs.declared.Modes.{Modes}
 use Rattle.meaning.proofs.ListLaws.{clash, and_both}
 use Rattle.meaning.proofs.CutLaws.{held_below}
 use Rattle.meaning.proofs.SoundnessKept.{held_next, learn_holds}
-use Rattle.meaning.proofs.LayoutLaws.{take_map, drop_map, bytes_of_lem, identifiers_in, small_in, uncounted_in, length_in, bytes_in}
-use Rattle.meaning.proofs.JoinLaws.{learn_uncounted}
+use Rattle.meaning.proofs.LayoutLaws.{take_map, drop_map, bytes_of_lem, identifiers_in, flags_in, length_in, bytes_in}
 
 -- What a sound state holds to.
-pub record HoldsState (L : Limits) (M : Modes) (o : Options) (st : State) : Type 0 where
+pub record HoldsState (L : Limits) (o : Options) (st : State) : Type 0 where
   pub held_few : length st.held < packet_limit L.work
   pub held_none : copies_all o ≡ true → length st.held ≡ 0
   pub assets_wanted : wants_assets o ≡ true
   pub known_holds : Holds L.total st.known
-  pub uncounted : Uncounted M st.known.fragments
 
 -- ---- a start
 
-pub fresh_holds : (L : Limits) (M : Modes) (o : Options) (map_room : List ℕ) → 0 < packet_limit L.work → length map_room ≡ 32768 → wants_assets o ≡ true → HoldsState L M o (fresh map_room)
+pub fresh_holds : (L : Limits) (o : Options) (map_room : List ℕ) → 0 < packet_limit L.work → length map_room ≡ 32768 → wants_assets o ≡ true → HoldsState L o (fresh map_room)
 unfolding fresh rising distinct fragment_bytes sum
-fresh_holds L M o map_room h m w = record {
+fresh_holds L o map_room h m w = record {
   held_few = h;
   held_none = λ e. refl;
   assets_wanted = w;
   known_holds = record {
     packages_hold = record { few = omega arith; rise = refl; small = tt };
     maps_hold = record { few = omega arith; once = refl; small = tt };
-    fragments_hold = record { few = omega arith; once = refl; small = tt; within = omega arith };
+    fragments_hold = record { few = omega arith; once = refl; flags = tt; within = omega arith };
     map_room_all = m;
   };
-  uncounted = tt;
 }
 
 -- What a refused start hands back is unsound, whatever the rooms.
@@ -71,29 +68,18 @@ pass_holds : (L : Limits) (M : Modes) (o : Options) (k : Known) (ps : List Bytes
 unfolding pass
 pass_holds L M o k [] h = h
 pass_holds L M o k (p ∷ ps) h =
-    go (withheld o (learn L M k p).known (mmtp_of p)) (pass_holds L M o (learn L M k p).known ps (learn_holds L M k p h))
+    go (withheld o (learn L k p).known (mmtp_of p)) (pass_holds L M o (learn L k p).known ps (learn_holds L k p h))
   where
-    go : (a : Bool) → Holds L.total (pass L M o (learn L M k p).known ps).known
-        → Holds L.total (pass_one a (narrow_packet M o p) p (learn L M k p).lost (pass L M o (learn L M k p).known ps)).known
+    go : (a : Bool) → Holds L.total (pass L M o (learn L k p).known ps).known
+        → Holds L.total (pass_one a (narrow_packet M o p) p (learn L k p).lost (pass L M o (learn L k p).known ps)).known
     go true r = r
     go false r = r
 
-pass_uncounted : (L : Limits) (M : Modes) (o : Options) (k : Known) (ps : List Bytes) → Uncounted M k.fragments → Uncounted M (pass L M o k ps).known.fragments
-unfolding pass
-pass_uncounted L M o k [] h = h
-pass_uncounted L M o k (p ∷ ps) h =
-    go (withheld o (learn L M k p).known (mmtp_of p)) (pass_uncounted L M o (learn L M k p).known ps (learn_uncounted M L k p h))
-  where
-    go : (a : Bool) → Uncounted M (pass L M o (learn L M k p).known ps).known.fragments
-        → Uncounted M (pass_one a (narrow_packet M o p) p (learn L M k p).lost (pass L M o (learn L M k p).known ps)).known.fragments
-    go true r = r
-    go false r = r
-
-pub push_holds : (L : Limits) (M : Modes) (o : Options) (st : State) (chunk : Bytes) → 4 ≤ packet_limit L.work → HoldsState L M o st → HoldsState L M o (push L M o st chunk).state
+pub push_holds : (L : Limits) (M : Modes) (o : Options) (st : State) (chunk : Bytes) → 4 ≤ packet_limit L.work → HoldsState L o st → HoldsState L o (push L M o st chunk).state
 unfolding push filtered
 push_holds L M o st chunk four h = go (copies_all o) refl
   where
-    go : (a : Bool) → copies_all o ≡ a → HoldsState L M o (push L M o st chunk).state
+    go : (a : Bool) → copies_all o ≡ a → HoldsState L o (push L M o st chunk).state
     go true e = rw e h
     go false e = rw e
         (record {
@@ -101,17 +87,16 @@ push_holds L M o st chunk four h = go (copies_all o) refl
           held_none = λ c. clash (let z : false ≡ true = sym e ∙ c in cc);
           assets_wanted = h.assets_wanted;
           known_holds = pass_holds L M o st.known (cut (packet_limit L.work) (st.held ++ chunk)).packets h.known_holds;
-          uncounted = pass_uncounted L M o st.known (cut (packet_limit L.work) (st.held ++ chunk)).packets h.uncounted;
         })
 
-pub series_holds : (L : Limits) (M : Modes) (o : Options) (st : State) (cs : List Lent) → 4 ≤ packet_limit L.work → HoldsState L M o st → HoldsState L M o (series L M o st cs).state
+pub series_holds : (L : Limits) (M : Modes) (o : Options) (st : State) (cs : List Lent) → 4 ≤ packet_limit L.work → HoldsState L o st → HoldsState L o (series L M o st cs).state
 unfolding series
 series_holds L M o st [] four h = h
 series_holds L M o st (c ∷ cs) four h =
     go (eqb (call_refusal L st c) 0) (series_holds L M o (push L M o st c.0).state cs four (push_holds L M o st c.0 four h)) (series_holds L M o st cs four h)
   where
-    go : (a : Bool) → HoldsState L M o (series L M o (push L M o st c.0).state cs).state → HoldsState L M o (series L M o st cs).state
-        → HoldsState L M o (cond a (series_on (push L M o st c.0) (series L M o (push L M o st c.0).state cs)) (series L M o st cs)).state
+    go : (a : Bool) → HoldsState L o (series L M o (push L M o st c.0).state cs).state → HoldsState L o (series L M o st cs).state
+        → HoldsState L o (cond a (series_on (push L M o st c.0) (series L M o (push L M o st c.0).state cs)) (series L M o st cs)).state
     go true x y = x
     go false x y = y
 
@@ -129,17 +114,15 @@ pair_back x h = pair_pack x ∙ ap₂ (λ (a b : ℕ). (a, b)) (omega arith) (om
 pub record Tells (f : Fragment) : Type 0 where
   pub identifier_is : fragment_identifier (fragment_head f) ≡ f.identifier
   pub flags_are : fragment_flags (fragment_head f) ≡ f.flags
-  pub counter_is : fragment_counter (fragment_head f) ≡ f.counter
   pub length_is : fragment_length (fragment_head f) ≡ length f.body
 
 abbrev pub TellAll : List Fragment → Type 0
 TellAll [] = Unit {0}
 TellAll (f ∷ fs) = Tells f × TellAll fs
 
-head_tells : (f : Fragment) → f.flags < 256 → f.counter < 256 → length f.body < 4294967296 → Tells f
-unfolding fragment_identifier fragment_flags fragment_counter fragment_length fragment_head
-head_tells f a b c =
-    record { identifier_is = omega (arith, a, b, c); flags_are = omega (arith, a, b, c); counter_is = omega (arith, a, b, c); length_is = omega (arith, a, b, c) }
+head_tells : (f : Fragment) → f.flags < 256 → length f.body < 1099511627776 → Tells f
+unfolding fragment_identifier fragment_flags fragment_length fragment_head
+head_tells f a b = record { identifier_is = omega (arith, a, b); flags_are = omega (arith, a, b); length_is = omega (arith, a, b) }
 
 -- ---- the record of a state is sound
 
@@ -167,13 +150,13 @@ counts_of_lem (x ∷ ps) b =
     rw (e, le-leb x.1 255 (omega (arith, b.0))) (counts_of_lem ps b.1)
 
 -- Each fragment is within the sum, which is within T: so every head of a sound state tells.
-tell_all : (T : ℕ) (fs : List Fragment) → SmallFields fs → fragment_bytes fs ≤ T → T ≤ 16777216 → TellAll fs
+tell_all : (T : ℕ) (fs : List Fragment) → SmallFlags fs → fragment_bytes fs ≤ T → T ≤ 16777216 → TellAll fs
 tell_all T [] s h t = tt
 tell_all T (f ∷ fs) s h t =
-    (head_tells f s.0 s.1 (omega (arith, held_next f fs)), tell_all T fs s.2 (omega (arith, held_next f fs)) t)
+    (head_tells f s.0 (omega (arith, held_next f fs)), tell_all T fs s.1 (omega (arith, held_next f fs)) t)
 
 pub heads_tell : (T : ℕ) (fs : List Fragment) → HoldsFragments T fs → T ≤ 16777216 → TellAll fs
-heads_tell T fs h t = tell_all T fs h.small h.within t
+heads_tell T fs h t = tell_all T fs h.flags h.within t
 
 identifiers_of : (fs : List Fragment) → TellAll fs → map fragment_identifier (map fragment_head fs) ≡ identifiers fs
 identifiers_of [] h = refl
@@ -184,7 +167,7 @@ unfolding sum fragment_bytes
 lengths_of_lem [] h = refl
 lengths_of_lem (f ∷ fs) h = ap₂ (λ (a b : ℕ). a + b) h.0.length_is (lengths_of_lem fs h.1)
 
-module _ (L : Limits) (M : Modes) (o : Options) (leading : ℕ) (st : State) (work_good : good_work_room L.work ≡ true) (fragments_good : good_fragment_room L.total L.most ≡ true) (h : HoldsState L M o st) where
+module _ (L : Limits) (M : Modes) (o : Options) (leading : ℕ) (st : State) (work_good : good_work_room L.work ≡ true) (fragments_good : good_fragment_room L.total L.most ≡ true) (h : HoldsState L o st) where
   rooms_sound : sound_rooms L L.work L.total 32768 ≡ true
   unfolding sound_rooms good_map_room
   rooms_sound = rw (eq-eqb L.work L.work refl, eq-eqb L.total L.total refl, work_good) fragments_good
@@ -279,17 +262,17 @@ module _ (n : ℕ) (xs : List ℕ) where
         small = counts_in (take n xs) g.1;
       }
 
-  fragments_from : (M : Modes) (T leading : ℕ) (bodies : Bytes) → length bodies ≡ T → sound_fragments T n xs ≡ true → HoldsFragments T (fragments_in M leading (take n xs) bodies)
+  fragments_from : (T leading : ℕ) (bodies : Bytes) → length bodies ≡ T → sound_fragments T n xs ≡ true → HoldsFragments T (fragments_in leading (take n xs) bodies)
   unfolding sound_fragments lens
-  fragments_from M T leading bodies t e =
+  fragments_from T leading bodies t e =
       let h = and_both (leb n 256 && distinct (map fragment_identifier (take n xs))) (leb (sum (map fragment_length (take n xs))) T) e in
       let g = and_both (leb n 256) (distinct (map fragment_identifier (take n xs))) h.0 in
       let w : lens (take n xs) ≤ T = leb-true (sum (map fragment_length (take n xs))) T h.1 in
       record {
-        few = omega (arith, length_in M leading (take n xs) bodies, taken_few n 256 xs (leb-true n 256 g.0));
-        once = ap distinct (identifiers_in M leading (take n xs) bodies) ∙ g.1;
-        small = small_in M leading (take n xs) bodies;
-        within = omega (arith, bytes_in M leading (take n xs) bodies (omega (arith, w)), w);
+        few = omega (arith, length_in leading (take n xs) bodies, taken_few n 256 xs (leb-true n 256 g.0));
+        once = ap distinct (identifiers_in leading (take n xs) bodies) ∙ g.1;
+        flags = flags_in leading (take n xs) bodies;
+        within = omega (arith, bytes_in leading (take n xs) bodies (omega (arith, w)), w);
       }
 
 held_from : (L : Limits) (o : Options) (n : ℕ) (work : Bytes) → sound_held L o n ≡ true
@@ -303,7 +286,7 @@ held_from L o n work e =
     none_left q = omega (arith, eqb-true n 0 q, taken_few n n work (omega arith))
 
 pub state_holds : (r : Record) (work bodies : Bytes) (map_room : List ℕ) → sound r (length work) (length bodies) (length map_room) ≡ true
-    → HoldsState r.limits r.modes r.options (state_of r work bodies map_room)
+    → HoldsState r.limits r.options (state_of r work bodies map_room)
 unfolding sound state_of sound_rooms good_map_room
 state_holds r work bodies map_room e =
     let W = length work in
@@ -321,11 +304,10 @@ state_holds r work bodies map_room e =
       known_holds = record {
         packages_hold = packages_from r.package_count r.packages h₂.1;
         maps_hold = maps_from r.map_count r.map_heads h₃.1;
-        fragments_hold = subst (λ (t : ℕ). HoldsFragments t (fragments_in r.modes r.leading (take r.fragment_count r.fragment_heads) bodies)) (sym (rooms_are h₀.0).0)
-            (fragments_from r.fragment_count r.fragment_heads r.modes T r.leading bodies refl h₄.1);
+        fragments_hold = subst (λ (t : ℕ). HoldsFragments t (fragments_in r.leading (take r.fragment_count r.fragment_heads) bodies)) (sym (rooms_are h₀.0).0)
+            (fragments_from r.fragment_count r.fragment_heads T r.leading bodies refl h₄.1);
         map_room_all = (rooms_are h₀.0).1;
       };
-      uncounted = uncounted_in r.modes r.leading (take r.fragment_count r.fragment_heads) bodies;
     }
   where
     rooms_are : sound_rooms r.limits (length work) (length bodies) (length map_room) ≡ true → (r.limits.total ≡ length bodies) × (length map_room ≡ 32768)
@@ -347,18 +329,10 @@ packages_back ps h = pairs_back ps h.small
 pub maps_back : (ms : List (ℕ × ℕ)) → HoldsMaps ms → map pair_of (map pack_pair ms) ≡ ms
 maps_back ms h = pairs_back ms (below_wider ms (omega arith) h.small)
 
-counter_back : (M : Modes) (f : Fragment) → Tells f → (M.strict_joining ≡ false → f.counter ≡ 0) → held_counter M (fragment_head f) ≡ f.counter
-unfolding held_counter
-counter_back M f h u = go M.strict_joining refl
-  where
-    go : (a : Bool) → M.strict_joining ≡ a → cond a (fragment_counter (fragment_head f)) 0 ≡ f.counter
-    go true e = h.counter_is
-    go false e = sym (u e)
-
-packed_back : (M : Modes) (fs : List Fragment) (spare : Bytes) → TellAll fs → Uncounted M fs → packed_in M (map fragment_head fs) (bodies_of fs ++ spare) ≡ fs
+packed_back : (fs : List Fragment) (spare : Bytes) → TellAll fs → packed_in (map fragment_head fs) (bodies_of fs ++ spare) ≡ fs
 unfolding packed_in bodies_of
-packed_back M [] spare h u = refl
-packed_back M (f ∷ fs) spare h u =
+packed_back [] spare h = refl
+packed_back (f ∷ fs) spare h =
     let n : fragment_length (fragment_head f) ≡ length f.body = h.0.length_is in
     let bodies : Bytes = (f.body ++ bodies_of fs) ++ spare in
     let body : take (fragment_length (fragment_head f)) bodies ≡ f.body =
@@ -366,8 +340,8 @@ packed_back M (f ∷ fs) spare h u =
     let rest : drop (fragment_length (fragment_head f)) bodies ≡ bodies_of fs ++ spare =
     ap₂ (λ (k : ℕ) (z : Bytes). drop k z) n (append_assoc f.body (bodies_of fs) spare) ∙ drop_at f.body (bodies_of fs ++ spare) (length f.body) refl in
     ap₂ (λ (g : Fragment) (l : List Fragment). g ∷ l)
-    (λ i. record { identifier = h.0.identifier_is i; flags = h.0.flags_are i; counter = counter_back M f h.0 u.0 i; body = body i })
-    (ap (packed_in M (map fragment_head fs)) rest ∙ packed_back M fs spare h.1 u.1)
+    (λ i. record { identifier = h.0.identifier_is i; flags = h.0.flags_are i; body = body i })
+    (ap (packed_in (map fragment_head fs)) rest ∙ packed_back fs spare h.1)
 
 pub tell_take : (i : ℕ) (fs : List Fragment) → TellAll fs → TellAll (take i fs)
 tell_take zero fs h = tt
@@ -379,24 +353,14 @@ tell_drop zero fs h = h
 tell_drop (suc i) [] h = tt
 tell_drop (suc i) (f ∷ fs) h = tell_drop i fs h.1
 
-uncounted_take : (M : Modes) (i : ℕ) (fs : List Fragment) → Uncounted M fs → Uncounted M (take i fs)
-uncounted_take M zero fs h = tt
-uncounted_take M (suc i) [] h = tt
-uncounted_take M (suc i) (f ∷ fs) h = (h.0, uncounted_take M i fs h.1)
-
-uncounted_drop : (M : Modes) (i : ℕ) (fs : List Fragment) → Uncounted M fs → Uncounted M (drop i fs)
-uncounted_drop M zero fs h = h
-uncounted_drop M (suc i) [] h = tt
-uncounted_drop M (suc i) (f ∷ fs) h = uncounted_drop M i fs h.1
-
 pub lens_heads : (fs : List Fragment) → TellAll fs → lens (map fragment_head fs) ≡ length (bodies_of fs)
 unfolding lens
 lens_heads fs h = lengths_of_lem fs h ∙ bytes_of_lem fs
 
 -- A room that holds fragments holds these alone.
-pub fragments_back : (M : Modes) (leading : ℕ) (fs : List Fragment) (free : Bytes) → TellAll fs → Uncounted M fs → fragments_in M leading (map fragment_head fs) (room_of leading fs free) ≡ fs
+pub fragments_back : (leading : ℕ) (fs : List Fragment) (free : Bytes) → TellAll fs → fragments_in leading (map fragment_head fs) (room_of leading fs free) ≡ fs
 unfolding fragments_in room_of
-fragments_back M leading fs free h u =
+fragments_back leading fs free h =
     let xs : List Fragment = take leading fs in
     let ys : List Fragment = drop leading fs in
     let room : Bytes = bodies_of xs ++ (free ++ bodies_of ys) in
@@ -406,12 +370,12 @@ fragments_back M leading fs free h u =
     let back : drop (length room - lens (map fragment_head ys)) room ≡ bodies_of ys ++ [] =
     ap (drop (length room - lens (map fragment_head ys))) (sym (append_assoc (bodies_of xs) free (bodies_of ys)))
     ∙ drop_at (bodies_of xs ++ free) (bodies_of ys) (length room - lens (map fragment_head ys)) m ∙ sym (append-nil (bodies_of ys)) in
-    ap₂ (λ (a b : List ℕ). packed_in M a room ++ packed_in M b (drop (length room - lens b) room)) (take_map fragment_head leading fs) (drop_map fragment_head leading fs)
-    ∙ ap₂ (λ (a b : List Fragment). a ++ b) (packed_back M xs (free ++ bodies_of ys) (tell_take leading fs h) (uncounted_take M leading fs u))
-    (ap (packed_in M (map fragment_head ys)) back ∙ packed_back M ys [] (tell_drop leading fs h) (uncounted_drop M leading fs u))
+    ap₂ (λ (a b : List ℕ). packed_in a room ++ packed_in b (drop (length room - lens b) room)) (take_map fragment_head leading fs) (drop_map fragment_head leading fs)
+    ∙ ap₂ (λ (a b : List Fragment). a ++ b) (packed_back xs (free ++ bodies_of ys) (tell_take leading fs h))
+    (ap (packed_in (map fragment_head ys)) back ∙ packed_back ys [] (tell_drop leading fs h))
     ∙ take-append-drop leading fs
 
-module _ (L : Limits) (M : Modes) (o : Options) (leading : ℕ) (st : State) (total_few : L.total ≤ 16777216) (h : HoldsState L M o st) where
+module _ (L : Limits) (M : Modes) (o : Options) (leading : ℕ) (st : State) (total_few : L.total ≤ 16777216) (h : HoldsState L o st) where
   pub state_back : (work free : Bytes) → state_of (record_of L M o leading st) (st.held ++ work) (room_of leading st.known.fragments free) st.known.map_room ≡ st
   unfolding state_of record_of
   state_back work free =
@@ -421,14 +385,14 @@ module _ (L : Limits) (M : Modes) (o : Options) (leading : ℕ) (st : State) (to
       let held = take_at st.held work (length st.held) refl in
       let packages = ap (map pair_of) (used 255 pack_pair k.packages) ∙ packages_back k.packages s.packages_hold in
       let map_heads = ap (map pair_of) (used 64 pack_pair k.map_heads) ∙ maps_back k.map_heads s.maps_hold in
-      let fragments = ap (λ (l : List ℕ). fragments_in M leading l (room_of leading k.fragments free)) (used 256 fragment_head k.fragments) ∙ fragments_back M leading k.fragments free tell h.uncounted in
+      let fragments = ap (λ (l : List ℕ). fragments_in leading l (room_of leading k.fragments free)) (used 256 fragment_head k.fragments) ∙ fragments_back leading k.fragments free tell in
       λ i. record {
         held = held i;
         known = record { plt_seen = k.plt_seen; packages = packages i; map_heads = map_heads i; map_room = k.map_room; data_set = k.data_set; fragments = fragments i };
       }
 
 -- A call on the record of a state is refused as a call on the state is.
-pub refusal_same : (L : Limits) (M : Modes) (o : Options) (leading : ℕ) (st : State) (c : Lent) → good_work_room L.work ≡ true → good_fragment_room L.total L.most ≡ true → HoldsState L M o st
+pub refusal_same : (L : Limits) (M : Modes) (o : Options) (leading : ℕ) (st : State) (c : Lent) → good_work_room L.work ≡ true → good_fragment_room L.total L.most ≡ true → HoldsState L o st
     → push_refusal (record_of L M o leading st) L.work L.total 32768 (length c.0) c.1 ≡ call_refusal L st c
 unfolding push_refusal call_refusal record_of
 refusal_same L M o leading st c w f h = rw (record_sound L M o leading st w f h)

@@ -21,7 +21,7 @@ use Rattle.meaning.specs.Tables.{Entry, Mpt, mpt, Package, plt, Table, is_mpt, i
 use Rattle.meaning.specs.Wishes.{copies_all}
 use Rattle.meaning.specs.Narrow.{narrow_packet}
 use Rattle.meaning.specs.Rooms.{packet_limit}
-use Rattle.meaning.specs.Learn.{Fragment, Known, Learnt, learnt, Listed, assets_in, asset_numbers, lists_in, lists, over, place_for, listed, with_list, mpt_from, learn_mpt, plt_from, learn_plt, learn_table, and_lost, learn_tables, pa_tables, with_data, learn_message, learn_messages, with_fragments, without, fragment_of, counter_of, middle_of, middle, ends, joined, last_for, last, hold_first, by_counter, by_indicator, observe, learn_from, learn}
+use Rattle.meaning.specs.Learn.{Fragment, Known, Learnt, learnt, Listed, assets_in, asset_numbers, lists_in, lists, over, place_for, listed, with_list, mpt_from, learn_mpt, plt_from, learn_plt, learn_table, and_lost, learn_tables, pa_tables, with_data, learn_message, learn_messages, with_fragments, without, fragment_of, fits, middle_of, middle, joined, last_for, last, hold_first, by_indicator, observe, learn_from, learn}
 use Rattle.meaning.specs.Rules.{in_drop_set, drops, dropped, ready}
 use Rattle.meaning.specs.Soundness.{SecondsBelow, HoldsFragments, Holds}
 use Rattle.meaning.specs.Push.{withheld, Passed, pass_one, pass, Outcome, copied, outcome, filtered, push}
@@ -32,7 +32,7 @@ use Rattle.meaning.specs.declared.Options.{Options}
 use Rattle.meaning.specs.declared.Modes.{Modes}
 use Rattle.meaning.proofs.TableLaws.{mpt_split}
 use Rattle.meaning.proofs.SetLaws.{many_same}
-use Rattle.meaning.proofs.SoundnessKept.{put_head, put_is, list_length, list_holds, packages_holds, with_fragments_lem, without_holds, first_holds, middle_holds, counter_below}
+use Rattle.meaning.proofs.SoundnessKept.{put_head, put_is, list_length, list_holds, packages_holds, with_fragments_lem, without_holds, first_holds, middle_holds}
 
 -- ---- what a list's numbers hold
 
@@ -256,9 +256,9 @@ messages_alike T p (m ∷ ms) k map_room s = then_alike T (learn_messages p ms) 
 fragments_spare : {T : ℕ} {k : Known} {map_room : List ℕ} (fs : List Fragment) → HoldsFragments T fs → Spare T k map_room → Spare T (with_fragments fs k) map_room
 fragments_spare fs f s = record { holds = with_fragments_lem s.holds f; own_length = s.own_length; other_length = s.other_length; lists_same = s.lists_same }
 
-last_alike : (L : Limits) (M : Modes) (p c : ℕ) (b : Bytes) (k : Known) (map_room : List ℕ) (o : Option Fragment) → Spare L.total k map_room → Alike L.total (last_for o L M p c b k) (last_for o L M p c b (with_map_room k map_room))
-last_alike L M p c b k map_room none s = stays s
-last_alike L M p c b k map_room (some f) s = go (ends L M c f b k.fragments)
+last_alike : (L : Limits) (p : ℕ) (b : Bytes) (k : Known) (map_room : List ℕ) (o : Option Fragment) → Spare L.total k map_room → Alike L.total (last_for o L p b k) (last_for o L p b (with_map_room k map_room))
+last_alike L p b k map_room none s = stays s
+last_alike L p b k map_room (some f) s = go (fits L f b k.fragments)
   where
     less : List Fragment
     less = without p k.fragments
@@ -271,42 +271,37 @@ last_alike L M p c b k map_room (some f) s = go (ends L M c f b k.fragments)
     go true = messages_alike L.total p (messages (joined f b)) (with_fragments less k) map_room spare
     go false = stays spare
 
-counter_alike : (o : Option ℕ) (i : ℕ) (L : Limits) (M : Modes) (p flags : ℕ) (b : Bytes) (k : Known) (map_room : List ℕ) → ((c : ℕ) → o ≡ some c → c < 256) → Spare L.total k map_room
-    → Alike L.total (by_counter o i L M p flags b k) (by_counter o i L M p flags b (with_map_room k map_room))
+indicator_alike : (i : ℕ) (L : Limits) (p flags : ℕ) (s : Bytes) (k : Known) (map_room : List ℕ) → Spare L.total k map_room
+    → Alike L.total (by_indicator i L p flags s k) (by_indicator i L p flags s (with_map_room k map_room))
 unfolding middle last
-counter_alike none i L M p flags b k map_room l h = stays (fragments_spare (without p k.fragments) (without_holds L.total p k.fragments h.holds.fragments_hold) h)
-counter_alike (some c) zero L M p flags b k map_room l h =
-    stays (fragments_spare (hold_first L p flags c b k.fragments) (first_holds L p flags c b k.fragments (l c refl) h.holds.fragments_hold) h)
-counter_alike (some c) (suc zero) L M p flags b k map_room l h =
-    stays (fragments_spare (middle_of (fragment_of p k.fragments) L M p c b k.fragments)
-    (middle_holds L M p c b k.fragments (fragment_of p k.fragments) (l c refl) h.holds.fragments_hold) h)
-counter_alike (some c) (suc (suc i)) L M p flags b k map_room l h = last_alike L M p c b k map_room (fragment_of p k.fragments) h
-
-indicator_alike : (i : ℕ) (L : Limits) (M : Modes) (p flags : ℕ) (s : Bytes) (k : Known) (map_room : List ℕ) → Spare L.total k map_room
-    → Alike L.total (by_indicator i L M p flags s k) (by_indicator i L M p flags s (with_map_room k map_room))
-indicator_alike zero L M p flags s k map_room h =
+indicator_alike zero L p flags s k map_room h =
     messages_alike L.total p (messages (flags ∷ s)) (with_fragments (without p k.fragments) k) map_room
     (fragments_spare (without p k.fragments) (without_holds L.total p k.fragments h.holds.fragments_hold) h)
-indicator_alike (suc i) L M p flags s k map_room h = counter_alike (counter_of M s) i L M p flags (drop 1 s) k map_room (counter_below M s) h
+indicator_alike (suc zero) L p flags s k map_room h =
+    stays (fragments_spare (hold_first L p flags (drop 1 s) k.fragments) (first_holds L p flags (drop 1 s) k.fragments h.holds.fragments_hold) h)
+indicator_alike (suc (suc zero)) L p flags s k map_room h =
+    stays (fragments_spare (middle_of (fragment_of p k.fragments) L p (drop 1 s) k.fragments)
+    (middle_holds L p (drop 1 s) k.fragments (fragment_of p k.fragments) h.holds.fragments_hold) h)
+indicator_alike (suc (suc (suc n))) L p flags s k map_room h = last_alike L p (drop 1 s) k map_room (fragment_of p k.fragments) h
 
-observe_alike : (L : Limits) (M : Modes) (p : ℕ) (s : Bytes) (k : Known) (map_room : List ℕ) → Spare L.total k map_room → Alike L.total (observe L M p s k) (observe L M p s (with_map_room k map_room))
+observe_alike : (L : Limits) (p : ℕ) (s : Bytes) (k : Known) (map_room : List ℕ) → Spare L.total k map_room → Alike L.total (observe L p s k) (observe L p s (with_map_room k map_room))
 unfolding observe
-observe_alike L M p [] k map_room h = stays h
-observe_alike L M p (flags ∷ s) k map_room h = go (in_set k.data_set p)
+observe_alike L p [] k map_room h = stays h
+observe_alike L p (flags ∷ s) k map_room h = go (in_set k.data_set p)
   where
-    go : (a : Bool) → Alike L.total (cond a (learnt k) (by_indicator (indicator flags) L M p flags s k)) (cond a (learnt (with_map_room k map_room)) (by_indicator (indicator flags) L M p flags s (with_map_room k map_room)))
+    go : (a : Bool) → Alike L.total (cond a (learnt k) (by_indicator (indicator flags) L p flags s k)) (cond a (learnt (with_map_room k map_room)) (by_indicator (indicator flags) L p flags s (with_map_room k map_room)))
     go true = stays h
-    go false = indicator_alike (indicator flags) L M p flags s k map_room h
+    go false = indicator_alike (indicator flags) L p flags s k map_room h
 
-learn_alike : (L : Limits) (M : Modes) (k : Known) (map_room : List ℕ) (p : Bytes) → Spare L.total k map_room → Alike L.total (learn L M k p) (learn L M (with_map_room k map_room) p)
+learn_alike : (L : Limits) (k : Known) (map_room : List ℕ) (p : Bytes) → Spare L.total k map_room → Alike L.total (learn L k p) (learn L (with_map_room k map_room) p)
 unfolding learn
-learn_alike L M k map_room p h = go (mmtp_of p)
+learn_alike L k map_room p h = go (mmtp_of p)
   where
-    inner : (m : Mmtp) (a : Bool) → Alike L.total (cond a (observe L M m.identifier m.payload k) (learnt k)) (cond a (observe L M m.identifier m.payload (with_map_room k map_room)) (learnt (with_map_room k map_room)))
-    inner m true = observe_alike L M m.identifier m.payload k map_room h
+    inner : (m : Mmtp) (a : Bool) → Alike L.total (cond a (observe L m.identifier m.payload k) (learnt k)) (cond a (observe L m.identifier m.payload (with_map_room k map_room)) (learnt (with_map_room k map_room)))
+    inner m true = observe_alike L m.identifier m.payload k map_room h
     inner m false = stays h
 
-    go : (o : Option Mmtp) → Alike L.total (learn_from L M o k) (learn_from L M o (with_map_room k map_room))
+    go : (o : Option Mmtp) → Alike L.total (learn_from L o k) (learn_from L o (with_map_room k map_room))
     go none = stays h
     go (some m) = inner m (is_signalling m)
 
@@ -340,11 +335,11 @@ pass_alike : (L : Limits) (M : Modes) (o : Options) (ps : List Bytes) (k : Known
 unfolding pass
 pass_alike L M o [] k map_room s = record { map_room_after = map_room; spare = s; same = refl }
 pass_alike L M o (p ∷ ps) k map_room s =
-    let a = learn_alike L M k map_room p s in
-    let r = pass_alike L M o ps (learn L M k p).known a.map_room_after a.spare in
-    let one : Learnt = learn L M k p in
+    let a = learn_alike L k map_room p s in
+    let r = pass_alike L M o ps (learn L k p).known a.map_room_after a.spare in
+    let one : Learnt = learn L k p in
     let step : Learnt → Passed = λ l. pass_one (withheld o l.known (mmtp_of p)) (narrow_packet M o p) p l.lost (pass L M o l.known ps) in
-    let moved : step (learn L M (with_map_room k map_room) p) ≡ pass_one (withheld o one.known (mmtp_of p)) (narrow_packet M o p) p one.lost (pass L M o (with_map_room one.known a.map_room_after) ps) =
+    let moved : step (learn L (with_map_room k map_room) p) ≡ pass_one (withheld o one.known (mmtp_of p)) (narrow_packet M o p) p one.lost (pass L M o (with_map_room one.known a.map_room_after) ps) =
     ap step a.same
     ∙ ap (λ (b : Bool). pass_one b (narrow_packet M o p) p one.lost (pass L M o (with_map_room one.known a.map_room_after) ps))
     (sym (withheld_alike L.total o one.known a.map_room_after (mmtp_of p) a.spare)) in

@@ -11,7 +11,6 @@ use Rattle.meaning.specs.Rooms.{packet_limit}
 use Rattle.meaning.specs.Learn.{Fragment, Known, is_of, observe, learn}
 use Rattle.meaning.specs.Record.{State}
 use Rattle.meaning.specs.declared.Options.{Options}
-use Rattle.meaning.specs.declared.Modes.{Modes}
 use Rattle.meaning.specs.declared.Limits.{Limits}
 
 -- The index of the identifier's fragment; their number where it has none.
@@ -32,22 +31,22 @@ leading_after p fs fs' leading = cond (has_fragment p fs') (suc (index_of p fs')
 
 -- ---- a payload, a packet, packets in order, a push: what is not observed leaves it
 
-unfoldable pub leading_observed : Limits → Modes → ℕ → Bytes → Known → ℕ → ℕ
+unfoldable pub leading_observed : Limits → ℕ → Bytes → Known → ℕ → ℕ
 unfolding in_set leading_after observe
-leading_observed L M p [] k leading = leading
-leading_observed L M p (x ∷ s) k leading =
-    cond (in_set k.data_set p) leading (leading_after p k.fragments (observe L M p (x ∷ s) k).known.fragments leading)
+leading_observed L p [] k leading = leading
+leading_observed L p (x ∷ s) k leading =
+    cond (in_set k.data_set p) leading (leading_after p k.fragments (observe L p (x ∷ s) k).known.fragments leading)
 
-abbrev pub leading_from : Limits → Modes → Option Mmtp → Known → ℕ → ℕ
-leading_from L M none k leading = leading
-leading_from L M (some m) k leading = cond (is_signalling m) (leading_observed L M m.identifier m.payload k leading) leading
+abbrev pub leading_from : Limits → Option Mmtp → Known → ℕ → ℕ
+leading_from L none k leading = leading
+leading_from L (some m) k leading = cond (is_signalling m) (leading_observed L m.identifier m.payload k leading) leading
 
-unfoldable pub leading_over : Limits → Modes → Known → List Bytes → ℕ → ℕ
+unfoldable pub leading_over : Limits → Known → List Bytes → ℕ → ℕ
 unfolding mmtp_of leading_observed learn
-leading_over L M k [] leading = leading
-leading_over L M k (p ∷ ps) leading = leading_over L M (learn L M k p).known ps (leading_from L M (mmtp_of p) k leading)
+leading_over L k [] leading = leading
+leading_over L k (p ∷ ps) leading = leading_over L (learn L k p).known ps (leading_from L (mmtp_of p) k leading)
 
-unfoldable pub leading_pushed : Limits → Modes → Options → State → Bytes → ℕ → ℕ
+unfoldable pub leading_pushed : Limits → Options → State → Bytes → ℕ → ℕ
 unfolding copies_all cut packet_limit leading_over
-leading_pushed L M o st chunk leading =
-    cond (copies_all o) leading (leading_over L M st.known (cut (packet_limit L.work) (st.held ++ chunk)).packets leading)
+leading_pushed L o st chunk leading =
+    cond (copies_all o) leading (leading_over L st.known (cut (packet_limit L.work) (st.held ++ chunk)).packets leading)

@@ -10,16 +10,14 @@ use Rattle.meaning.specs.Messages.{indicator, Message, messages}
 use Rattle.meaning.specs.Tables.{kind_number, kind_of, Entry, Mpt, mpt, Package, plt, service_of, Table, is_mpt, is_plt, PaHead, pa}
 use Rattle.meaning.specs.declared.Part.{Part}
 use Rattle.meaning.specs.declared.Limits.{Limits}
-use Rattle.meaning.specs.declared.Modes.{Modes}
 
 -- ---- what is known
 
--- A message that has begun: its identifier, its flags, the counter of the fragment that came last, and the bodies so far. A first's flags are
--- the low six bits of its first byte; in a record that is handed in they may be any byte. In plain joining the counter is 0.
+-- A message that has begun: its identifier, its flags and the bodies so far. A first's flags are the low six bits of its first byte; in a
+-- record that is handed in they may be any byte.
 pub record Fragment : Type 0 where
   pub identifier : ℕ
   pub flags : ℕ
-  pub counter : ℕ
   pub body : Bytes
 
 pub record Known : Type 0 where
@@ -218,99 +216,70 @@ unfolding is_of
 fragment_of p [] = none
 fragment_of p (f ∷ fs) = cond (is_of p f) (some f) (fragment_of p fs)
 
-abbrev pub grown : Fragment → ℕ → Bytes → Fragment
-grown f c b = record { identifier = f.identifier; flags = f.flags; counter = c; body = f.body ++ b }
+abbrev pub grown : Fragment → Bytes → Fragment
+grown f b = record { identifier = f.identifier; flags = f.flags; body = f.body ++ b }
 
-unfoldable pub grow_in : ℕ → ℕ → Bytes → List Fragment → List Fragment
+unfoldable pub grow_in : ℕ → Bytes → List Fragment → List Fragment
 unfolding is_of
-grow_in p c b [] = []
-grow_in p c b (f ∷ fs) = cond (is_of p f) (grown f c b ∷ fs) (f ∷ grow_in p c b fs)
-
--- ---- joining: plain, as 01 has it, or strict (02 [4]). The byte behind a fragment's first byte is its counter
-
-abbrev pub counter_in : Bytes → Option ℕ
-counter_in [] = none
-counter_in (c ∷ b) = some (c % 256)
-
--- Of a fragment, by the bytes behind its first one. Plain joining does not read it, so that it counts as 0.
-unfoldable pub counter_of : Modes → Bytes → Option ℕ
-counter_of M s = cond M.strict_joining (counter_in s) (some 0)
-
--- Whether a fragment with counter c comes next behind the held one: strict joining asks for one less.
-unfoldable pub follows : Modes → ℕ → Fragment → Bool
-follows M c f = cond M.strict_joining (eqb f.counter (c + 1)) true
+grow_in p b [] = []
+grow_in p b (f ∷ fs) = cond (is_of p f) (grown f b ∷ fs) (f ∷ grow_in p b fs)
 
 -- A first drops what was held of its identifier, then is held if fewer than 256 others are and there is room. M is not tested.
-unfoldable pub hold_first : Limits → ℕ → ℕ → ℕ → Bytes → List Fragment → List Fragment
+unfoldable pub hold_first : Limits → ℕ → ℕ → Bytes → List Fragment → List Fragment
 unfolding without fragment_bytes
-hold_first L p flags c b fs =
+hold_first L p flags b fs =
     let others = without p fs in
     cond (ltb (length others) 256 && leb (fragment_bytes others + length b) L.total)
-    (others ++ (record { identifier = p; flags = flags % 64; counter = c; body = b } ∷ []))
+    (others ++ (record { identifier = p; flags = flags % 64; body = b } ∷ []))
     others
 
--- Whether a body keeps the fragment within M and all within T.
+-- Whether a body keeps the fragment within M and all within T; a middle or last that does not discards the fragment.
 unfoldable pub fits : Limits → Fragment → Bytes → List Fragment → Bool
 unfolding fragment_bytes
 fits L f b fs = leb (length f.body + length b) L.most && leb (fragment_bytes fs + length b) L.total
 
--- A middle or last that does not follow, or does not fit, discards the fragment. Without one it is ignored.
-unfoldable pub joins : Limits → Modes → ℕ → Fragment → Bytes → List Fragment → Bool
-unfolding follows fits
-joins L M c f b fs = follows M c f && fits L f b fs
+abbrev pub middle_of : Option Fragment → Limits → ℕ → Bytes → List Fragment → List Fragment
+middle_of none L p b fs = fs
+middle_of (some f) L p b fs = cond (fits L f b fs) (grow_in p b fs) (without p fs)
 
-abbrev pub middle_of : Option Fragment → Limits → Modes → ℕ → ℕ → Bytes → List Fragment → List Fragment
-middle_of none L M p c b fs = fs
-middle_of (some f) L M p c b fs = cond (joins L M c f b fs) (grow_in p c b fs) (without p fs)
-
-unfoldable pub middle : Limits → Modes → ℕ → ℕ → Bytes → List Fragment → List Fragment
-unfolding fragment_of joins grow_in without
-middle L M p c b fs = middle_of (fragment_of p fs) L M p c b fs
-
--- A last has counter 0.
-unfoldable pub ends : Limits → Modes → ℕ → Fragment → Bytes → List Fragment → Bool
-unfolding joins
-ends L M c f b fs = eqb c 0 && joins L M c f b fs
+unfoldable pub middle : Limits → ℕ → Bytes → List Fragment → List Fragment
+unfolding fragment_of fits grow_in without
+middle L p b fs = middle_of (fragment_of p fs) L p b fs
 
 -- A last gives the fragment's room back; the joined message has the first's flags and 0 as its two bytes.
 unfoldable pub joined : Fragment → Bytes → Bytes
 joined f b = f.flags ∷ 0 ∷ (f.body ++ b)
 
-abbrev pub last_for : Option Fragment → Limits → Modes → ℕ → ℕ → Bytes → Known → Learnt
-last_for none L M p c b k = learnt k
-last_for (some f) L M p c b k =
-    cond (ends L M c f b k.fragments)
+abbrev pub last_for : Option Fragment → Limits → ℕ → Bytes → Known → Learnt
+last_for none L p b k = learnt k
+last_for (some f) L p b k =
+    cond (fits L f b k.fragments)
     (learn_messages p (messages (joined f b)) (with_fragments (without p k.fragments) k))
     (learnt (with_fragments (without p k.fragments) k))
 
-unfoldable pub last : Limits → Modes → ℕ → ℕ → Bytes → Known → Learnt
-unfolding fragment_of ends without learn_messages messages joined
-last L M p c b k = last_for (fragment_of p k.fragments) L M p c b k
+unfoldable pub last : Limits → ℕ → Bytes → Known → Learnt
+unfolding fragment_of fits without learn_messages messages joined
+last L p b k = last_for (fragment_of p k.fragments) L p b k
 
 -- ---- a payload, by the top two bits of its first byte; its body is the bytes from 2 on
 
--- A first, a middle or a last, by its counter; without one, which is strict joining under two bytes, it drops what is held.
-abbrev pub by_counter : Option ℕ → ℕ → Limits → Modes → ℕ → ℕ → Bytes → Known → Learnt
-by_counter none n L M p flags b k = learnt (with_fragments (without p k.fragments) k)
-by_counter (some c) zero L M p flags b k = learnt (with_fragments (hold_first L p flags c b k.fragments) k)
-by_counter (some c) (suc zero) L M p flags b k = learnt (with_fragments (middle L M p c b k.fragments) k)
-by_counter (some c) (suc (suc n)) L M p flags b k = last L M p c b k
+abbrev pub by_indicator : ℕ → Limits → ℕ → ℕ → Bytes → Known → Learnt
+by_indicator zero L p flags s k = learn_messages p (messages (flags ∷ s)) (with_fragments (without p k.fragments) k)
+by_indicator (suc zero) L p flags s k = learnt (with_fragments (hold_first L p flags (drop 1 s) k.fragments) k)
+by_indicator (suc (suc zero)) L p flags s k = learnt (with_fragments (middle L p (drop 1 s) k.fragments) k)
+by_indicator (suc (suc (suc n))) L p flags s k = last L p (drop 1 s) k
 
-abbrev pub by_indicator : ℕ → Limits → Modes → ℕ → ℕ → Bytes → Known → Learnt
-by_indicator zero L M p flags s k = learn_messages p (messages (flags ∷ s)) (with_fragments (without p k.fragments) k)
-by_indicator (suc n) L M p flags s k = by_counter (counter_of M s) n L M p flags (drop 1 s) k
-
-unfoldable pub observe : Limits → Modes → ℕ → Bytes → Known → Learnt
-unfolding in_set indicator counter_of hold_first middle last learn_messages messages without
-observe L M p [] k = learnt k
-observe L M p (flags ∷ s) k = cond (in_set k.data_set p) (learnt k) (by_indicator (indicator flags) L M p flags s k)
+unfoldable pub observe : Limits → ℕ → Bytes → Known → Learnt
+unfolding in_set indicator hold_first middle last learn_messages messages without
+observe L p [] k = learnt k
+observe L p (flags ∷ s) k = cond (in_set k.data_set p) (learnt k) (by_indicator (indicator flags) L p flags s k)
 
 -- ---- a packet: only signalling is observed
 
-abbrev pub learn_from : Limits → Modes → Option Mmtp → Known → Learnt
-learn_from L M none k = learnt k
-learn_from L M (some m) k = cond (is_signalling m) (observe L M m.identifier m.payload k) (learnt k)
+abbrev pub learn_from : Limits → Option Mmtp → Known → Learnt
+learn_from L none k = learnt k
+learn_from L (some m) k = cond (is_signalling m) (observe L m.identifier m.payload k) (learnt k)
 
-unfoldable pub learn : Limits → Modes → Known → Bytes → Learnt
+unfoldable pub learn : Limits → Known → Bytes → Learnt
 unfolding mmtp_of observe in_set
-learn L M k p = learn_from L M (mmtp_of p) k
+learn L k p = learn_from L (mmtp_of p) k

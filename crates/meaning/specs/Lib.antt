@@ -14,7 +14,6 @@ pub mod Wishes
 pub mod Narrow
 pub mod Rooms
 pub mod Learn
-pub mod Complete
 pub mod Rules
 pub mod Refusals
 pub mod Record

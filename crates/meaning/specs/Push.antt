@@ -52,7 +52,7 @@ unfoldable pub pass : Limits → Modes → Options → Known → List Bytes → 
 unfolding learn drops ready mmtp_of narrow_packet
 pass L M o k [] = none_passed k
 pass L M o k (p ∷ ps) =
-    let l = learn L M k p in
+    let l = learn L k p in
     pass_one (withheld o l.known (mmtp_of p)) (narrow_packet M o p) p l.lost (pass L M o l.known ps)
 
 -- ---- a push
@@ -110,7 +110,7 @@ called r work bodies map_room chunk out_length =
     let x = push_refusal r (length work) (length bodies) (length map_room) (length chunk) out_length in
     let st = state_of r work bodies map_room in
     let p = push r.limits r.modes r.options st chunk in
-    let leading = leading_pushed r.limits r.modes r.options st chunk r.leading in
+    let leading = leading_pushed r.limits r.options st chunk r.leading in
     cond (eqb x 0)
     (record { number = 0; out = p.out; counts = p.counts; handed = record_of r.limits r.modes r.options leading p.state })
     (record { number = x; out = []; counts = counts_of 0; handed = r })

@@ -1,5 +1,5 @@
 -- The filter's record, and how it and the lent rooms hold a state: 01, "Rooms and their ends".
-use Rattle.std.specs.Prelude.{ℕ, ◌+◌, ◌*◌, ◌/◌, ◌%◌, ◌-◌, Bool, cond, length, take, drop, replicate}
+use Rattle.std.specs.Prelude.{ℕ, ◌+◌, ◌*◌, ◌/◌, ◌%◌, ◌-◌, Bool, length, take, drop, replicate}
 use mathlib.Core.List.{List, [], ◌∷◌, ◌++◌, map, flatten}
 use Rattle.meaning.specs.Bytes.{Bytes}
 use Rattle.meaning.specs.Sets.{Words}
@@ -45,9 +45,9 @@ pack_pair x = x.0 * 65536 + x.1
 unfoldable pub pair_of : ℕ → ℕ × ℕ
 pair_of n = (n / 65536, n % 65536)
 
--- A fragment's head is one of 64: identifier, flags and counter in 8 bits each, length in 32.
+-- A fragment's head is one of 64: identifier, flags in 8 bits, length in 40.
 unfoldable pub fragment_head : Fragment → ℕ
-fragment_head f = f.identifier * 281474976710656 + f.flags * 1099511627776 + f.counter * 4294967296 + length f.body
+fragment_head f = f.identifier * 281474976710656 + f.flags * 1099511627776 + length f.body
 
 unfoldable pub fragment_identifier : ℕ → ℕ
 fragment_identifier h = h / 281474976710656
@@ -55,21 +55,8 @@ fragment_identifier h = h / 281474976710656
 unfoldable pub fragment_flags : ℕ → ℕ
 fragment_flags h = h / 1099511627776 % 256
 
-unfoldable pub fragment_counter : ℕ → ℕ
-fragment_counter h = h / 4294967296 % 256
-
 unfoldable pub fragment_length : ℕ → ℕ
-fragment_length h = h % 4294967296
-
--- Plain joining takes every counter as 0.
-unfoldable pub held_counter : Modes → ℕ → ℕ
-unfolding fragment_counter
-held_counter M h = cond M.strict_joining (fragment_counter h) 0
-
--- A head with the counter that it is taken with.
-unfoldable pub head_in : Modes → ℕ → ℕ
-unfolding held_counter fragment_length
-head_in M h = h / 1099511627776 * 1099511627776 + held_counter M h * 4294967296 + fragment_length h
+fragment_length h = h % 1099511627776
 
 -- The record that holds a state, with so many fragments leading.
 unfoldable pub record_of : Limits → Modes → Options → ℕ → State → Record
@@ -110,17 +97,16 @@ unfolding sum fragment_length
 lens hs = sum (map fragment_length hs)
 
 -- Fragments whose bodies stand one after the other at the front of some bytes.
-unfoldable pub packed_in : Modes → List ℕ → Bytes → List Fragment
-unfolding fragment_identifier fragment_flags held_counter fragment_length
-packed_in M [] bodies = []
-packed_in M (h ∷ hs) bodies =
-    record { identifier = fragment_identifier h; flags = fragment_flags h; counter = held_counter M h; body = take (fragment_length h) bodies }
-    ∷ packed_in M hs (drop (fragment_length h) bodies)
+unfoldable pub packed_in : List ℕ → Bytes → List Fragment
+unfolding fragment_identifier fragment_flags fragment_length
+packed_in [] bodies = []
+packed_in (h ∷ hs) bodies =
+    record { identifier = fragment_identifier h; flags = fragment_flags h; body = take (fragment_length h) bodies } ∷ packed_in hs (drop (fragment_length h) bodies)
 
-unfoldable pub fragments_in : Modes → ℕ → List ℕ → Bytes → List Fragment
+unfoldable pub fragments_in : ℕ → List ℕ → Bytes → List Fragment
 unfolding packed_in lens
-fragments_in M leading hs bodies =
-    packed_in M (take leading hs) bodies ++ packed_in M (drop leading hs) (drop (length bodies - lens (drop leading hs)) bodies)
+fragments_in leading hs bodies =
+    packed_in (take leading hs) bodies ++ packed_in (drop leading hs) (drop (length bodies - lens (drop leading hs)) bodies)
 
 unfoldable pub state_of : Record → Bytes → Bytes → List ℕ → State
 unfolding pair_of fragments_in
@@ -132,6 +118,6 @@ state_of r work bodies map_room = record {
     map_heads = map pair_of (take r.map_count r.map_heads);
     map_room = map_room;
     data_set = r.data_set;
-    fragments = fragments_in r.modes r.leading (take r.fragment_count r.fragment_heads) bodies;
+    fragments = fragments_in r.leading (take r.fragment_count r.fragment_heads) bodies;
   };
 }

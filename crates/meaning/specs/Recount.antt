@@ -17,7 +17,7 @@ use Rattle.meaning.specs.Messages.{indicator, Message, messages}
 use Rattle.meaning.specs.Tables.{Mpt, mpt, Package, plt, service_of, Table, table, is_mpt, is_plt, PaHead, pa}
 use Rattle.meaning.specs.Wishes.{wanted_entry}
 use Rattle.meaning.specs.Narrow.{is_service, pa_message, narrow_packet, narrowed_packet, by_part, Change}
-use Rattle.meaning.specs.Learn.{Fragment, Known, Listed, lists, pa_tables, fragment_of, counter_of, ends, joined, learn}
+use Rattle.meaning.specs.Learn.{Fragment, Known, Listed, lists, pa_tables, fragment_of, fits, joined, learn}
 use Rattle.meaning.specs.Rules.{list_of}
 use Rattle.meaning.specs.declared.Limits.{Limits}
 use Rattle.meaning.specs.declared.Part.{Part}
@@ -213,41 +213,37 @@ pub record ListLost (p : ℕ) (k k' : Known) : Type 0 where
 -- ---- maps lost in a run: the identifiers on which readable MPTs come, in order, and how many of them find no place
 
 -- The messages that a last joins.
-abbrev pub joined_messages : Option Fragment → Limits → Modes → ℕ → Bytes → List Fragment → List Message
-joined_messages none L M c b fs = []
-joined_messages (some f) L M c b fs = cond (ends L M c f b fs) (messages (joined f b)) []
+abbrev pub joined_messages : Option Fragment → Limits → Bytes → List Fragment → List Message
+joined_messages none L b fs = []
+joined_messages (some f) L b fs = cond (fits L f b fs) (messages (joined f b)) []
 
--- By the top two bits of a payload's first byte: a whole has its own messages, a last with a counter those that it joins.
-abbrev pub messages_of_last : Option ℕ → Limits → Modes → ℕ → Bytes → Known → List Message
-messages_of_last none L M p b k = []
-messages_of_last (some c) L M p b k = joined_messages (fragment_of p k.fragments) L M c b k.fragments
-
-abbrev pub messages_by : ℕ → Limits → Modes → ℕ → Bytes → Known → List Message
-messages_by zero L M p s k = messages s
-messages_by (suc zero) L M p s k = []
-messages_by (suc (suc zero)) L M p s k = []
-messages_by (suc (suc (suc n))) L M p s k = messages_of_last (counter_of M (drop 1 s)) L M p (drop 2 s) k
+-- By the top two bits of a payload's first byte: a whole has its own messages, a last those that it joins.
+abbrev pub messages_by : ℕ → Limits → ℕ → Bytes → Known → List Message
+messages_by zero L p s k = messages s
+messages_by (suc zero) L p s k = []
+messages_by (suc (suc zero)) L p s k = []
+messages_by (suc (suc (suc n))) L p s k = joined_messages (fragment_of p k.fragments) L (drop 2 s) k.fragments
 
 -- The messages that a payload on identifier p completes; none on an identifier of the data set.
-unfoldable pub observed_messages : Limits → Modes → ℕ → Bytes → Known → List Message
-unfolding in_set indicator messages counter_of fragment_of ends joined
-observed_messages L M p [] k = []
-observed_messages L M p (flags ∷ s) k = cond (in_set k.data_set p) [] (messages_by (indicator flags) L M p (flags ∷ s) k)
+unfoldable pub observed_messages : Limits → ℕ → Bytes → Known → List Message
+unfolding in_set indicator messages fragment_of fits joined
+observed_messages L p [] k = []
+observed_messages L p (flags ∷ s) k = cond (in_set k.data_set p) [] (messages_by (indicator flags) L p (flags ∷ s) k)
 
 -- The identifier, once for each readable MPT in PA messages.
 unfoldable pub mpt_identifiers : ℕ → List Message → List ℕ
 unfolding flat_map mpts_in pa
 mpt_identifiers p ms = flat_map (λ m. cond (eqb m.number 0) (map (λ x. p) (mpts_in (pa_tables (pa m.body)))) []) ms
 
-abbrev pub identifiers_from : Limits → Modes → Option Mmtp → Known → List ℕ
-identifiers_from L M none k = []
-identifiers_from L M (some m) k = cond (is_signalling m) (mpt_identifiers m.identifier (observed_messages L M m.identifier m.payload k)) []
+abbrev pub identifiers_from : Limits → Option Mmtp → Known → List ℕ
+identifiers_from L none k = []
+identifiers_from L (some m) k = cond (is_signalling m) (mpt_identifiers m.identifier (observed_messages L m.identifier m.payload k)) []
 
 -- Those of packets in order.
-unfoldable pub observed_mpts : Limits → Modes → Known → List Bytes → List ℕ
+unfoldable pub observed_mpts : Limits → Known → List Bytes → List ℕ
 unfolding mmtp_of learn observed_messages mpt_identifiers
-observed_mpts L M k [] = []
-observed_mpts L M k (p ∷ ps) = identifiers_from L M (mmtp_of p) k ++ observed_mpts L M (learn L M k p).known ps
+observed_mpts L k [] = []
+observed_mpts L k (p ∷ ps) = identifiers_from L (mmtp_of p) k ++ observed_mpts L (learn L k p).known ps
 
 -- How many find no place: an identifier that has none takes one of 64, while there is one.
 unfoldable pub lost_of : List ℕ → List ℕ → ℕ

@@ -1,6 +1,6 @@
 -- When a record is sound: 01, "Refusal numbers". First as it is asked of a record, then in parts, as a state that is known holds to it; that
 -- learning keeps the parts is a law (proofs/SoundnessKept.antt).
-use Rattle.std.specs.Prelude.{ℕ, ◌≤◌, ◌<◌, ◌≡◌, Bool, cond, true, false, ◌&&◌, ◌||◌, not, List, [], ◌∷◌, map, length, take, eqb, leb, ltb}
+use Rattle.std.specs.Prelude.{ℕ, ◌≤◌, ◌<◌, ◌≡◌, Bool, cond, true, ◌&&◌, ◌||◌, not, List, [], ◌∷◌, map, length, take, eqb, leb, ltb}
 use Rattle.meaning.specs.Lists.{all, any, sum}
 use Rattle.meaning.specs.Wishes.{wants_assets, copies_all}
 use Rattle.meaning.specs.Rooms.{packet_limit, good_work_room, good_fragment_room, good_map_room}
@@ -8,7 +8,6 @@ use Rattle.meaning.specs.Learn.{Fragment, Known, fragment_bytes}
 use Rattle.meaning.specs.Record.{Record, pair_of, fragment_identifier, fragment_length}
 use Rattle.meaning.specs.declared.Options.{Options}
 use Rattle.meaning.specs.declared.Limits.{Limits}
-use Rattle.meaning.specs.declared.Modes.{Modes}
 
 -- ---- asked of a record
 
@@ -78,15 +77,9 @@ abbrev pub SecondsBelow : ℕ → List (ℕ × ℕ) → Type 0
 SecondsBelow n [] = Unit {0}
 SecondsBelow n (x ∷ xs) = (x.1 < n) × SecondsBelow n xs
 
--- The flags and the counter of each in a byte.
-abbrev pub SmallFields : List Fragment → Type 0
-SmallFields [] = Unit {0}
-SmallFields (f ∷ fs) = (f.flags < 256) × (f.counter < 256) × SmallFields fs
-
--- In plain joining no counter is kept.
-abbrev pub Uncounted : Modes → List Fragment → Type 0
-Uncounted M [] = Unit {0}
-Uncounted M (f ∷ fs) = (M.strict_joining ≡ false → f.counter ≡ 0) × Uncounted M fs
+abbrev pub SmallFlags : List Fragment → Type 0
+SmallFlags [] = Unit {0}
+SmallFlags (f ∷ fs) = (f.flags < 256) × SmallFlags fs
 
 pub record HoldsPackages (ps : List (ℕ × ℕ)) : Type 0 where
   pub few : length ps ≤ 255
@@ -101,7 +94,7 @@ pub record HoldsMaps (ms : List (ℕ × ℕ)) : Type 0 where
 pub record HoldsFragments (T : ℕ) (fs : List Fragment) : Type 0 where
   pub few : length fs ≤ 256
   pub once : distinct (identifiers fs) ≡ true
-  pub small : SmallFields fs
+  pub flags : SmallFlags fs
   pub within : fragment_bytes fs ≤ T
 
 pub record Holds (T : ℕ) (k : Known) : Type 0 where

@@ -37,6 +37,6 @@ captions_only s = record { service = s; caption = true; carousel = false; eit = 
 unfoldable pub copies_all : Options → Bool
 copies_all o = every_service o.service && o.caption && o.carousel && o.eit && o.other
 
--- The filter of 01. 02 [2], [4].
+-- The filter of 01. 02 [2].
 abbrev pub all_off : Modes
-all_off = record { plain_ip = false; strict_joining = false }
+all_off = record { plain_ip = false }

@@ -17,12 +17,10 @@ pub struct Options {
     pub other: bool,
 }
 
-// What the filter does beyond 01, each mode off or on; all off is 01's filter. In `plain_ip` tables are narrowed in plain IP packets too, in
-// `strict_joining` fragments are joined only where their counters tell that none is missing.
+// What the filter does beyond 01, each mode off or on; all off is 01's filter. In `plain_ip` tables are narrowed in plain IP packets too.
 #[derive(Drop)]
 pub struct Modes {
     pub plain_ip: bool,
-    pub strict_joining: bool,
 }
 
 // The limits of a start: the lengths of the work room and of the fragment room, and the most bytes of one message.

@@ -14,10 +14,9 @@ use Rattle.meaning.specs.Sets.{Words, in_set}
 use Rattle.meaning.specs.Readers.{Out}
 use Rattle.meaning.specs.Messages.{Message, messages, indicator}
 use Rattle.meaning.specs.Tables.{Mpt, mpt, Package, plt, Table, is_mpt, is_plt, pa}
-use Rattle.meaning.specs.Learn.{Fragment, Known, Learnt, learnt, Listed, lists, place_for, listed, with_list, mpt_from, learn_mpt, packages_in, plt_from, learn_plt, learn_table, learn_tables, pa_tables, with_data, learn_message, learn_messages, with_fragments, without, fragment_of, hold_first, middle, joined, last_for, last, by_indicator, observe, counter_of, ends, by_counter}
+use Rattle.meaning.specs.Learn.{Fragment, Known, Learnt, learnt, Listed, lists, place_for, listed, with_list, mpt_from, learn_mpt, packages_in, plt_from, learn_plt, learn_table, learn_tables, pa_tables, with_data, learn_message, learn_messages, with_fragments, without, fragment_of, hold_first, fits, middle, joined, last_for, last, by_indicator, observe}
 use Rattle.meaning.specs.Rules.{in_drop_set, drops, ready}
 use Rattle.meaning.specs.declared.Limits.{Limits}
-use Rattle.meaning.specs.declared.Modes.{Modes}
 use Rattle.meaning.specs.declared.Options.{Options}
 use Rattle.meaning.specs.declared.Service.{Service}
 use Rattle.meaning.proofs.SetLaws.{insert_there}
@@ -26,7 +25,7 @@ use Rattle.learning.specs.News.{no_news, change_news, kinds_in, same_pairs, plt_
 use Rattle.learning.specs.declared.News.{News}
 use Rattle.learning.proofs.PairLaws.{pairs_true}
 use Rattle.learning.proofs.HeldLaws.{list_there}
-use Rattle.observing.specs.News.{mpt_new, news_table, news_message, news_messages, news_tables, news_last, news_counter, news_by, anything, news}
+use Rattle.observing.specs.News.{mpt_new, news_table, news_message, news_messages, news_tables, news_last, news_by, anything, news}
 use Rattle.observing.proofs.FoldLaws.{Folds}
 use Rattle.observing.proofs.TableSteps.{tables_fold}
 
@@ -113,16 +112,16 @@ pub record Still (k k' : Known) : Type 0 where
   pub fragments_after : List Fragment
   pub known_is : k' ≡ with_fragments fragments_after k
 
-module _ (L : Limits) (M : Modes) (p : ℕ) where
+module _ (L : Limits) (p : ℕ) where
   messages_still : (ms : List Message) (fs : List Fragment) (k : Known) → (news_messages p ms (with_fragments fs k)).changed ≡ false → Still k (learn_messages p ms (with_fragments fs k)).known
   messages_still ms fs k e = record {
     fragments_after = fs;
     known_is = fold_still (learn_message p) (news_message p) (learn_messages p) (news_messages p) (messages_fold p) (message_still p) ms (with_fragments fs k) e;
   }
 
-  last_still : (o : Option Fragment) (c : ℕ) (b : Bytes) (k : Known) → (news_last o L M p c b k).changed ≡ false → Still k (last_for o L M p c b k).known
-  last_still none c b k e = record { fragments_after = k.fragments; known_is = refl }
-  last_still (some f) c b k e = go (ends L M c f b k.fragments) e
+  last_still : (o : Option Fragment) (b : Bytes) (k : Known) → (news_last o L p b k).changed ≡ false → Still k (last_for o L p b k).known
+  last_still none b k e = record { fragments_after = k.fragments; known_is = refl }
+  last_still (some f) b k e = go (fits L f b k.fragments) e
     where
       rest : List Fragment
       rest = without p k.fragments
@@ -132,26 +131,22 @@ module _ (L : Limits) (M : Modes) (p : ℕ) where
       go true e = messages_still (messages (joined f b)) rest k e
       go false e = record { fragments_after = rest; known_is = refl }
 
-  counter_still : (o : Option ℕ) (i flags : ℕ) (b : Bytes) (k : Known) → (news_counter o i L M p b k).changed ≡ false → Still k (by_counter o i L M p flags b k).known
+  by_still : (i flags : ℕ) (s : Bytes) (k : Known) → (news_by i L p flags s k).changed ≡ false → Still k (by_indicator i L p flags s k).known
   unfolding last
-  counter_still none i flags b k e = record { fragments_after = without p k.fragments; known_is = refl }
-  counter_still (some c) zero flags b k e = record { fragments_after = hold_first L p flags c b k.fragments; known_is = refl }
-  counter_still (some c) (suc zero) flags b k e = record { fragments_after = middle L M p c b k.fragments; known_is = refl }
-  counter_still (some c) (suc (suc i)) flags b k e = last_still (fragment_of p k.fragments) c b k e
-
-  by_still : (i flags : ℕ) (s : Bytes) (k : Known) → (news_by i L M p flags s k).changed ≡ false → Still k (by_indicator i L M p flags s k).known
   by_still zero flags s k e = messages_still (messages (flags ∷ s)) (without p k.fragments) k e
-  by_still (suc i) flags s k e = counter_still (counter_of M s) i flags (drop 1 s) k e
+  by_still (suc zero) flags s k e = record { fragments_after = hold_first L p flags (drop 1 s) k.fragments; known_is = refl }
+  by_still (suc (suc zero)) flags s k e = record { fragments_after = middle L p (drop 1 s) k.fragments; known_is = refl }
+  by_still (suc (suc (suc i))) flags s k e = last_still (fragment_of p k.fragments) (drop 1 s) k e
 
 -- Where nothing changed, at most fragments changed.
-pub still : (L : Limits) (M : Modes) (p : ℕ) (s : Bytes) (k : Known) → (news L M p s k).changed ≡ false → Still k (observe L M p s k).known
+pub still : (L : Limits) (p : ℕ) (s : Bytes) (k : Known) → (news L p s k).changed ≡ false → Still k (observe L p s k).known
 unfolding news observe
-still L M p [] k e = record { fragments_after = k.fragments; known_is = refl }
-still L M p (flags ∷ s) k e = go (in_set k.data_set p) e
+still L p [] k e = record { fragments_after = k.fragments; known_is = refl }
+still L p (flags ∷ s) k e = go (in_set k.data_set p) e
   where
-    go : (a : Bool) → (cond a anything (news_by (indicator flags) L M p flags s k)).changed ≡ false → Still k (cond a (learnt k) (by_indicator (indicator flags) L M p flags s k)).known
+    go : (a : Bool) → (cond a anything (news_by (indicator flags) L p flags s k)).changed ≡ false → Still k (cond a (learnt k) (by_indicator (indicator flags) L p flags s k)).known
     go true e = record { fragments_after = k.fragments; known_is = refl }
-    go false e = by_still L M p (indicator flags) flags s k e
+    go false e = by_still L p (indicator flags) flags s k e
 
 -- ---- and no rule reads fragments
 

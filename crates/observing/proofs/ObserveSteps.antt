@@ -3,25 +3,22 @@ use Prim.Native.Nat.{ℕ, zero, suc, ◌+◌, ◌-◌, ◌/◌, ◌%◌, ◌≤�
 use mathlib.Core.Path.{◌≡◌, refl, sym, ap, ap₂, ◌∙◌}
 use mathlib.Core.Bool.{Bool, true, false, cond, ◌&&◌}
 use mathlib.Core.List.{List, [], ◌∷◌}
-use mathlib.Core.Option.{Option, none, some}
+use mathlib.Core.Option.{none, some}
 use native.Mathlib.Nat.{mod-eq_of_lt}
 use native.Mathlib.Omega.{arith}
 use lib.ListN.{length, take, drop, get_or, length-take, length-drop}
-use lib.Dec.{eqb}
-use borrow.Author.Tests.{eqb-true, eqb-false, ne_eqb}
+use lib.Dec.{ltb, eqb}
 use Rattle.meaning.specs.Bytes.{Bytes}
 use Rattle.meaning.specs.Sets.{in_set}
 use Rattle.meaning.specs.Readers.{Out, byte, u16, walk}
 use Rattle.meaning.specs.Messages.{Message, indicator, aggregated, long_lengths, message, message_body, read_each, in_body, messages}
-use Rattle.meaning.specs.Learn.{Fragment, Known, learnt, learn_messages, with_fragments, without, fragment_of, counter_of, follows, fits, hold_first, joins, middle, ends, joined, last, by_counter, by_indicator, observe}
+use Rattle.meaning.specs.Tables.{Mpt, mpt, Package, plt, Table, is_plt, is_mpt, pa}
+use Rattle.meaning.specs.Learn.{Fragment, Known, learnt, listed, place_for, with_list, mpt_from, learn_mpt, plt_from, learn_plt, learn_table, learn_tables, pa_tables, with_data, learn_message, learn_messages, with_fragments, without, fragment_of, hold_first, middle, joined, last, by_indicator, observe}
 use Rattle.meaning.specs.Leading.{leading_after, leading_observed}
 use Rattle.meaning.specs.declared.Limits.{Limits}
-use Rattle.meaning.specs.declared.Modes.{Modes}
 use Rattle.meaning.proofs.ListLaws.{or_true, or_false}
-use Rattle.meaning.proofs.JoinLaws.{messages_fragments}
-use Rattle.fragments.specs.Fragments.{HeldAfter, joins_by, GrewAt, GaveUp, GivesBack}
+use Rattle.fragments.specs.Fragments.{HeldAfter, GrewAt, GaveUp, GivesBack}
 use Rattle.fragments.specs.declared.Held.{Held}
-use Rattle.fragments.specs.declared.Joining.{Joining}
 use Rattle.fragments.proofs.FragmentLaws.{not_found, leading_none}
 use Rattle.fragments.proofs.GrowLaws.{joined_gone}
 use Rattle.learning.specs.Kept.{Keeps}
@@ -30,10 +27,52 @@ use Rattle.learning.specs.Learnt.{with_news}
 use Rattle.learning.specs.declared.Extent.{Extent}
 use Rattle.learning.specs.declared.News.{News}
 use Rattle.learning.proofs.AlsoLaws.{also_none}
-use Rattle.observing.specs.News.{news_messages, news_last, news_counter, news_by, anything, news}
+use Rattle.observing.specs.News.{news_messages, news_last, news_by, anything, news}
 use Rattle.observing.specs.Steps.{After}
-use Rattle.observing.specs.Observed.{Holding, Observed, lead_by, with_held, whole_step, whole_new, last_step, last_new, before_last, CounterFits, step_by, new_by, by_step, by_new}
+use Rattle.observing.specs.Observed.{Holding, Observed, lead_by, with_held, whole_step, whole_new, last_step, last_new, by_step, by_new}
 use Rattle.observing.proofs.StepLaws.{keeps_news}
+
+-- ---- tables and messages leave the fragments
+
+table_fragments : (q : ℕ) (t : Table) (k : Known) → (learn_table q t k).known.fragments ≡ k.fragments
+unfolding learn_table learn_plt learn_mpt with_list
+table_fragments q t k = go (is_plt t.number && eqb q 0) (is_mpt t.number)
+  where
+    by_plt : (x : Out (List Package)) → (plt_from x k).fragments ≡ k.fragments
+    by_plt none = refl
+    by_plt (some x) = refl
+
+    by_mpt : (x : Out Mpt) → (mpt_from q x k).known.fragments ≡ k.fragments
+    by_mpt none = refl
+    by_mpt (some (m, more)) = on (ltb (place_for q k.map_heads) 64)
+      where
+        on : (a : Bool) → (cond a (learnt (with_list q (listed m.entries) k (place_for q k.map_heads))) (record { known = k; lost = 1 })).known.fragments ≡ k.fragments
+        on true = refl
+        on false = refl
+
+    go : (a b : Bool) → (cond a (learnt (plt_from (plt t.body) k)) (cond b (mpt_from q (mpt t.body) k) (learnt k))).known.fragments ≡ k.fragments
+    go true b = by_plt (plt t.body)
+    go false true = by_mpt (mpt t.body)
+    go false false = refl
+
+tables_fragments : (q : ℕ) (ts : List (Table × Bytes)) (k : Known) → (learn_tables q ts k).known.fragments ≡ k.fragments
+unfolding learn_tables
+tables_fragments q [] k = refl
+tables_fragments q (t ∷ ts) k = tables_fragments q ts (learn_table q t.0 k).known ∙ table_fragments q t.0 k
+
+message_fragments : (q : ℕ) (m : Message) (k : Known) → (learn_message q m k).known.fragments ≡ k.fragments
+unfolding learn_message
+message_fragments q m k = go (eqb m.number 0) (eqb m.number 0x8003)
+  where
+    go : (a b : Bool) → (cond a (learn_tables q (pa_tables (pa m.body)) k) (cond b (learnt (with_data q k)) (learnt k))).known.fragments ≡ k.fragments
+    go true b = tables_fragments q (pa_tables (pa m.body)) k
+    go false true = refl
+    go false false = refl
+
+messages_fragments : (q : ℕ) (ms : List Message) (k : Known) → (learn_messages q ms k).known.fragments ≡ k.fragments
+unfolding learn_messages
+messages_fragments q [] k = refl
+messages_fragments q (m ∷ ms) k = messages_fragments q ms (learn_message q m k).known ∙ message_fragments q m k
 
 -- ---- the fragments are told apart from the rest
 
@@ -109,54 +148,32 @@ part_within lost bodies a e T most l h = omega (arith, length-take (e - a) (drop
 pub lost_within : (lost r : ℕ) (bodies : Bytes) (a e T : ℕ) → length bodies ≡ T → r ≤ lost + length (take (e - a) (drop a bodies)) → r ≤ lost + T
 lost_within lost r bodies a e T l h = omega (arith, length-take (e - a) (drop a bodies), length-drop a bodies)
 
--- so much at most was lost, told behind it
-pub lost_held : (r y lost n T : ℕ) → r ≡ y → y ≤ lost + T → n ≡ T → r ≤ lost + n
-lost_held r y lost n T e l t = omega (arith, e, l, t)
-
--- How a last is joined: nothing comes before one with another counter than 0.
-abbrev pub last_joining : Modes → ℕ → ℕ → Joining
-last_joining M c most = record { strict = M.strict_joining; before = before_last c; counter = c; most = most }
-
-ends_same : (L : Limits) (M : Modes) (c most : ℕ) (f : Fragment) (b : Bytes) (fs : List Fragment) → f.counter < 256 → CounterFits M (some c) → ends L M c f b fs ≡ joins_by L (last_joining M c most) f b fs
-unfolding ends joins follows
-ends_same L M c most f b fs l fits_plain = go (eqb c 0) refl M.strict_joining refl
-  where
-    go : (z : Bool) → eqb c 0 ≡ z → (a : Bool) → M.strict_joining ≡ a
-        → (z && (cond a (eqb f.counter (c + 1)) true && fits L f b fs)) ≡ (cond a (eqb f.counter (cond z 1 256)) true && fits L f b fs)
-    go true ez true ea = ap (λ (n : ℕ). eqb f.counter (n + 1) && fits L f b fs) (eqb-true c 0 ez)
-    go true ez false ea = refl
-    go false ez true ea = rw (ne_eqb f.counter 256 (λ q. absurd (omega (arith, q)))) refl
-    go false ez false ea = absurd (eqb-false c 0 ez (fits_plain c refl ea))
-
-module _ (L : Limits) (M : Modes) (q c most : ℕ) (b : Bytes) (k : Known) (e : Extent) (fits_plain : CounterFits M (some c)) where
+module _ (L : Limits) (q : ℕ) (b : Bytes) (k : Known) (e : Extent) where
   abbrev Last : Extent → List ℕ → List ℕ → List ℕ → List ℕ → List ℕ → Bytes → Type 0
-  Last r d p m o fragment_heads bodies =
-      Observed L.total (last L M q c b k) (news_last (fragment_of q k.fragments) L M q c b k) (lead_by q (last_step M q c b) L k e.leading) e r d p m o fragment_heads bodies
+  Last r c p m o fragment_heads bodies =
+      Observed L.total (last L q b k) (news_last (fragment_of q k.fragments) L q b k) (lead_by q (last_step q b) L k e.leading) e r c p m o fragment_heads bodies
 
-  pub last_grew : (start end flags : ℕ) (h : Held) (h₁ : List ℕ) (bodies : Bytes) → GrewAt L (last_joining M c most) q b k.fragments start end flags h h₁ bodies
-      → (r : Extent) (h' : Held) (d p m o fragment_heads : List ℕ)
+  pub last_grew : (start end flags : ℕ) (h : Held) (h₁ : List ℕ) (bodies : Bytes) → GrewAt L q b k.fragments start end flags h h₁ bodies
+      → (r : Extent) (h' : Held) (c p m o fragment_heads : List ℕ)
       → After (learn_messages q (messages (flags ∷ 0 ∷ take (end - start) (drop start bodies))) (with_fragments (without q k.fragments) k))
-      (news_messages q (messages (flags ∷ 0 ∷ take (end - start) (drop start bodies))) (with_fragments (without q k.fragments) k)) e r d p m o
-      → GivesBack h.count h.leading h₁ h' fragment_heads → Last (with_held r h') d p m o fragment_heads bodies
+      (news_messages q (messages (flags ∷ 0 ∷ take (end - start) (drop start bodies))) (with_fragments (without q k.fragments) k)) e r c p m o
+      → GivesBack h.count h.leading h₁ h' fragment_heads → Last (with_held r h') c p m o fragment_heads bodies
   unfolding last joined
-  last_grew start end flags h h₁ bodies g r h' d p m o fragment_heads a w =
+  last_grew start end flags h h₁ bodies g r h' c p m o fragment_heads a w =
       let ms : messages (flags ∷ 0 ∷ take (end - start) (drop start bodies)) ≡ messages (joined g.fragment b) =
       ap₂ (λ (x : ℕ) (y : Bytes). messages (x ∷ 0 ∷ y)) g.flags_are g.body_is in
-      let f = joined_gone L (last_joining M c most) q b k.fragments start end flags h h₁ bodies g h' fragment_heads e.leading w in
-      let ending : ends L M c g.fragment b k.fragments ≡ true = ends_same L M c most g.fragment b k.fragments g.counter_small fits_plain ∙ g.joins in
-      rw (g.found, ending) (messages_then L.total q k (without q k.fragments) e h' d p m o fragment_heads bodies f (messages (joined g.fragment b)) r (rw ms at a))
+      let f = joined_gone L q b k.fragments start end flags h h₁ bodies g h' fragment_heads e.leading w in
+      rw (g.found, g.fitting) (messages_then L.total q k (without q k.fragments) e h' c p m o fragment_heads bodies f (messages (joined g.fragment b)) r (rw ms at a))
 
-  pub last_gave : (h : Held) (fragment_heads : List ℕ) (bodies : Bytes) → GaveUp L (last_joining M c most) q b k.fragments e.leading h fragment_heads bodies → (d p m o : List ℕ) → Keeps k e d p m o
-      → Last (with_held e h) d p m o fragment_heads bodies
+  pub last_gave : (h : Held) (fragment_heads : List ℕ) (bodies : Bytes) → GaveUp L q b k.fragments e.leading h fragment_heads bodies → (c p m o : List ℕ) → Keeps k e c p m o
+      → Last (with_held e h) c p m o fragment_heads bodies
   unfolding last
-  last_gave h fragment_heads bodies g d p m o x =
-      let ending : ends L M c g.fragment b k.fragments ≡ false = ends_same L M c most g.fragment b k.fragments g.counter_small fits_plain ∙ g.joins in
-      rw (g.found, ending) (fragments_observed L.total q k (without q k.fragments) e h d p m o fragment_heads bodies g.left x)
+  last_gave h fragment_heads bodies g c p m o x = rw (g.found, g.fitting) (fragments_observed L.total q k (without q k.fragments) e h c p m o fragment_heads bodies g.left x)
 
-  pub last_absent : fragment_of q k.fragments ≡ none → (d p m o fragment_heads : List ℕ) (bodies : Bytes) → Holding L.total k e d p m o fragment_heads bodies
-      → Last e d p m o fragment_heads bodies
+  pub last_absent : fragment_of q k.fragments ≡ none → (c p m o fragment_heads : List ℕ) (bodies : Bytes) → Holding L.total k e c p m o fragment_heads bodies
+      → Last e c p m o fragment_heads bodies
   unfolding last
-  last_absent f d p m o fragment_heads bodies h =
+  last_absent f c p m o fragment_heads bodies h =
       rw f
       (record { holding = h; lost_is = omega arith; news_are = also_none e.news; leading_is = sym (leading_none q k.fragments e.leading (not_found q k.fragments f)) })
 
@@ -174,24 +191,28 @@ unfolding messages
 whole_same flags [] h = rw h (sym (none_in (aggregated flags) (long_lengths flags)))
 whole_same flags (c ∷ s) h = refl
 
--- a payload by its counter and its body
-module _ (L : Limits) (M : Modes) (q flags : ℕ) (s : Bytes) (k : Known) where
-  by_same : (n : ℕ) → indicator flags ≡ n → by_indicator n L M q flags s k ≡ step_by n M q flags (counter_of M s) (drop 1 s) L k
+-- nor is it by any other indicator
+module _ (L : Limits) (q flags : ℕ) (s : Bytes) (k : Known) where
+  by_same : (n : ℕ) → indicator flags ≡ n → by_indicator n L q flags s k ≡ by_indicator n L q flags (0 ∷ drop 1 s) k
   by_same zero i = ap (λ (ms : List Message). learn_messages q ms (with_fragments (without q k.fragments) k)) (whole_same flags s i)
-  by_same (suc n) i = refl
+  by_same (suc zero) i = refl
+  by_same (suc (suc zero)) i = refl
+  by_same (suc (suc (suc n))) i = refl
 
-  new_same : (n : ℕ) → indicator flags ≡ n → news_by n L M q flags s k ≡ new_by n M q flags (counter_of M s) (drop 1 s) L k
+  new_same : (n : ℕ) → indicator flags ≡ n → news_by n L q flags s k ≡ news_by n L q flags (0 ∷ drop 1 s) k
   new_same zero i = ap (λ (ms : List Message). news_messages q ms (with_fragments (without q k.fragments) k)) (whole_same flags s i)
-  new_same (suc n) i = refl
+  new_same (suc zero) i = refl
+  new_same (suc (suc zero)) i = refl
+  new_same (suc (suc (suc n))) i = refl
 
-module _ (L : Limits) (M : Modes) (q : ℕ) (k : Known) (e : Extent) (c p m o fragment_heads : List ℕ) (bodies : Bytes) (h : Holding L.total k e c p m o fragment_heads bodies) where
-  pub see_nothing : (s : Bytes) → length s ≡ 0 → Observed L.total (observe L M q s k) (news L M q s k) (leading_observed L M q s k e.leading) e e c p m o fragment_heads bodies
+module _ (L : Limits) (q : ℕ) (k : Known) (e : Extent) (c p m o fragment_heads : List ℕ) (bodies : Bytes) (h : Holding L.total k e c p m o fragment_heads bodies) where
+  pub see_nothing : (s : Bytes) → length s ≡ 0 → Observed L.total (observe L q s k) (news L q s k) (leading_observed L q s k e.leading) e e c p m o fragment_heads bodies
   unfolding observe news leading_observed
   see_nothing [] z = nothing_observed L.total k e c p m o fragment_heads bodies h
   see_nothing (x ∷ s) z = absurd (omega arith)
 
   pub see_carousel : (s : Bytes) → (length s ≡ 0 → ⊥) → in_set k.data_set q ≡ true
-      → Observed L.total (observe L M q s k) (news L M q s k) (leading_observed L M q s k e.leading) e (with_news e (also e.news anything)) c p m o fragment_heads bodies
+      → Observed L.total (observe L q s k) (news L q s k) (leading_observed L q s k e.leading) e (with_news e (also e.news anything)) c p m o fragment_heads bodies
   unfolding observe news leading_observed
   see_carousel [] n z = absurd (n refl)
   see_carousel (x ∷ s) n z =
@@ -205,67 +226,33 @@ module _ (L : Limits) (M : Modes) (q : ℕ) (k : Known) (e : Extent) (c p m o fr
 
 -- ---- the payload as the code has it
 
--- its counter
-module _ (M : Modes) where
-  pub counter_short : (y : Bytes) → M.strict_joining ≡ true → length y < 2 → counter_of M (drop 1 y) ≡ none
-  unfolding counter_of
-  counter_short [] e l = rw e refl
-  counter_short (x ∷ []) e l = rw e refl
-  counter_short (x ∷ c ∷ s) e l = absurd (omega arith)
-
-  pub counter_there : (y : Bytes) → M.strict_joining ≡ true → 2 ≤ length y → get_or y 1 0 < 256 → counter_of M (drop 1 y) ≡ some (get_or y 1 0)
-  unfolding counter_of
-  counter_there [] e l b = absurd (omega arith)
-  counter_there (x ∷ []) e l b = absurd (omega arith)
-  counter_there (x ∷ c ∷ s) e l b = rw e (ap some (mod-eq_of_lt b))
-
-  pub counter_plain : (s : Bytes) → M.strict_joining ≡ false → counter_of M s ≡ some 0
-  unfolding counter_of
-  counter_plain s e = rw e refl
-
--- the counter and the bytes from 2 on
-module _ (L : Limits) (M : Modes) (q : ℕ) (k : Known) (e r : Extent) (c p m o fragment_heads : List ℕ) (bodies : Bytes) (fresh : in_set k.data_set q ≡ false) where
-  pub payload_by : (y : Bytes) → (length y ≡ 0 → ⊥) → (b : Bytes) → b ≡ drop 2 y → (n : Option ℕ) → counter_of M (drop 1 y) ≡ n
-      → Observed L.total (by_step M q (get_or y 0 0) n b L k) (by_new M q (get_or y 0 0) n b L k) (lead_by q (by_step M q (get_or y 0 0) n b) L k e.leading) e r c p m o fragment_heads bodies
-      → Observed L.total (observe L M q y k) (news L M q y k) (leading_observed L M q y k e.leading) e r c p m o fragment_heads bodies
+-- the bytes from 2 on
+module _ (L : Limits) (q : ℕ) (k : Known) (e r : Extent) (c p m o fragment_heads : List ℕ) (bodies : Bytes) (fresh : in_set k.data_set q ≡ false) where
+  pub payload_by : (y : Bytes) → (length y ≡ 0 → ⊥) → (b : Bytes) → b ≡ drop 2 y → Observed L.total (by_step q (get_or y 0 0) b L k) (by_new q (get_or y 0 0) b L k) (lead_by q (by_step q (get_or y 0 0) b) L k e.leading) e r c p m o fragment_heads bodies
+      → Observed L.total (observe L q y k) (news L q y k) (leading_observed L q y k e.leading) e r c p m o fragment_heads bodies
   unfolding observe news leading_observed
-  payload_by [] z b d n u x = absurd (z refl)
-  payload_by (f ∷ s) z b d n u x = rw (fresh, by_same L M q f s k (indicator f) refl, new_same L M q f s k (indicator f) refl, u) (rw d at x)
+  payload_by [] z b d x = absurd (z refl)
+  payload_by (f ∷ s) z b d x = rw (fresh, by_same L q f s k (indicator f) refl, new_same L q f s k (indicator f) refl) (rw d at x)
 
 top : (f n : ℕ) → f / 64 ≡ n → n < 4 → indicator f ≡ n
 unfolding indicator
 top f n e l = ap (λ (z : ℕ). z % 4) e ∙ mod-eq_of_lt l
 
--- a byte whose top bits are not 0 is of a fragment
-fragment_top : (f : ℕ) → (f / 64 ≡ 0 → ⊥) → f < 256 → indicator f ≡ 0 → ⊥
-unfolding indicator
-fragment_top f l h e = l (let z : f / 64 ≡ 0 = omega (arith, e) in z)
-
-module _ (L : Limits) (M : Modes) (q flags : ℕ) (n : Option ℕ) (b : Bytes) (k : Known) (e r : Extent) (c p m o fragment_heads : List ℕ) (bodies : Bytes) where
+module _ (L : Limits) (q flags : ℕ) (b : Bytes) (k : Known) (e r : Extent) (c p m o fragment_heads : List ℕ) (bodies : Bytes) where
   abbrev By : Type 0
-  By = Observed L.total (by_step M q flags n b L k) (by_new M q flags n b L k) (lead_by q (by_step M q flags n b) L k e.leading) e r c p m o fragment_heads bodies
+  By = Observed L.total (by_step q flags b L k) (by_new q flags b L k) (lead_by q (by_step q flags b) L k e.leading) e r c p m o fragment_heads bodies
 
   pub by_whole : flags / 64 ≡ 0 → Observed L.total (whole_step q flags b L k) (whole_new q flags b L k) (lead_by q (whole_step q flags b) L k e.leading) e r c p m o fragment_heads bodies → By
   by_whole i x = rw (top flags 0 i (omega arith)) x
 
-  -- a fragment, whatever its indicator
-  pub by_none : (flags / 64 ≡ 0 → ⊥) → flags < 256 → n ≡ none
-      → Observed L.total (learnt (with_fragments (without q k.fragments) k)) no_news (leading_after q k.fragments (without q k.fragments) e.leading) e r c p m o fragment_heads bodies → By
-  by_none low high u x = go (indicator flags) (fragment_top flags low high) u
-    where
-      go : (i : ℕ) → (i ≡ 0 → ⊥) → n ≡ none → Observed L.total (step_by i M q flags n b L k) (new_by i M q flags n b L k) (lead_by q (step_by i M q flags n b) L k e.leading) e r c p m o fragment_heads bodies
-      go zero z u = absurd (z refl)
-      go (suc i) z u = rw u x
+  pub by_first : flags / 64 ≡ 1 → Observed L.total (learnt (with_fragments (hold_first L q flags b k.fragments) k)) no_news (leading_after q k.fragments (hold_first L q flags b k.fragments) e.leading) e r c p m o fragment_heads bodies → By
+  by_first i x = rw (top flags 1 i (omega arith)) x
 
-  module _ (counter : ℕ) (u : n ≡ some counter) where
-    pub by_first : flags / 64 ≡ 1 → Observed L.total (learnt (with_fragments (hold_first L q flags counter b k.fragments) k)) no_news (leading_after q k.fragments (hold_first L q flags counter b k.fragments) e.leading) e r c p m o fragment_heads bodies → By
-    by_first i x = rw (top flags 1 i (omega arith), u) x
+  pub by_middle : flags / 64 ≡ 2 → Observed L.total (learnt (with_fragments (middle L q b k.fragments) k)) no_news (leading_after q k.fragments (middle L q b k.fragments) e.leading) e r c p m o fragment_heads bodies → By
+  by_middle i x = rw (top flags 2 i (omega arith)) x
 
-    pub by_middle : flags / 64 ≡ 2 → Observed L.total (learnt (with_fragments (middle L M q counter b k.fragments) k)) no_news (leading_after q k.fragments (middle L M q counter b k.fragments) e.leading) e r c p m o fragment_heads bodies → By
-    by_middle i x = rw (top flags 2 i (omega arith), u) x
-
-    pub by_last : flags / 64 ≡ 3 → Observed L.total (last_step M q counter b L k) (last_new M q counter b L k) (lead_by q (last_step M q counter b) L k e.leading) e r c p m o fragment_heads bodies → By
-    by_last i x = rw (top flags 3 i (omega arith), u) x
+  pub by_last : flags / 64 ≡ 3 → Observed L.total (last_step q b L k) (last_new q b L k) (lead_by q (last_step q b) L k e.leading) e r c p m o fragment_heads bodies → By
+  by_last i x = rw (top flags 3 i (omega arith)) x
 
 -- a byte's top bits are the last value where they are no other
 pub top_three : (f : ℕ) → f < 256 → (f / 64 ≡ 0 → ⊥) → (f / 64 ≡ 1 → ⊥) → (f / 64 ≡ 2 → ⊥) → f / 64 ≡ 3

@@ -7,9 +7,8 @@ use Rattle.meaning.specs.Sets.{in_set}
 use Rattle.meaning.specs.Readers.{Out}
 use Rattle.meaning.specs.Messages.{Message, messages, indicator}
 use Rattle.meaning.specs.Tables.{Mpt, mpt, plt, Table, is_mpt, is_plt, pa}
-use Rattle.meaning.specs.Learn.{Known, listed, packages_in, learn_table, pa_tables, learn_message, fragment_of, counter_of, ends, Fragment, joined, with_fragments, without}
+use Rattle.meaning.specs.Learn.{Known, listed, packages_in, learn_table, pa_tables, learn_message, fragment_of, fits, Fragment, joined, with_fragments, without}
 use Rattle.meaning.specs.declared.Limits.{Limits}
-use Rattle.meaning.specs.declared.Modes.{Modes}
 use Rattle.learning.specs.News.{no_news, also, change_news, kinds_in, unlisted, same_pairs, plt_news, list_new, list_news}
 use Rattle.learning.specs.declared.News.{News}
 
@@ -41,26 +40,22 @@ news_messages p (m ∷ ms) k = also (news_message p m k) (news_messages p ms (le
 
 -- ---- a payload: by whole messages, or by a last fragment that joins one
 
-abbrev pub news_last : Option Fragment → Limits → Modes → ℕ → ℕ → Bytes → Known → News
-news_last none L M p c b k = no_news
-news_last (some f) L M p c b k =
-    cond (ends L M c f b k.fragments) (news_messages p (messages (joined f b)) (with_fragments (without p k.fragments) k)) no_news
+abbrev pub news_last : Option Fragment → Limits → ℕ → Bytes → Known → News
+news_last none L p b k = no_news
+news_last (some f) L p b k =
+    cond (fits L f b k.fragments) (news_messages p (messages (joined f b)) (with_fragments (without p k.fragments) k)) no_news
 
-abbrev pub news_counter : Option ℕ → ℕ → Limits → Modes → ℕ → Bytes → Known → News
-news_counter none n L M p b k = no_news
-news_counter (some c) zero L M p b k = no_news
-news_counter (some c) (suc zero) L M p b k = no_news
-news_counter (some c) (suc (suc n)) L M p b k = news_last (fragment_of p k.fragments) L M p c b k
-
-abbrev pub news_by : ℕ → Limits → Modes → ℕ → ℕ → Bytes → Known → News
-news_by zero L M p flags s k = news_messages p (messages (flags ∷ s)) (with_fragments (without p k.fragments) k)
-news_by (suc n) L M p flags s k = news_counter (counter_of M s) n L M p (drop 1 s) k
+abbrev pub news_by : ℕ → Limits → ℕ → ℕ → Bytes → Known → News
+news_by zero L p flags s k = news_messages p (messages (flags ∷ s)) (with_fragments (without p k.fragments) k)
+news_by (suc zero) L p flags s k = no_news
+news_by (suc (suc zero)) L p flags s k = no_news
+news_by (suc (suc (suc n))) L p flags s k = news_last (fragment_of p k.fragments) L p (drop 1 s) k
 
 -- On a data-carousel identifier nothing is read, so anything may stand there.
 abbrev pub anything : News
 anything = record { changed = false; caption = true; carousel = true; other = true; unlisted = true }
 
-unfoldable pub news : Limits → Modes → ℕ → Bytes → Known → News
-unfolding in_set indicator news_messages messages counter_of joined without fragment_of ends
-news L M p [] k = no_news
-news L M p (flags ∷ s) k = cond (in_set k.data_set p) anything (news_by (indicator flags) L M p flags s k)
+unfoldable pub news : Limits → ℕ → Bytes → Known → News
+unfolding in_set indicator news_messages messages joined without fragment_of fits
+news L p [] k = no_news
+news L p (flags ∷ s) k = cond (in_set k.data_set p) anything (news_by (indicator flags) L p flags s k)

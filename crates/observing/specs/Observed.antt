@@ -1,21 +1,18 @@
 -- What observing a payload promises: the state that arrays and rooms hold afterwards, how many maps were lost, what is new and how many fragments
 -- lead.
-use Rattle.std.specs.Prelude.{ℕ, zero, suc, ◌+◌, ◌≡◌, false, cond, List, ◌∷◌, eqb}
-use Rattle.std.proofs.Math.Option.{Option, none, some}
+use Rattle.std.specs.Prelude.{ℕ, ◌+◌, ◌≡◌, List, ◌∷◌}
 use Rattle.meaning.specs.Bytes.{Bytes}
 use Rattle.meaning.specs.Messages.{messages, indicator}
-use Rattle.meaning.specs.Learn.{Known, Learnt, learn_messages, with_fragments, without, fragment_of, last, by_counter}
+use Rattle.meaning.specs.Learn.{Known, Learnt, learn_messages, with_fragments, without, fragment_of, last, by_indicator}
 use Rattle.meaning.specs.Leading.{leading_after}
 use Rattle.meaning.specs.declared.Limits.{Limits}
-use Rattle.meaning.specs.declared.Modes.{Modes}
 use Rattle.fragments.specs.Fragments.{KeptFragments}
 use Rattle.fragments.specs.declared.Held.{Held}
 use Rattle.learning.specs.Kept.{Keeps}
 use Rattle.learning.specs.News.{also}
 use Rattle.learning.specs.declared.Extent.{Extent}
 use Rattle.learning.specs.declared.News.{News}
-use Rattle.observing.specs.declared.observe.Counter.{Counter}
-use Rattle.observing.specs.News.{news_messages, news_last, news_counter}
+use Rattle.observing.specs.News.{news_messages, news_last, news_by}
 
 -- All that is known, in arrays and both rooms.
 pub record Holding (T : ℕ) (k : Known) (e : Extent) (data_set packages map_heads map_room fragment_heads : List ℕ) (bodies : Bytes) : Type 0 where
@@ -65,37 +62,16 @@ whole_step p flags b L k = learn_messages p (messages (flags ∷ 0 ∷ b)) (with
 abbrev pub whole_new : ℕ → ℕ → Bytes → Limits → Known → News
 whole_new p flags b L k = news_messages p (messages (flags ∷ 0 ∷ b)) (with_fragments (without p k.fragments) k)
 
--- A last fragment, by its counter and its bytes from 2 on.
-abbrev pub last_step : Modes → ℕ → ℕ → Bytes → Limits → Known → Learnt
-last_step M p c b L k = last L M p c b k
+-- A last fragment, by its bytes from 2 on.
+abbrev pub last_step : ℕ → Bytes → Limits → Known → Learnt
+last_step p b L k = last L p b k
 
-abbrev pub last_new : Modes → ℕ → ℕ → Bytes → Limits → Known → News
-last_new M p c b L k = news_last (fragment_of p k.fragments) L M p c b k
+abbrev pub last_new : ℕ → Bytes → Limits → Known → News
+last_new p b L k = news_last (fragment_of p k.fragments) L p b k
 
--- The counter that must come before a last: 1 before 0, and before any other none that a byte has.
-abbrev pub before_last : ℕ → ℕ
-before_last c = cond (eqb c 0) 1 256
+-- A payload by the top two bits of its first byte; the byte behind that one is not read.
+abbrev pub by_step : ℕ → ℕ → Bytes → Limits → Known → Learnt
+by_step p flags b L k = by_indicator (indicator flags) L p flags (0 ∷ b) k
 
--- What the code has read of a fragment's counter.
-abbrev pub counter_read : Counter → Option ℕ
-counter_read (Counter.Is c) = some c
-counter_read Counter.Missing = none
-
--- In plain joining it counts as 0.
-abbrev pub CounterFits : Modes → Option ℕ → Type 0
-CounterFits M o = (c : ℕ) → o ≡ some c → M.strict_joining ≡ false → c ≡ 0
-
--- A payload by the top two bits of its first byte, with what there is of a counter.
-abbrev pub step_by : ℕ → Modes → ℕ → ℕ → Option ℕ → Bytes → Limits → Known → Learnt
-step_by zero M p flags o b L k = whole_step p flags b L k
-step_by (suc n) M p flags o b L k = by_counter o n L M p flags b k
-
-abbrev pub new_by : ℕ → Modes → ℕ → ℕ → Option ℕ → Bytes → Limits → Known → News
-new_by zero M p flags o b L k = whole_new p flags b L k
-new_by (suc n) M p flags o b L k = news_counter o n L M p b k
-
-abbrev pub by_step : Modes → ℕ → ℕ → Option ℕ → Bytes → Limits → Known → Learnt
-by_step M p flags o b L k = step_by (indicator flags) M p flags o b L k
-
-abbrev pub by_new : Modes → ℕ → ℕ → Option ℕ → Bytes → Limits → Known → News
-by_new M p flags o b L k = new_by (indicator flags) M p flags o b L k
+abbrev pub by_new : ℕ → ℕ → Bytes → Limits → Known → News
+by_new p flags b L k = news_by (indicator flags) L p flags (0 ∷ b) k

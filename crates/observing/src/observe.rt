@@ -1,18 +1,16 @@
 // The payload of a signalling packet: whole, or a first, middle or last fragment of one.
-ghost use Rattle.std.specs.Prelude.{◌≡◌, ◌+◌, ◌-◌, ◌/◌, ◌≤◌, ◌<◌, length, drop};
-ghost use Rattle.std.proofs.Math.Option.{some};
-ghost use Rattle.meaning.specs.Learn.{counter_of, observe};
+ghost use Rattle.std.specs.Prelude.{◌≡◌, ◌+◌, ◌-◌, ◌≤◌, ◌<◌, length, drop};
+ghost use Rattle.meaning.specs.Learn.{last, observe};
 ghost use Rattle.meaning.specs.Leading.{leading_observed};
 ghost use Rattle.meaning.specs.Moves.{MovedOnce};
-ghost use Rattle.fragments.specs.Fragments.{KeepsFragments, Drops, HoldsFirst, LearnsMiddle};
+ghost use Rattle.fragments.specs.Fragments.{KeepsFragments, HoldsFirst, LearnsMiddle};
 ghost use Rattle.learning.specs.News.{also};
 ghost use Rattle.observing.specs.News.{anything, news};
-ghost use Rattle.observing.specs.Observed.{HoldingSome, Observes, lead_by, with_held, Tells, whole_step, whole_new, last_step, last_new, before_last, counter_read, CounterFits, by_step, by_new};
+ghost use Rattle.observing.specs.Observed.{HoldingSome, Observes, lead_by, with_held, Tells, whole_step, whole_new, last_step, last_new, by_step, by_new};
 
 use crate::messages::learn;
-use fragments::{Grown, Held, Joining, drop_fragment, give_back, grow, hold_first};
+use fragments::{Grown, Held, drop_fragment, give_back, grow, hold_first};
 use learning::{Extent, News, with_news};
-use meaning::Modes;
 use octets::has;
 
 // A payload's bytes from 2 on.
@@ -41,34 +39,12 @@ fn with_held(e: Extent, h: Held) -> Extent
     }
 }
 
-// The counter of a fragment, if there is one to read.
-#[derive(Drop)]
-pub enum Counter {
-    Is(u8),
-    Missing,
-}
-
-// Plain joining does not read it, so that it counts as 0; in strict joining a payload under two bytes has none.
-fn counter_of(payload: &[u8], modes: Modes) -> Counter
-    ensures { counter_of modes (drop 1 payload.now) ≡ counter_read result }
-{
-    if modes.strict_joining {
-        if payload.len() < 2 {
-            return Counter::Missing;
-        }
-        return Counter::Is(payload[1]);
-    }
-    Counter::Is(0)
-}
-
-// What comes with a payload's bytes from 2 on: its first byte, its counter, its identifier, the most bytes of one message, and the modes.
+// What comes with a payload's bytes from 2 on: its first byte, its identifier, and the most bytes of one message.
 #[derive(Drop)]
 pub struct Piece {
     pub flags: u8,
-    pub counter: Counter,
     pub id: u16,
     pub most: usize,
-    pub modes: Modes,
 }
 
 // A whole payload drops what was held of its identifier; its messages are learned.
@@ -93,102 +69,44 @@ fn whole(
     )
 }
 
-// A fragment without a counter drops what was held of its identifier.
-fn discard(id: u16, e: Extent, fragment_heads: &mut [u64; 256], bodies: &mut [u8]) -> Extent
-    requires { KeepsFragments e.fragment_count e.leading fragment_heads.old bodies.old }
-    ensures { Tells (λ h. Drops id e.fragment_count e.leading fragment_heads.old bodies.old h fragment_heads.new bodies.new) e result }
-{
-    let held = drop_fragment(id, e.fragment_count, e.leading, fragment_heads, bodies);
-    with_held(e, held)
-}
-
 // A first: it is held, if there is room.
 fn first(
     body: &[u8],
-    counter: u8,
     p: Piece,
     e: Extent,
     fragment_heads: &mut [u64; 256],
     bodies: &mut [u8],
 ) -> Extent
     requires { KeepsFragments e.fragment_count e.leading fragment_heads.old bodies.old }
-    ensures { Tells (λ h. HoldsFirst p.id p.flags counter body.now e.fragment_count e.leading fragment_heads.old bodies.old h fragment_heads.new bodies.new) e result }
+    ensures { Tells (λ h. HoldsFirst p.id p.flags body.now e.fragment_count e.leading fragment_heads.old bodies.old h fragment_heads.new bodies.new) e result }
 {
     let n = e.fragment_count;
-    let held = hold_first(
-        p.id,
-        p.flags,
-        counter,
-        body,
-        n,
-        e.leading,
-        fragment_heads,
-        bodies,
-    );
+    let held = hold_first(p.id, p.flags, body, n, e.leading, fragment_heads, bodies);
     with_held(e, held)
 }
 
-// How a fragment with this counter is joined behind one with `before`.
-fn joining(p: Piece, before: usize, counter: u8) -> Joining
-    ensures { result ≡ record { strict = p.modes.strict_joining; before = before; counter = counter; most = p.most } }
-{
-    let modes = p.modes;
-    Joining {
-        strict: modes.strict_joining,
-        before,
-        counter,
-        most: p.most,
-    }
-}
-
-// The counter that must come before a middle: one more.
-fn before_middle(counter: u8) -> usize
-    ensures { result ≡ counter + 1 }
-{
-    (counter as usize) + 1
-}
-
-// A middle: joined to what is held of its message, if that came before and it fits.
+// A middle: joined to what is held of its message, if it fits.
 fn middle(
     body: &[u8],
-    counter: u8,
     p: Piece,
     e: Extent,
     fragment_heads: &mut [u64; 256],
     bodies: &mut [u8],
 ) -> Extent
     requires { KeepsFragments e.fragment_count e.leading fragment_heads.old bodies.old }
-    ensures { Tells (λ h. LearnsMiddle p.id (record { strict = p.modes.strict_joining; before = counter + 1; counter = counter; most = p.most }) body.now e.fragment_count e.leading fragment_heads.old bodies.old h fragment_heads.new bodies.new) e result }
+    ensures { Tells (λ h. LearnsMiddle p.id p.most body.now e.fragment_count e.leading fragment_heads.old bodies.old h fragment_heads.new bodies.new) e result }
 {
     let n = e.fragment_count;
-    let j = joining(p, before_middle(counter), counter);
-    let held = fragments::middle(p.id, body, j, n, e.leading, fragment_heads, bodies);
+    let held = fragments::middle(p.id, body, p.most, n, e.leading, fragment_heads, bodies);
     with_held(e, held)
-}
-
-// The counter that must come before a last: 1 before 0, and before any other none that a byte has.
-fn before_last(counter: u8) -> usize
-    ensures { result ≡ before_last counter }
-{
-    if counter == 0 {
-        return 1;
-    }
-    256
-}
-
-// How a last with this counter is joined.
-fn last_joining(p: Piece, counter: u8) -> Joining
-    ensures { result ≡ record { strict = p.modes.strict_joining; before = before_last counter; counter = counter; most = p.most } }
-{
-    joining(p, before_last(counter), counter)
 }
 
 // A last fragment: joined, its message is learned where it lies, and its room is given back.
 fn last(
     body: &[u8],
     e: Extent,
-    counter: u8,
-    p: Piece,
+    id: u16,
+    most: usize,
     data_set: &mut [u64; 1024],
     packages: &mut [u32; 255],
     map_heads: &mut [u32; 64],
@@ -196,15 +114,13 @@ fn last(
     fragment_heads: &mut [u64; 256],
     bodies: &mut [u8],
 ) -> Extent
-    requires { (e.lost + length body.now + length bodies.old ≤ 18446744073709551615) × CounterFits p.modes (some counter) × HoldingSome e data_set.old packages.old map_heads.old map_room.old fragment_heads.old bodies.old }
-    ensures { Observes (last_step p.modes p.id counter body.now) (last_new p.modes p.id counter body.now) (lead_by p.id (last_step p.modes p.id counter body.now)) p.most e data_set.old packages.old map_heads.old map_room.old fragment_heads.old bodies.old result data_set.new packages.new map_heads.new map_room.new fragment_heads.new bodies.new × (result.lost ≤ e.lost + length bodies.old) × MovedOnce bodies.old body.now bodies.new }
+    requires { (e.lost + length body.now + length bodies.old ≤ 18446744073709551615) × HoldingSome e data_set.old packages.old map_heads.old map_room.old fragment_heads.old bodies.old }
+    ensures { Observes (last_step id body.now) (last_new id body.now) (lead_by id (last_step id body.now)) most e data_set.old packages.old map_heads.old map_room.old fragment_heads.old bodies.old result data_set.new packages.new map_heads.new map_room.new fragment_heads.new bodies.new × (result.lost ≤ e.lost + length bodies.old) × MovedOnce bodies.old body.now bodies.new }
 {
-    let id = p.id;
-    let j = last_joining(p, counter);
     match grow(
         id,
         body,
-        j,
+        most,
         e.fragment_count,
         e.leading,
         fragment_heads,
@@ -233,41 +149,7 @@ fn last(
     }
 }
 
-// A fragment with its counter, by the top two bits of its first byte.
-fn fragment(
-    body: &[u8],
-    e: Extent,
-    counter: u8,
-    p: Piece,
-    data_set: &mut [u64; 1024],
-    packages: &mut [u32; 255],
-    map_heads: &mut [u32; 64],
-    map_room: &mut [u16],
-    fragment_heads: &mut [u64; 256],
-    bodies: &mut [u8],
-) -> Extent
-    requires { (e.lost + length body.now + length bodies.old ≤ 18446744073709551615) × CounterFits p.modes (some counter) × HoldingSome e data_set.old packages.old map_heads.old map_room.old fragment_heads.old bodies.old × (p.flags / 64 ≡ 0 → ⊥) }
-    ensures { Observes (by_step p.modes p.id p.flags (some counter) body.now) (by_new p.modes p.id p.flags (some counter) body.now) (lead_by p.id (by_step p.modes p.id p.flags (some counter) body.now)) p.most e data_set.old packages.old map_heads.old map_room.old fragment_heads.old bodies.old result data_set.new packages.new map_heads.new map_room.new fragment_heads.new bodies.new × (result.lost ≤ e.lost + length body.now + length bodies.old) × MovedOnce bodies.old body.now bodies.new }
-{
-    match p.flags >> 6 {
-        1 => first(body, counter, p, e, fragment_heads, bodies),
-        2 => middle(body, counter, p, e, fragment_heads, bodies),
-        _ => last(
-            body,
-            e,
-            counter,
-            p,
-            data_set,
-            packages,
-            map_heads,
-            map_room,
-            fragment_heads,
-            bodies,
-        ),
-    }
-}
-
-// A payload by the top two bits of its first byte: a whole, or a fragment, with a counter or without.
+// A payload by the top two bits of its first byte.
 fn by_indicator(
     body: &[u8],
     e: Extent,
@@ -279,11 +161,11 @@ fn by_indicator(
     fragment_heads: &mut [u64; 256],
     bodies: &mut [u8],
 ) -> Extent
-    requires { (e.lost + length body.now + length bodies.old ≤ 18446744073709551615) × CounterFits p.modes (counter_read p.counter) × HoldingSome e data_set.old packages.old map_heads.old map_room.old fragment_heads.old bodies.old }
-    ensures { Observes (by_step p.modes p.id p.flags (counter_read p.counter) body.now) (by_new p.modes p.id p.flags (counter_read p.counter) body.now) (lead_by p.id (by_step p.modes p.id p.flags (counter_read p.counter) body.now)) p.most e data_set.old packages.old map_heads.old map_room.old fragment_heads.old bodies.old result data_set.new packages.new map_heads.new map_room.new fragment_heads.new bodies.new × (result.lost ≤ e.lost + length body.now + length bodies.old) × MovedOnce bodies.old body.now bodies.new }
+    requires { (e.lost + length body.now + length bodies.old ≤ 18446744073709551615) × HoldingSome e data_set.old packages.old map_heads.old map_room.old fragment_heads.old bodies.old }
+    ensures { Observes (by_step p.id p.flags body.now) (by_new p.id p.flags body.now) (lead_by p.id (by_step p.id p.flags body.now)) p.most e data_set.old packages.old map_heads.old map_room.old fragment_heads.old bodies.old result data_set.new packages.new map_heads.new map_room.new fragment_heads.new bodies.new × (result.lost ≤ e.lost + length body.now + length bodies.old) × MovedOnce bodies.old body.now bodies.new }
 {
-    if p.flags >> 6 == 0 {
-        return whole(
+    match p.flags >> 6 {
+        0 => whole(
             body,
             p,
             e,
@@ -293,24 +175,22 @@ fn by_indicator(
             map_room,
             fragment_heads,
             bodies,
-        );
+        ),
+        1 => first(body, p, e, fragment_heads, bodies),
+        2 => middle(body, p, e, fragment_heads, bodies),
+        _ => last(
+            body,
+            e,
+            p.id,
+            p.most,
+            data_set,
+            packages,
+            map_heads,
+            map_room,
+            fragment_heads,
+            bodies,
+        ),
     }
-    let counter = p.counter;
-    let Counter::Is(c) = counter else {
-        return discard(p.id, e, fragment_heads, bodies);
-    };
-    fragment(
-        body,
-        e,
-        c,
-        p,
-        data_set,
-        packages,
-        map_heads,
-        map_room,
-        fragment_heads,
-        bodies,
-    )
 }
 
 // What is new; what stands in a payload that is not read is not known, so that it may be anything.
@@ -331,7 +211,6 @@ pub fn observe(
     payload: &[u8],
     id: u16,
     most: usize,
-    modes: Modes,
     e: Extent,
     data_set: &mut [u64; 1024],
     packages: &mut [u32; 255],
@@ -341,7 +220,7 @@ pub fn observe(
     bodies: &mut [u8],
 ) -> Extent
     requires { (e.lost + length payload.now + length bodies.old ≤ 18446744073709551615) × HoldingSome e data_set.old packages.old map_heads.old map_room.old fragment_heads.old bodies.old }
-    ensures { Observes (λ L k. observe L modes id payload.now k) (λ L k. news L modes id payload.now k) (λ L k. leading_observed L modes id payload.now k) most e data_set.old packages.old map_heads.old map_room.old fragment_heads.old bodies.old result data_set.new packages.new map_heads.new map_room.new fragment_heads.new bodies.new × (result.lost ≤ e.lost + length payload.now + length bodies.old) × MovedOnce bodies.old (drop 2 payload.now) bodies.new }
+    ensures { Observes (λ L k. observe L id payload.now k) (λ L k. news L id payload.now k) (λ L k. leading_observed L id payload.now k) most e data_set.old packages.old map_heads.old map_room.old fragment_heads.old bodies.old result data_set.new packages.new map_heads.new map_room.new fragment_heads.new bodies.new × (result.lost ≤ e.lost + length payload.now + length bodies.old) × MovedOnce bodies.old (drop 2 payload.now) bodies.new }
 {
     if payload.len() == 0 {
         return e;
@@ -351,13 +230,7 @@ pub fn observe(
     }
     let flags = payload[0];
     let body = body_of(payload);
-    let p = Piece {
-        flags,
-        counter: counter_of(payload, modes),
-        id,
-        most,
-        modes,
-    };
+    let p = Piece { flags, id, most };
     by_indicator(
         body,
         e,

@@ -53,29 +53,29 @@ module _ (L : Limits) (M : Modes) (o : Options) where
   unfolding pass
   pass_append k [] qs = chained_none k (pass L M o k qs)
   pass_append k (p ∷ ps) qs =
-      let l = learn L M k p in
+      let l = learn L k p in
       let w = withheld o l.known (mmtp_of p) in
       let rest = pass L M o l.known ps in
       ap (pass_one w (narrow_packet M o p) p l.lost) (pass_append l.known ps qs)
       ∙ one_chained w (narrow_packet M o p) p l.lost rest (pass L M o rest.known qs)
       ∙ ap (λ (x : Known). chained (pass_one w (narrow_packet M o p) p l.lost rest) (pass L M o x qs)) (same w rest)
     where
-      same : (w : Bool) (x : Passed) → x.known ≡ (pass_one w (narrow_packet M o p) p (learn L M k p).lost x).known
+      same : (w : Bool) (x : Passed) → x.known ≡ (pass_one w (narrow_packet M o p) p (learn L k p).lost x).known
       same true x = refl
       same false x = refl
 
 -- How many fragments lead, over packets and further packets.
 pub leading_append : (L : Limits) (M : Modes) (o : Options) (k : Known) (ps qs : List Bytes) (leading : ℕ)
-    → leading_over L M k (ps ++ qs) leading ≡ leading_over L M (pass L M o k ps).known qs (leading_over L M k ps leading)
+    → leading_over L k (ps ++ qs) leading ≡ leading_over L (pass L M o k ps).known qs (leading_over L k ps leading)
 unfolding leading_over pass
 leading_append L M o k [] qs leading = refl
 leading_append L M o k (p ∷ ps) qs leading =
-    let l = learn L M k p in
-    let now = leading_from L M (mmtp_of p) k leading in
+    let l = learn L k p in
+    let now = leading_from L (mmtp_of p) k leading in
     leading_append L M o l.known ps qs now
-    ∙ ap (λ (x : Known). leading_over L M x qs (leading_over L M l.known ps now)) (same (withheld o l.known (mmtp_of p)) (pass L M o l.known ps))
+    ∙ ap (λ (x : Known). leading_over L x qs (leading_over L l.known ps now)) (same (withheld o l.known (mmtp_of p)) (pass L M o l.known ps))
   where
-    same : (w : Bool) (x : Passed) → x.known ≡ (pass_one w (narrow_packet M o p) p (learn L M k p).lost x).known
+    same : (w : Bool) (x : Passed) → x.known ≡ (pass_one w (narrow_packet M o p) p (learn L k p).lost x).known
     same true x = refl
     same false x = refl
 
@@ -111,7 +111,7 @@ module _ (L : Limits) (M : Modes) (o : Options) (k : Known) (leading : ℕ) (d :
       → SetIs (drops o next.known) set'
       → r.ready ≡ ready o.service next.known
       → r.extent.lost ≡ s.extent.lost + next.lost
-      → r.extent.leading ≡ leading_over L M before.known qs s.extent.leading
+      → r.extent.leading ≡ leading_over L before.known qs s.extent.leading
       → r.counts ≡ counts_after s.counts r.counts.bytes next (length qs) m
       → Wrote (flatten next.out) out s.counts.bytes out' r.counts.bytes
       → Sofar L M o k leading d (ps ++ qs) (n + m) r data_set' packages' map_heads' map_room' fragment_heads' bodies' set' out'
@@ -134,7 +134,7 @@ module _ (L : Limits) (M : Modes) (o : Options) (k : Known) (leading : ℕ) (d :
         set_is = rw e t;
         ready_is = rw e y;
         lost_is = rw e (l ∙ ap (λ (z : ℕ). z + next.lost) f.lost_is);
-        leading_is = a' ∙ ap (leading_over L M before.known qs) f.leading_is ∙ sym (leading_append L M o k ps qs leading);
+        leading_is = a' ∙ ap (leading_over L before.known qs) f.leading_is ∙ sym (leading_append L M o k ps qs leading);
         counts_are = rw e (c ∙ counts);
         written = rw (e, flatten_append before.out next.out) (wrote_then f.written w);
       }

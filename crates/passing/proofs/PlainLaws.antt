@@ -81,9 +81,9 @@ module _ (o : Options) (k : Known) (p : Bytes) (ws : Words) (is : Bool) (t : Set
   pub plain_withheld : {stop : Bool} → Plain p ws is stop → withheld o k (mmtp_of p) ≡ stop
   plain_withheld h = withheld_by (mmtp_of p) (identifier_small p) h.other ∙ h.fate
 
-learn_nothing : (L : Limits) (M : Modes) (k : Known) (x : Option Mmtp) → signals x ≡ false → learn_from L M x k ≡ learnt k
-learn_nothing L M k none e = refl
-learn_nothing L M k (some m) e = rw e
+learn_nothing : (L : Limits) (k : Known) (x : Option Mmtp) → signals x ≡ false → learn_from L x k ≡ learnt k
+learn_nothing L k none e = refl
+learn_nothing L k (some m) e = rw e
 
 narrow_nothing : (M : Modes) (o : Options) (p : Bytes) (x : Option Mmtp) → signals x ≡ false → packet_for M o p x ≡ none
 narrow_nothing M o p none e = refl
@@ -93,7 +93,7 @@ module _ (L : Limits) (M : Modes) (o : Options) (k : Known) (p : Bytes) (ws : Wo
   one_plain : (stop : Bool) (ps : List Bytes) → Plain p ws is stop → pass L M o k (p ∷ ps) ≡ pass_one stop none p 0 (pass L M o k ps)
   unfolding pass learn narrow_packet
   one_plain stop ps h =
-      let l : learn L M k p ≡ learnt k = learn_nothing L M k (mmtp_of p) h.other in
+      let l : learn L k p ≡ learnt k = learn_nothing L k (mmtp_of p) h.other in
       rw (l, plain_withheld o k p ws is t y h, narrow_nothing M o p (mmtp_of p) h.other)
 
   -- withheld
@@ -102,20 +102,20 @@ module _ (L : Limits) (M : Modes) (o : Options) (k : Known) (p : Bytes) (ws : Wo
   pass_withheld h = one_plain true [] h
 
 -- and leave the fragments where they are
-lead_nothing : (L : Limits) (M : Modes) (k : Known) (x : Option Mmtp) (leading : ℕ) → signals x ≡ false → leading_from L M x k leading ≡ leading
-lead_nothing L M k none leading e = refl
-lead_nothing L M k (some m) leading e = rw e
+lead_nothing : (L : Limits) (k : Known) (x : Option Mmtp) (leading : ℕ) → signals x ≡ false → leading_from L x k leading ≡ leading
+lead_nothing L k none leading e = refl
+lead_nothing L k (some m) leading e = rw e
 
-pub plain_leads : (L : Limits) (M : Modes) (k : Known) (p : Bytes) (ps : List Bytes) (ws : Words) (is stop : Bool) (leading : ℕ) → Plain p ws is stop → leading_over L M k (p ∷ ps) leading ≡ leading_over L M k ps leading
+pub plain_leads : (L : Limits) (k : Known) (p : Bytes) (ps : List Bytes) (ws : Words) (is stop : Bool) (leading : ℕ) → Plain p ws is stop → leading_over L k (p ∷ ps) leading ≡ leading_over L k ps leading
 unfolding leading_over learn
-plain_leads L M k p ps ws is stop leading h =
-    let l : learn L M k p ≡ learnt k = learn_nothing L M k (mmtp_of p) h.other in
-    ap₂ (λ (x : Known) (n : ℕ). leading_over L M x ps n) (ap (λ (x : Learnt). x.known) l) (lead_nothing L M k (mmtp_of p) leading h.other)
+plain_leads L k p ps ws is stop leading h =
+    let l : learn L k p ≡ learnt k = learn_nothing L k (mmtp_of p) h.other in
+    ap₂ (λ (x : Known) (n : ℕ). leading_over L x ps n) (ap (λ (x : Learnt). x.known) l) (lead_nothing L k (mmtp_of p) leading h.other)
 
-pub row_leads : (L : Limits) (M : Modes) (k : Known) (ws : Words) (is : Bool) (ps : List Bytes) (leading : ℕ) → AllPass ws is ps → leading_over L M k ps leading ≡ leading
+pub row_leads : (L : Limits) (k : Known) (ws : Words) (is : Bool) (ps : List Bytes) (leading : ℕ) → AllPass ws is ps → leading_over L k ps leading ≡ leading
 unfolding leading_over
-row_leads L M k ws is [] leading h = refl
-row_leads L M k ws is (p ∷ ps) leading h = plain_leads L M k p ps ws is false leading h.0 ∙ row_leads L M k ws is ps leading h.1
+row_leads L k ws is [] leading h = refl
+row_leads L k ws is (p ∷ ps) leading h = plain_leads L k p ps ws is false leading h.0 ∙ row_leads L k ws is ps leading h.1
 
 -- all that pass go out as they are
 pub pass_row : (L : Limits) (M : Modes) (o : Options) (k : Known) (ws : Words) (is : Bool) → SetIs (drops o k) ws → is ≡ ready o.service k → (ps : List Bytes) → AllPass ws is ps

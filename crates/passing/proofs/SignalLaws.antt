@@ -96,15 +96,15 @@ refreshed_anew b o e was data_set packages map_heads map_room set r set' q h = r
 
 module _ (L : Limits) (M : Modes) (o : Options) (id : ℕ) (s : Bytes) (k : Known) where
   abbrev after : Known
-  after = (observe L M id s k).known
+  after = (observe L id s k).known
 
   refreshed_is : (b : Bool) {e : Extent} {was : Bool} {data_set packages map_heads map_room : List ℕ} {set : Words} {r : Bool} {set' : Words}
-      → b ≡ (news L M id s k).changed → Refreshed b o e was data_set packages map_heads map_room set r set' → Keeps after e data_set packages map_heads map_room
+      → b ≡ (news L id s k).changed → Refreshed b o e was data_set packages map_heads map_room set r set' → Keeps after e data_set packages map_heads map_room
       → SetIs (drops o k) set → was ≡ ready o.service k
       → SetIs (drops o after) set' × (r ≡ ready o.service after)
   refreshed_is true b h keeps t y = h after keeps
   refreshed_is false b h keeps t y =
-      let x = still L M id s k (sym b) in (
+      let x = still L id s k (sym b) in (
         rw h.1 (record { all_words = t.all_words; member = λ q small. t.member q small ∙ sym (drops_still x o q) }),
         h.0 ∙ y ∙ sym (ready_still x o.service),
       )
@@ -113,18 +113,18 @@ module _ (L : Limits) (M : Modes) (o : Options) (id : ℕ) (s : Bytes) (k : Know
 
 module _ (L : Limits) (M : Modes) (o : Options) (k : Known) {p payload : Bytes} {id : ℕ} {w : Bool} (h : Signals p payload id w) where
   abbrev told : Learnt
-  told = observe L M id payload k
+  told = observe L id payload k
 
   abbrev passed_one : Passed
   passed_one = pass_one (drops o told.known id) (narrow_packet M o p) p told.lost (none_passed told.known)
 
-  learns_as : learn L M k p ≡ told
+  learns_as : learn L k p ≡ told
   unfolding learn
-  learns_as = ap (λ (m : Option Mmtp). learn_from L M m k) h.read
+  learns_as = ap (λ (m : Option Mmtp). learn_from L m k) h.read
 
-  leads_as : (leading : ℕ) → leading_over L M k (p ∷ []) leading ≡ leading_observed L M id payload k leading
+  leads_as : (leading : ℕ) → leading_over L k (p ∷ []) leading ≡ leading_observed L id payload k leading
   unfolding leading_over
-  leads_as leading = ap (λ (m : Option Mmtp). leading_from L M m k leading) h.read
+  leads_as leading = ap (λ (m : Option Mmtp). leading_from L m k leading) h.read
 
   withheld_as : (j : Known) → withheld o j (mmtp_of p) ≡ drops o j id
   withheld_as j = ap (withheld o j) h.read ∙ or_false (drops o j id)
@@ -155,9 +155,9 @@ module _ (y : Option Bytes) (p : Bytes) (lost : ℕ) (k : Known) (c : Counts) (d
   emitted_bytes true h = rw (h.0, h.1) (wrote_none d c.bytes)
   emitted_bytes false h = rw (append-nil (get_or y p)) h.1
 
-known_after_lem : (b : Bool) (y : Option Bytes) (p : Bytes) (lost : ℕ) (k : Known) → (pass_one b y p lost (none_passed k)).known ≡ k
-known_after_lem true y p lost k = refl
-known_after_lem false y p lost k = refl
+known_after : (b : Bool) (y : Option Bytes) (p : Bytes) (lost : ℕ) (k : Known) → (pass_one b y p lost (none_passed k)).known ≡ k
+known_after true y p lost k = refl
+known_after false y p lost k = refl
 
 lost_after : (b : Bool) (y : Option Bytes) (p : Bytes) (lost : ℕ) (k : Known) → (pass_one b y p lost (none_passed k)).lost ≡ lost
 lost_after true y p lost k = omega arith
@@ -169,13 +169,13 @@ module _ (L : Limits) (M : Modes) (o : Options) (k : Known) (leading : ℕ) (d :
   here = (pass L M o k ps).known
 
   abbrev step : Learnt
-  step = observe L M id payload here
+  step = observe L id payload here
 
   -- A run has come one packet further.
   pub signalled : {data_set packages map_heads map_room fragment_heads : List ℕ} {bodies : Bytes} {set : Words} {out : Bytes}
       {data_set' packages' map_heads' map_room' fragment_heads' : List ℕ} {bodies' : Bytes} {set' : Words} {out' : Bytes}
       → Sofar L M o k leading d ps n s data_set packages map_heads map_room fragment_heads bodies set out
-      → Observed L.total step (news L M id payload here) (leading_observed L M id payload here s.extent.leading) (no_change s.extent) r.extent data_set' packages' map_heads' map_room' fragment_heads' bodies'
+      → Observed L.total step (news L id payload here) (leading_observed L id payload here s.extent.leading) (no_change s.extent) r.extent data_set' packages' map_heads' map_room' fragment_heads' bodies'
       → Refreshed r.extent.news.changed o r.extent s.ready data_set' packages' map_heads' map_room' set r.ready set'
       → Emitted (in_set set' id) (narrow_packet M o p) p s.counts out r.counts out'
       → Sofar L M o k leading d (ps ++ p ∷ []) (n + 0) r data_set' packages' map_heads' map_room' fragment_heads' bodies' set' out'
@@ -185,7 +185,7 @@ module _ (L : Limits) (M : Modes) (o : Options) (k : Known) (leading : ℕ) (d :
       let x = rw b at sent in
       let y = narrow_packet M o p in
       let passes = passes_as L M o here h in
-      let knows : (pass L M o here (p ∷ [])).known ≡ step.known = ap (λ (z : Passed). z.known) passes ∙ known_after_lem (drops o step.known id) y p step.lost step.known in
+      let knows : (pass L M o here (p ∷ [])).known ≡ step.known = ap (λ (z : Passed). z.known) passes ∙ known_after (drops o step.known id) y p step.lost step.known in
       let loses : (pass L M o here (p ∷ [])).lost ≡ step.lost = ap (λ (z : Passed). z.lost) passes ∙ lost_after (drops o step.known id) y p step.lost step.known in
       further L M o k leading d ps (p ∷ []) n 0 s r data_set packages map_heads map_room fragment_heads bodies set out data_set' packages' map_heads' map_room' fragment_heads' bodies' set' out' f
       (rw knows seen.holding)

@@ -304,32 +304,32 @@ module _ (o : Options) (q : ℕ) (ps : List (ℕ × ℕ)) where
 
   -- ---- a payload
 
-  module _ (L : Limits) (M : Modes) (k : Known) (w : Tells k) where
-    whole_spared : (flags counter : ℕ) (r s : Bytes) → Wanted o q (news L M q (flags ∷ counter ∷ r) k) ps
+  module _ (L : Limits) (k : Known) (w : Tells k) where
+    whole_spared : (flags counter : ℕ) (r s : Bytes) → Wanted o q (news L q (flags ∷ counter ∷ r) k) ps
         → payload_for o q s (cond (eqb (indicator flags) 0 && eqb (aggregated flags) 0) (pa_of (message r)) none) ≡ none
     unfolding news messages in_body
     whole_spared flags counter r s h = go (in_set k.data_set q) (indicator flags) refl (aggregated flags) refl h
       where
-        go : (a : Bool) (i : ℕ) → indicator flags ≡ i → (g : ℕ) → aggregated flags ≡ g → Wanted o q (cond a anything (news_by i L M q flags (counter ∷ r) k)) ps
+        go : (a : Bool) (i : ℕ) → indicator flags ≡ i → (g : ℕ) → aggregated flags ≡ g → Wanted o q (cond a anything (news_by i L q flags (counter ∷ r) k)) ps
             → payload_for o q s (cond (eqb i 0 && eqb g 0) (pa_of (message r)) none) ≡ none
         go true zero ei zero eg h = message_spared s (message r) k w (wanted_any h (news_messages q (cons_message (message r) []) k))
         go false zero ei zero eg h = message_spared s (message r) (with_fragments (without q k.fragments) k) w (rw (ei, eg) at h)
         go a zero ei (suc g) eg h = rw (ne_eqb (suc g) 0 (λ z. absurd (omega arith)))
         go a (suc i) ei g eg h = rw (ne_eqb (suc i) 0 (λ z. absurd (omega arith)))
 
-    spared : (s : Bytes) → Wanted o q (news L M q s k) ps → narrow_payload o q s ≡ none
+    spared : (s : Bytes) → Wanted o q (news L q s k) ps → narrow_payload o q s ≡ none
     unfolding narrow_payload pa_message
     spared [] h = refl
     spared (flags ∷ []) h = refl
     spared (flags ∷ counter ∷ r) h = whole_spared flags counter r (flags ∷ counter ∷ r) h
 
 -- What is new with a payload, and the packages that are known after it, tell where narrowing leaves it.
-pub spares : (o : Options) (L : Limits) (M : Modes) (q : ℕ) (k : Known) (s : Bytes) (n : News) (ps : List (ℕ × ℕ)) → n ≡ news L M q s k → ps ≡ (observe L M q s k).known.packages → Spares o q n ps s
-spares o L M q k s n ps e f h =
+pub spares : (o : Options) (L : Limits) (q : ℕ) (k : Known) (s : Bytes) (n : News) (ps : List (ℕ × ℕ)) → n ≡ news L q s k → ps ≡ (observe L q s k).known.packages → Spares o q n ps s
+spares o L q k s n ps e f h =
     let x = wanted_all o q n ps h in
     let tells : (v : ℕ) → o.service ≡ Service.Only v → q ≡ 0 → ps ≡ k.packages =
-    λ v a z. f ∙ ap (λ (j : Known). j.packages) (still L M q s k (sym (ap (λ (m : News). m.changed) e) ∙ (listed o q ps v n a z x).same)).known_is in
-    spared o q ps L M k tells s (rw e at x)
+    λ v a z. f ∙ ap (λ (j : Known). j.packages) (still L q s k (sym (ap (λ (m : News). m.changed) e) ∙ (listed o q ps v n a z x).same)).known_is in
+    spared o q ps L k tells s (rw e at x)
 
 -- A packet whose payload stays, stays.
 pub packet_spared : (M : Modes) (o : Options) (p : Bytes) (m : Mmtp) → narrow_payload o m.identifier m.payload ≡ none → packet_for M o p (some m) ≡ none

@@ -59,7 +59,7 @@ module _ (t : Terms) (y : Machine) where
       let v : s.counts.skipped ≡ s.counts.skipped + 0 = omega arith in
       further L M o k leading d ps qs n 0 s (with_row s (length qs) b) y.data_set y.packages y.map_heads y.map_room y.fragment_heads y.bodies y.set y.out
       y.data_set y.packages y.map_heads y.map_room y.fragment_heads y.bodies y.set out' f (rw q f.holding) (rw q f.set_is) (rw q f.ready_is) (rw q l)
-      (sym (row_leads L M (pass L M o k ps).known y.set s.ready qs s.extent.leading a))
+      (sym (row_leads L (pass L M o k ps).known y.set s.ready qs s.extent.leading a))
       (rw q (λ i. record { bytes = b; accepted = s.counts.accepted + length qs; written = s.counts.written + length qs; rewritten = u i; skipped = v i; lost = s.counts.lost }))
       (rw (q, e) w)
 
@@ -88,7 +88,7 @@ module _ (t : Terms) (y : Machine) where
       let v : s.counts.skipped ≡ s.counts.skipped + 0 = omega arith in
       further L M o k leading d ps (p ∷ []) n 0 s (with_withheld s) y.data_set y.packages y.map_heads y.map_room y.fragment_heads y.bodies y.set y.out
       y.data_set y.packages y.map_heads y.map_room y.fragment_heads y.bodies y.set y.out f (rw q f.holding) (rw q f.set_is) (rw q f.ready_is) (rw q l)
-      (sym (plain_leads L M (pass L M o k ps).known p [] y.set s.ready true s.extent.leading h))
+      (sym (plain_leads L (pass L M o k ps).known p [] y.set s.ready true s.extent.leading h))
       (rw q (λ i. record { bytes = s.counts.bytes; accepted = s.counts.accepted + 1; written = w i; rewritten = u i; skipped = v i; lost = s.counts.lost }))
       (rw q (wrote_none y.out s.counts.bytes))
 

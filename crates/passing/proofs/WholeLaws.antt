@@ -71,7 +71,7 @@ module _ (L : Limits) (M : Modes) (o : Options) (k : Known) (d : Bytes) where
 
     pub ends : (leading : ℕ) (p : Progress) (data_set packages map_heads map_room fragment_heads : List ℕ) (bodies : Bytes) (set : Words) (out : Bytes)
         → Sofar L M o k leading d ([] ++ (cut limit (drop 0 run)).packets) (0 + (cut limit (drop 0 run)).skipped) p data_set packages map_heads map_room fragment_heads bodies set out
-        → Ended (filtered L M o st chunk) (leading_over L M k (cut (packet_limit L.work) (held ++ chunk)).packets leading) p data_set packages map_heads map_room fragment_heads bodies out
+        → Ended (filtered L M o st chunk) (leading_over L k (cut (packet_limit L.work) (held ++ chunk)).packets leading) p data_set packages map_heads map_room fragment_heads bodies out
     unfolding filtered
     ends leading p data_set packages map_heads map_room fragment_heads bodies set out f =
         let c : Cut = cut limit (drop 0 run) in

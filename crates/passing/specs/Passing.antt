@@ -88,7 +88,7 @@ pub record Sofar (L : Limits) (M : Modes) (o : Options) (k : Known) (leading : �
   pub set_is : SetIs (drops o (pass L M o k ps).known) set
   pub ready_is : s.ready ≡ ready o.service (pass L M o k ps).known
   pub lost_is : s.extent.lost ≡ (pass L M o k ps).lost
-  pub leading_is : s.extent.leading ≡ leading_over L M k ps leading
+  pub leading_is : s.extent.leading ≡ leading_over L k ps leading
   pub counts_are : s.counts ≡ counts_for (pass L M o k ps) (length ps) skipped
   pub written : Wrote (flatten (pass L M o k ps).out) d 0 out s.counts.bytes
 

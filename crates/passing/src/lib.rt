@@ -249,7 +249,6 @@ fn signalling(
         payload,
         signal.id,
         t.most,
-        t.modes,
         before,
         data_set,
         packages,

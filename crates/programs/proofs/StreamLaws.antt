@@ -91,7 +91,7 @@ module _ (M : Modes) (o : Options) (w : wants_assets o ≡ true) (map_room : Lis
         record_is = own_leading program_limits M o 0 (program_calls M o []).state (record_in s.filter) (r ∙ ap (record_of program_limits M o 0) (sym fresh_is));
         state_is =
             ap (λ (z : Record). state_of z work bodies map_room) r
-            ∙ fresh_back program_limits M o work bodies map_room total_few (subst (HoldsState program_limits M o) fresh_is (calls_hold M o w []))
+            ∙ fresh_back program_limits M o work bodies map_room total_few (subst (HoldsState program_limits o) fresh_is (calls_hold M o w []))
             ∙ sym fresh_is;
         work_long = l;
         bodies_long = b;
@@ -134,7 +134,7 @@ module _ (M : Modes) (o : Options) (cs : List Bytes) (x y : Standing) (work bodi
   st = (program_calls M o cs).state
 
   abbrev led : ℕ
-  led = leading_pushed program_limits M o st chunk (record_in x.filter).leading
+  led = leading_pushed program_limits o st chunk (record_in x.filter).leading
 
   one : program_calls M o (cs ++ (chunk ∷ [])) ≡ joined (program_calls M o cs) (alone (push program_limits M o st chunk))
   one = calls_one M o h.assets_wanted cs chunk few

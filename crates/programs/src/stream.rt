@@ -284,10 +284,7 @@ fn by_head(
         Asked::Refused(refusal) => unasked(false, refusal),
         Asked::For(o) => {
             // No flag of an input turns a mode on.
-            let modes = Modes {
-                plain_ip: false,
-                strict_joining: false,
-            };
+            let modes = Modes { plain_ip: false };
             let x = started(o, modes, writes, chunk, work, bodies, map_room, out);
             ending(x)
         }

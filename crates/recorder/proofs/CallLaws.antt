@@ -116,12 +116,12 @@ module _ (L : Limits) (t : Terms) (k : Known) (held chunk out out' : Bytes) (W :
   pub call_ends : Sofar L M o k leading out ([] ++ all.packets) (0 + all.skipped) p data_set packages map_heads map_room fragment_heads bodies set out'
       → x ≡ record { extent = p.extent; counts = ended L M o k out p; held_count = length all.held }
       → take (length all.held) work ≡ all.held
-      → CarriedOutAs L (filtered L M o (record { held = held; known = k }) chunk) (leading_over L M k (cut (packet_limit L.work) (held ++ chunk)).packets leading) out x data_set packages map_heads map_room fragment_heads bodies work out'
+      → CarriedOutAs L (filtered L M o (record { held = held; known = k }) chunk) (leading_over L k (cut (packet_limit L.work) (held ++ chunk)).packets leading) out x data_set packages map_heads map_room fragment_heads bodies work out'
   call_ends f e d =
       let q : t.limit ≡ packet_limit L.work = limit ∙ ap packet_limit (sym same) in
       let y = ends L M o k out held chunk (held ++ chunk) t.limit refl q leading p data_set packages map_heads map_room fragment_heads bodies set out' f in
       let h : all.held ≡ (filtered L M o (record { held = held; known = k }) chunk).state.held = held_same L M o k out held chunk (held ++ chunk) t.limit refl q in
-      subst (λ (z : CarriedOut). CarriedOutAs L (filtered L M o (record { held = held; known = k }) chunk) (leading_over L M k (cut (packet_limit L.work) (held ++ chunk)).packets leading) out z data_set packages map_heads map_room fragment_heads bodies work out') (sym e)
+      subst (λ (z : CarriedOut). CarriedOutAs L (filtered L M o (record { held = held; known = k }) chunk) (leading_over L k (cut (packet_limit L.work) (held ++ chunk)).packets leading) out z data_set packages map_heads map_room fragment_heads bodies work out') (sym e)
       (record { holding = y.holding; leading_is = y.leading_is; held_is = ap length h; held_bytes = d ∙ h; counts_are = y.counts_are; written = y.written })
 
   -- in two parts
@@ -129,7 +129,7 @@ module _ (L : Limits) (t : Terms) (k : Known) (held chunk out out' : Bytes) (W :
       → Sofar L M o k leading out (joined (cut t.limit a) (cut t.limit b)).packets (joined (cut t.limit a) (cut t.limit b)).skipped p data_set packages map_heads map_room fragment_heads bodies set out'
       → x ≡ ended_of p (length (joined (cut t.limit a) (cut t.limit b)).held)
       → take x.held_count work ≡ (joined (cut t.limit a) (cut t.limit b)).held
-      → CarriedOutAs L (filtered L M o (record { held = held; known = k }) chunk) (leading_over L M k (cut (packet_limit L.work) (held ++ chunk)).packets leading) out x data_set packages map_heads map_room fragment_heads bodies work out'
+      → CarriedOutAs L (filtered L M o (record { held = held; known = k }) chunk) (leading_over L k (cut (packet_limit L.work) (held ++ chunk)).packets leading) out x data_set packages map_heads map_room fragment_heads bodies work out'
   parts_end a b s h f e d =
       let c : all ≡ joined (cut t.limit a) (cut t.limit b) = ap (cut t.limit) s ∙ h in
       call_ends
@@ -145,7 +145,7 @@ module _ (L : Limits) (t : Terms) (k : Known) (held chunk first second out out' 
       → Holding L.total k e data_set packages map_heads map_room fragment_heads bodies
       → PartsPassed first second t e data_set packages map_heads map_room fragment_heads bodies out x data_set' packages' map_heads' map_room' fragment_heads' bodies' out'
       → HeldOn x n second work₁ r work'
-      → CarriedOutAs L (filtered L t.modes t.options (record { held = held; known = k }) chunk) (leading_over L t.modes k (cut (packet_limit L.work) (held ++ chunk)).packets e.leading) out r data_set' packages' map_heads' map_room' fragment_heads' bodies' work' out'
+      → CarriedOutAs L (filtered L t.modes t.options (record { held = held; known = k }) chunk) (leading_over L k (cut (packet_limit L.work) (held ++ chunk)).packets e.leading) out r data_set' packages' map_heads' map_room' fragment_heads' bodies' work' out'
   parts_carried limit same most run apart front h passed on =
       let s = passed.passed L k most h in
       let left : drop x.first_at (take n work₁) ++ drop x.second_at second ≡ (cut t.limit first).held ++ (cut t.limit second).held =
@@ -158,7 +158,7 @@ module _ (L : Limits) (t : Terms) (k : Known) (held chunk first second out out' 
 pub held_ends : (L : Limits) (M : Modes) (o : Options) (k : Known) (held chunk out work : Bytes) (W P : ℕ) (e : Extent) (x : CarriedOut) (data_set packages map_heads map_room fragment_heads : List ℕ) (bodies : Bytes)
     → P ≡ packet_limit W → L.work ≡ W → cut P (held ++ chunk) ≡ hold (held ++ chunk) → x ≡ record { extent = e; counts = counts_of 0; held_count = length (held ++ chunk) }
     → take (length (held ++ chunk)) work ≡ held ++ chunk → Holding L.total k e data_set packages map_heads map_room fragment_heads bodies
-    → CarriedOutAs L (filtered L M o (record { held = held; known = k }) chunk) (leading_over L M k (cut (packet_limit L.work) (held ++ chunk)).packets e.leading) out x data_set packages map_heads map_room fragment_heads bodies work out
+    → CarriedOutAs L (filtered L M o (record { held = held; known = k }) chunk) (leading_over L k (cut (packet_limit L.work) (held ++ chunk)).packets e.leading) out x data_set packages map_heads map_room fragment_heads bodies work out
 unfolding filtered pass flatten leading_over
 held_ends L M o k held chunk out work W P e x data_set packages map_heads map_room fragment_heads bodies limit same c q d h =
     let z : cut (packet_limit L.work) (held ++ chunk) ≡ hold (held ++ chunk) = ap (λ (n : ℕ). cut (packet_limit n) (held ++ chunk)) same ∙ ap (λ (n : ℕ). cut n (held ++ chunk)) (sym limit) ∙ c in
@@ -170,7 +170,7 @@ held_ends L M o k held chunk out work W P e x data_set packages map_heads map_ro
 pub all_copied : (L : Limits) (M : Modes) (o : Options) (k : Known) (held_count : ℕ) (chunk work out out' : Bytes) (e : Extent) (x : CarriedOut) (data_set packages map_heads map_room fragment_heads : List ℕ) (bodies : Bytes)
     → copies_all o ≡ true → held_count ≡ 0 → x ≡ record { extent = e; counts = counts_of (length chunk); held_count = 0 } → Wrote chunk out 0 out' (length chunk)
     → Holding L.total k e data_set packages map_heads map_room fragment_heads bodies
-    → CarriedOutAs L (push L M o (record { held = take held_count work; known = k }) chunk) (leading_pushed L M o (record { held = take held_count work; known = k }) chunk e.leading) out x data_set packages map_heads map_room fragment_heads bodies work out'
+    → CarriedOutAs L (push L M o (record { held = take held_count work; known = k }) chunk) (leading_pushed L o (record { held = take held_count work; known = k }) chunk e.leading) out x data_set packages map_heads map_room fragment_heads bodies work out'
 unfolding push leading_pushed flatten
 all_copied L M o k held_count chunk work out out' e x data_set packages map_heads map_room fragment_heads bodies all none q w h =
     let z : take held_count work ≡ [] = ap (λ (n : ℕ). take n work) none in
@@ -188,10 +188,10 @@ pub not_all : (L : Limits) (M : Modes) (o : Options) (st : State) (chunk : Bytes
 unfolding push
 not_all L M o st chunk e = rw e
 
-pub not_all_leads : (L : Limits) (M : Modes) (o : Options) (st : State) (chunk : Bytes) (leading : ℕ) → copies_all o ≡ false
-    → leading_over L M st.known (cut (packet_limit L.work) (st.held ++ chunk)).packets leading ≡ leading_pushed L M o st chunk leading
+pub not_all_leads : (L : Limits) (o : Options) (st : State) (chunk : Bytes) (leading : ℕ) → copies_all o ≡ false
+    → leading_over L st.known (cut (packet_limit L.work) (st.held ++ chunk)).packets leading ≡ leading_pushed L o st chunk leading
 unfolding leading_pushed
-not_all_leads L M o st chunk leading e = rw e
+not_all_leads L o st chunk leading e = rw e
 
 module _ {L : Limits} {x y : Outcome} {m n : ℕ} {out : Bytes} {r : CarriedOut} {data_set packages map_heads map_room fragment_heads : List ℕ} {bodies work out' : Bytes} where
   pub ran_as : x ≡ y → m ≡ n → CarriedOutAs L x m out r data_set packages map_heads map_room fragment_heads bodies work out'

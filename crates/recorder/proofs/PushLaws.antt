@@ -31,7 +31,7 @@ use Rattle.recorder.specs.declared.Filter.{Filter}
 use Rattle.recorder.specs.declared.call.CarriedOut.{CarriedOut}
 use Rattle.soundness.specs.Parts.{limits_of, parts_sound}
 use Rattle.recorder.specs.Filter.{record_in, extent_of, begun_of, handed_of}
-use Rattle.recorder.specs.Slots.{cleared, taken_heads}
+use Rattle.recorder.specs.Slots.{cleared}
 use Rattle.recorder.specs.Calls.{RoomFor, CarriedOutAs, CarriesOut, PushedAs, DroppedAs}
 use Rattle.recorder.proofs.StateLaws.{Whole, record_parts, state_held, record_back, state_again}
 use Rattle.soundness.proofs.PartLaws.{limit_fits}
@@ -96,12 +96,12 @@ module _ (f : Filter) (work bodies : Bytes) (map_room : List ℕ) (chunk out : B
 
     -- the arrays, cleared, hold the record's state
     held_count : Holding f.total (state_of r work bodies map_room).known (extent_of f) f.data_set (cleared f.package_count f.packages) (cleared f.map_count f.map_heads) map_room
-        (taken_heads f.modes f.fragment_count f.fragment_heads) bodies
+        (cleared f.fragment_count f.fragment_heads) bodies
     unfolding record_in
     held_count = state_held r work bodies map_room (extent_of f) when_done.is_sound all (record { seen_is = refl; packages_are = refl; map_heads_are = refl; fragments_are = refl; leading_is = refl })
 
     pub may_carry_out : RoomFor (extent_of f) f.held_count chunk work out × (copies_all f.options ≡ true → f.held_count ≡ 0)
-        × HoldingSome (extent_of f) f.data_set (cleared f.package_count f.packages) (cleared f.map_count f.map_heads) map_room (taken_heads f.modes f.fragment_count f.fragment_heads) bodies
+        × HoldingSome (extent_of f) f.data_set (cleared f.package_count f.packages) (cleared f.map_count f.map_heads) map_room (cleared f.fragment_count f.fragment_heads) bodies
     unfolding record_in
     may_carry_out =
         let h = when_done in
@@ -125,7 +125,7 @@ module _ (f : Filter) (work bodies : Bytes) (map_room : List ℕ) (chunk out : B
     after = push L f.modes f.options (state_of r work bodies map_room) chunk
 
     abbrev led : ℕ
-    led = leading_pushed L f.modes f.options (state_of r work bodies map_room) chunk f.leading
+    led = leading_pushed L f.options (state_of r work bodies map_room) chunk f.leading
 
     called_done : called r work bodies map_room chunk (length out) ≡ record { number = 0; out = after.out; counts = after.counts; handed = record_of L f.modes f.options led after.state }
     unfolding called record_in
@@ -143,7 +143,7 @@ module _ (f : Filter) (work bodies : Bytes) (map_room : List ℕ) (chunk out : B
           let o = f.options in
           let same : record_in (handed_of (begun_of f) x data_set packages map_heads fragment_heads) ≡ record_of L M o led after.state = record_back L M o led after.state h.holding x.held_count h.held_is h.leading_is in
           let four : 4 ≤ packet_limit L.work = subst (λ (n : ℕ). 4 ≤ packet_limit n) (sym p.work_is) (good_limit (length work) p.work_good) in
-          let holds : HoldsState L M o after.state = push_holds L M o (state_of r work bodies map_room) chunk four (state_holds r work bodies map_room s) in
+          let holds : HoldsState L o after.state = push_holds L M o (state_of r work bodies map_room) chunk four (state_holds r work bodies map_room s) in
           let front : take (length after.state.held) work' ≡ after.state.held = ap (λ (n : ℕ). take n work') (sym h.held_is) ∙ h.held_bytes in
           record {
             answer_is = rw c (eqb-true (answer_number a) 0 e);
@@ -155,8 +155,8 @@ module _ (f : Filter) (work bodies : Bytes) (map_room : List ℕ) (chunk out : B
             bodies_length = h.holding.fragments_kept.total ∙ p.total_is;
           }
 
-      pub done_as : CarriesOut (λ L st. push L f.modes f.options st chunk) (λ L st. leading_pushed L f.modes f.options st chunk) f.most f.held_count (extent_of f) f.data_set (cleared f.package_count f.packages) (cleared f.map_count f.map_heads) map_room
-          (taken_heads f.modes f.fragment_count f.fragment_heads) bodies work out x data_set packages map_heads map_room' fragment_heads bodies' work' out' → length work' ≡ length work
+      pub done_as : CarriesOut (λ L st. push L f.modes f.options st chunk) (λ L st. leading_pushed L f.options st chunk) f.most f.held_count (extent_of f) f.data_set (cleared f.package_count f.packages) (cleared f.map_count f.map_heads) map_room
+          (cleared f.fragment_count f.fragment_heads) bodies work out x data_set packages map_heads map_room' fragment_heads bodies' work' out' → length work' ≡ length work
           → PushedAs r work bodies map_room chunk out (record { answer = a; counts = x.counts; filter = handed_of (begun_of f) x data_set packages map_heads fragment_heads }) work' bodies' map_room' out'
       unfolding record_in state_of
       done_as h long =

@@ -5,19 +5,19 @@ use mathlib.Core.Path.{◌≡◌, refl, sym, ap, ap₂, ◌∙◌, subst}
 use mathlib.Core.Bool.{Bool, true, ◌&&◌}
 use mathlib.Core.List.{List, [], ◌∷◌, ◌++◌, map}
 use native.Mathlib.Omega.{arith}
-use lib.ListN.{length, take, drop, replicate, length-map, take-append-drop}
+use lib.ListN.{length, take, drop, replicate, take-append-drop}
 use lib.Seq.{length-take-le}
 use lib.Dec.{leb}
 use borrow.Author.Tests.{leb-true}
 use Rattle.meaning.specs.Bytes.{Bytes}
 use Rattle.meaning.specs.Lists.{all}
-use Rattle.meaning.specs.Record.{State, slots, Record, pack_pair, pair_of, fragment_head, fragment_identifier, head_in, record_of, room_of, lens, fragments_in, state_of}
+use Rattle.meaning.specs.Record.{State, slots, Record, pack_pair, pair_of, fragment_head, fragment_identifier, record_of, room_of, lens, fragments_in, state_of}
 use Rattle.meaning.specs.Soundness.{rising, distinct, sound_packages, sound_maps, sound_fragments, sound, HoldsPackages, HoldsMaps, HoldsFragments}
 use Rattle.meaning.specs.declared.Limits.{Limits}
 use Rattle.meaning.specs.declared.Options.{Options}
 use Rattle.meaning.specs.declared.Modes.{Modes}
 use Rattle.meaning.proofs.ListLaws.{and_both}
-use Rattle.meaning.proofs.LayoutLaws.{take_map, length_in, heads_in_lem, free_in, room_in}
+use Rattle.meaning.proofs.LayoutLaws.{length_in, heads_in_lem, free_in, room_in}
 use Rattle.meaning.proofs.SoundnessLaws.{HoldsState, state_holds, state_back}
 use Rattle.fragments.specs.Fragments.{KeptFragments}
 use Rattle.learning.specs.News.{no_news}
@@ -26,7 +26,7 @@ use Rattle.observing.specs.Observed.{Holding}
 use Rattle.learning.specs.declared.Extent.{Extent}
 use Rattle.learning.proofs.PairLaws.{in_length}
 use Rattle.soundness.proofs.PartLaws.{SoundParts, sound_parts}
-use Rattle.recorder.specs.Slots.{cleared, taken_heads}
+use Rattle.recorder.specs.Slots.{cleared}
 
 -- ---- an array whose unused slots are cleared
 
@@ -71,21 +71,21 @@ module _ (n : ℕ) (xs : List ℕ) where
 
 -- ---- fragments: the heads' lengths are within the room
 
-pub fragments_kept : (M : Modes) (T n leading : ℕ) (hs : List ℕ) (bodies : Bytes) → sound_fragments T n hs ≡ true → length hs ≡ 256 → length bodies ≡ T → T ≤ 16777216
-    → HoldsFragments T (fragments_in M leading (take n hs) bodies) → KeptFragments T (fragments_in M leading (take n hs) bodies) n leading (taken_heads M n hs) bodies
+pub fragments_kept : (T n leading : ℕ) (hs : List ℕ) (bodies : Bytes) → sound_fragments T n hs ≡ true → length hs ≡ 256 → length bodies ≡ T → T ≤ 16777216
+    → HoldsFragments T (fragments_in leading (take n hs) bodies) → KeptFragments T (fragments_in leading (take n hs) bodies) n leading (cleared n hs) bodies
 unfolding sound_fragments lens
-fragments_kept M T n leading hs bodies e l t few h =
+fragments_kept T n leading hs bodies e l t few h =
     let apart = and_both (leb n 256 && distinct (map fragment_identifier (take n hs))) (leb (lens (take n hs)) T) e in
     let m : n ≤ 256 = leb-true n 256 (and_both (leb n 256) (distinct (map fragment_identifier (take n hs))) apart.0).0 in
     let w : lens (take n hs) ≤ T = leb-true (lens (take n hs)) T apart.1 in
     let within : lens (take n hs) ≤ length bodies = omega arith in
     record {
       heads = record {
-        count = sym (length_in M leading (take n hs) bodies ∙ length-take-le n hs (omega arith));
-        are = slots_kept 256 n (map (head_in M) hs) (length-map hs (head_in M) ∙ l) m (map fragment_head (fragments_in M leading (take n hs) bodies)) (heads_in_lem M leading (take n hs) bodies within ∙ sym (take_map (head_in M) n hs));
+        count = sym (length_in leading (take n hs) bodies ∙ length-take-le n hs (omega arith));
+        are = slots_kept 256 n hs l m (map fragment_head (fragments_in leading (take n hs) bodies)) (heads_in_lem leading (take n hs) bodies within);
       };
-      free = free_in M leading (take n hs) bodies within;
-      room_is = room_in M leading (take n hs) bodies within;
+      free = free_in leading (take n hs) bodies within;
+      room_is = room_in leading (take n hs) bodies within;
       total = t;
       total_few = few;
       hold = h;
@@ -121,7 +121,7 @@ pub record Extends (r : Record) (e : Extent) : Type 0 where
 
 pub state_held : (r : Record) (work bodies : Bytes) (map_room : List ℕ) (e : Extent) → sound r (length work) (length bodies) (length map_room) ≡ true → Whole r → Extends r e
     → Holding r.limits.total (state_of r work bodies map_room).known e r.data_set (cleared r.package_count r.packages) (cleared r.map_count r.map_heads) map_room
-    (taken_heads r.modes r.fragment_count r.fragment_heads) bodies
+    (cleared r.fragment_count r.fragment_heads) bodies
 unfolding state_of
 state_held r work bodies map_room e s w n =
     let p = record_parts r (length work) (length bodies) (length map_room) s in
@@ -142,7 +142,7 @@ state_held r work bodies map_room e s w n =
         map_room_all = p.map_room_good;
       };
       fragments_kept = rw (n.fragments_are, n.leading_is)
-          (fragments_kept r.modes T r.fragment_count r.leading r.fragment_heads bodies f w.fragments_all t (omega (arith, p.total_few, p.total_is)) h.fragments_hold);
+          (fragments_kept T r.fragment_count r.leading r.fragment_heads bodies f w.fragments_all t (omega (arith, p.total_few, p.total_is)) h.fragments_hold);
     }
 
 -- ---- the record of arrays that hold a state
@@ -189,7 +189,7 @@ module _ (L : Limits) (M : Modes) (o : Options) (leading : ℕ) (st : State) {e 
       }
 
   -- with a work room that begins with the held bytes, the record's state is this one
-  pub state_again : (work : Bytes) → HoldsState L M o st → e.leading ≡ leading → take (length st.held) work ≡ st.held → state_of (record_of L M o leading st) work bodies map_room ≡ st
+  pub state_again : (work : Bytes) → HoldsState L o st → e.leading ≡ leading → take (length st.held) work ≡ st.held → state_of (record_of L M o leading st) work bodies map_room ≡ st
   state_again work h l w =
       let fs = st.known.fragments in
       let n = length st.held in

@@ -195,7 +195,7 @@ pub fn carry_out(
     out: &mut [u8],
 ) -> CarriedOut
     requires { RoomFor b.extent b.held_count chunk.now work.old out.old × (copies_all b.options ≡ true → b.held_count ≡ 0) × HoldingSome b.extent data_set.old packages.old map_heads.old map_room.old fragment_heads.old bodies.old }
-    ensures { CarriesOut (λ L st. push L b.modes b.options st chunk.now) (λ L st. leading_pushed L b.modes b.options st chunk.now) b.limits.most b.held_count b.extent data_set.old packages.old map_heads.old map_room.old fragment_heads.old bodies.old work.old out.old result data_set.new packages.new map_heads.new map_room.new fragment_heads.new bodies.new work.new out.new }
+    ensures { CarriesOut (λ L st. push L b.modes b.options st chunk.now) (λ L st. leading_pushed L b.options st chunk.now) b.limits.most b.held_count b.extent data_set.old packages.old map_heads.old map_room.old fragment_heads.old bodies.old work.old out.old result data_set.new packages.new map_heads.new map_room.new fragment_heads.new bodies.new work.new out.new }
 {
     let o = b.options;
     let e = b.extent;

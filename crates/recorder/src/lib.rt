@@ -12,20 +12,20 @@ ghost use Rattle.meaning.specs.Calls.{counts_of};
 ghost use Rattle.meaning.specs.Start.{blank};
 ghost use Rattle.soundness.specs.Parts.{limits_of};
 ghost use Rattle.recorder.specs.Filter.{record_in, fresh_record, extent_of, begun_of, handed_of};
-ghost use Rattle.recorder.specs.Slots.{cleared, taken_heads};
+ghost use Rattle.recorder.specs.Slots.{cleared};
 ghost use Rattle.recorder.specs.Calls.{StartedAs, PushedAs, DroppedAs};
 
 use crate::call::{Begun, CarriedOut, Lengths, call_answer, carry_out, is_done};
 use crate::front::counts_of;
-use crate::slots::{clear_heads, clear32};
+use crate::slots::{clear32, clear64};
 use crate::sound::is_sound;
 use learning::{Extent, no_news};
 use meaning::{Answer, Counts, Limits, Modes, Options, Refusal, Service};
 use rules::dropped;
 use soundness::{good_fragment_room, good_map_room, good_work_room, wants_assets};
 
-// The record, as specs/Record.antt of `meaning` has it. In one that a start or a push that is not refused hands back, unused slots are zero,
-// and so are the fragments' counters in plain joining; in one handed in they may hold anything (D9), and `dropped` leaves them as they are.
+// The record, as specs/Record.antt of `meaning` has it. In one that a start or a push that is not refused hands back, unused slots are zero;
+// in one handed in they may hold anything (D9), and `dropped` leaves them as they are.
 #[derive(Drop)]
 pub struct Filter {
     // The start's limits: the lengths of the work room and of the fragment room, and the most bytes of one message.
@@ -49,7 +49,7 @@ pub struct Filter {
     pub packages: [u32; 255],
     // identifier * 65,536 + count
     pub map_heads: [u32; 64],
-    // identifier * 2^48 + flags * 2^40 + counter * 2^32 + length
+    // identifier * 2^48 + flags * 2^40 + length
     pub fragment_heads: [u64; 256],
 }
 
@@ -95,16 +95,7 @@ fn not_started(r: Refusal) -> Started
     };
     Started {
         answer: Answer::Refused(r),
-        filter: fresh(
-            0,
-            0,
-            0,
-            o,
-            Modes {
-                plain_ip: false,
-                strict_joining: false,
-            },
-        ),
+        filter: fresh(0, 0, 0, o, Modes { plain_ip: false }),
     }
 }
 
@@ -206,19 +197,18 @@ fn lengths(work: usize, bodies: usize, map_room: usize, chunk: usize, out: usize
     }
 }
 
-// Unused slots set to zero, and in plain joining the counters of fragments.
+// Unused slots set to zero.
 fn clear_unused(
     e: Extent,
-    modes: Modes,
     packages: &mut [u32; 255],
     map_heads: &mut [u32; 64],
     fragment_heads: &mut [u64; 256],
 )
-    ensures { (packages.new ≡ cleared e.package_count packages.old) × (map_heads.new ≡ cleared e.map_count map_heads.old) × (fragment_heads.new ≡ taken_heads modes e.fragment_count fragment_heads.old) }
+    ensures { (packages.new ≡ cleared e.package_count packages.old) × (map_heads.new ≡ cleared e.map_count map_heads.old) × (fragment_heads.new ≡ cleared e.fragment_count fragment_heads.old) }
 {
     clear32(packages, e.package_count);
     clear32(map_heads, e.map_count);
-    clear_heads(fragment_heads, e.fragment_count, modes);
+    clear64(fragment_heads, e.fragment_count);
 }
 
 // ---- and put together
@@ -316,8 +306,7 @@ impl Filter {
             return not_pushed(a, self);
         }
         let e = b.extent;
-        let modes = b.modes;
-        clear_unused(e, modes, &mut packages, &mut map_heads, &mut fragment_heads);
+        clear_unused(e, &mut packages, &mut map_heads, &mut fragment_heads);
         let mut data_set = self.data_set;
         let r = carry_out(
             b,

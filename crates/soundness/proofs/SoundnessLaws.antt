@@ -232,19 +232,19 @@ apart_begin {f} {n} {xs} l = record { within = omega arith; inside = l; are = ap
 module _ {f : ℕ → ℕ} {n : ℕ} {xs : List ℕ} {i : ℕ} (m : Apart f n xs i) where
   -- p is the identifier at index i, and t tells whether it stands again behind it
   module _ (h : i < n) {p : ℕ} (e : p ≡ f (get_or xs i 0)) {t : Bool} (a : t ≡ any (eqb p) (map f (rest n (i + 1) xs))) where
-    first_of : distinct (map f (take n xs)) ≡ (not t && distinct (map f (rest n (i + 1) xs)))
+    first_of_lem : distinct (map f (take n xs)) ≡ (not t && distinct (map f (rest n (i + 1) xs)))
     unfolding distinct
-    first_of =
+    first_of_lem =
         m.are
         ∙ ap (λ (ys : List ℕ). distinct (map f ys)) (rest_next n i xs h m.inside)
         ∙ ap (λ (q : ℕ). distinct (q ∷ map f (rest n (i + 1) xs))) (sym e)
         ∙ ap (λ (b : Bool). not b && distinct (map f (rest n (i + 1) xs))) (sym a)
 
     pub apart_next : t ≡ false → Apart f n xs (i + 1)
-    apart_next s = record { within = omega arith; inside = m.inside; are = first_of ∙ rw s }
+    apart_next s = record { within = omega arith; inside = m.inside; are = first_of_lem ∙ rw s }
 
     pub apart_twice : t ≡ true → false ≡ distinct (map f (take n xs))
-    apart_twice s = sym (first_of ∙ rw s)
+    apart_twice s = sym (first_of_lem ∙ rw s)
 
   pub apart_done : n ≤ i → true ≡ distinct (map f (take n xs))
   unfolding distinct

@@ -344,7 +344,7 @@ fn lengths(fragment_heads: &[u64; 256], n: usize) -> usize
     let mut sum: usize = 0;
     let mut i: usize = 0;
     while i < n {
-        sum += (fragment_heads[i] % 4294967296) as usize;
+        sum += (fragment_heads[i] % 1099511627776) as usize;
         i += 1;
     }
     sum

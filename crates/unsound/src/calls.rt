@@ -182,13 +182,6 @@ fn same_counts(f: Filter, g: Filter) -> bool {
     f.leading == g.leading
 }
 
-fn same_modes(m: Modes, n: Modes) -> bool {
-    if m.plain_ip != n.plain_ip {
-        return false;
-    }
-    m.strict_joining == n.strict_joining
-}
-
 fn same_record(f: Filter, g: Filter) -> bool {
     let o = f.options;
     let p = g.options;
@@ -197,7 +190,7 @@ fn same_record(f: Filter, g: Filter) -> bool {
     }
     let m = f.modes;
     let n = g.modes;
-    if !same_modes(m, n) {
+    if m.plain_ip != n.plain_ip {
         return false;
     }
     if !same_limits(f, g) {
@@ -337,9 +330,6 @@ pub fn start_in(work: &[u8], bodies: &[u8], map_room: &[u16]) -> Started {
         &map_room[0..m],
         T,
         o,
-        Modes {
-            plain_ip: true,
-            strict_joining: true,
-        },
+        Modes { plain_ip: true },
     )
 }

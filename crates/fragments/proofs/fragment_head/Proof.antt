@@ -18,27 +18,12 @@ mul-result-2 c = omega (arith, mask_lt c.args.flags 6)
 add-result : tie.Need-overflow-add-result
 add-result c = omega (arith, mask_lt c.args.flags 6)
 
-mul-result-3 : tie.Need-overflow-mul-result-3
-mul-result-3 c = search rules
-
 add-result-2 : tie.Need-overflow-add-result-2
 add-result-2 c = omega (arith, mask_lt c.args.flags 6)
 
-add-result-3 : tie.Need-overflow-add-result-3
-add-result-3 c = omega (arith, mask_lt c.args.flags 6)
-
 returns : tie.Need-returns
-returns c = ap (λ (z : ℕ). c.args.id * 281474976710656 + z * 1099511627776 + c.args.counter * 4294967296 + c.args.n) (and_mask c.args.flags 6)
+returns c = ap (λ (z : ℕ). c.args.id * 281474976710656 + z * 1099511627776 + c.args.n) (and_mask c.args.flags 6)
 
 pub fragment-head-spec : {M : Type 1} → statement M
 fragment-head-spec =
-    tie.close
-    (tie.spec
-    mul-result
-    cast-result
-    mul-result-2
-    add-result
-    mul-result-3
-    add-result-2
-    add-result-3
-    returns)
+    tie.close (tie.spec mul-result cast-result mul-result-2 add-result add-result-2 returns)

@@ -23,12 +23,12 @@ same_length c = search rules
 returns : tie.Need-returns
 returns c =
     let a = c.before.before.before.before.before.before.before.before.before.before.before.before.args in
-    grows_there a.id a.j a.body.now a.n a.leading a.fragment_heads.now a.bodies.now _ _ _ _ (c.before.before.before.before.before.place_of.ensures.0 ∙ c.before.before.before.before.before.before.before.before.find-fragment.ensures.0) c.before.before.grow-at.ensures
+    grows_there a.id a.most a.body.now a.n a.leading a.fragment_heads.now a.bodies.now _ _ _ _ (c.before.before.before.before.before.place_of.ensures.0 ∙ c.before.before.before.before.before.before.before.before.find-fragment.ensures.0) c.before.before.grow-at.ensures
 
 returns-2 : tie.Need-returns-2
 returns-2 c =
     let a = c.before.before.before.before.before.args in
-    absent a.id a.j a.body.now a.n a.leading a.fragment_heads.now a.bodies.now _ c.before.find-fragment.ensures.0 (omega arith)
+    absent a.id a.most a.body.now a.n a.leading a.fragment_heads.now a.bodies.now _ c.before.find-fragment.ensures.0 (omega arith)
 
 pub grow_spec : {M : Type 1} → statement M
 grow_spec =

@@ -34,7 +34,7 @@ returns : tie.Need-returns
 returns c =
     let a = c.before.before.before.before.before.before.before.before.before.before.before.before.before.before.args in
     let place = c.before.before.before.before.before.before.before.before.place_of in
-    first_held a.id a.flags a.counter a.body.now a.n a.leading a.fragment_heads.now a.bodies.now place.result (place.ensures.0 ∙ c.before.before.before.before.before.before.before.before.before.before.find-fragment.ensures.0) place.ensures.2 _ _ _ place.ensures.1 c.before.before.put_behind.ensures
+    first_held a.id a.flags a.body.now a.n a.leading a.fragment_heads.now a.bodies.now place.result (place.ensures.0 ∙ c.before.before.before.before.before.before.before.before.before.before.find-fragment.ensures.0) place.ensures.2 _ _ _ place.ensures.1 c.before.before.put_behind.ensures
 
 drop-at-requires : tie.Need-drop-at-requires
 drop-at-requires c κs = let a = c.before.before.before.before.before.before.before.before.before.before.before.args in some_numbers a.n a.leading a.fragment_heads.now a.bodies.now c.before.before.before.before.before.before.before.before.before.before.before.requires
@@ -47,7 +47,7 @@ returns-2 c =
     let a = c.before.before.before.before.before.before.before.before.before.before.before.before.before.before.args in
     let place = c.before.before.before.before.before.before.before.before.place_of in
     let n = some_numbers a.n a.leading a.fragment_heads.now a.bodies.now c.before.before.before.before.before.before.before.before.before.before.before.before.before.before.requires in
-    first_not_held a.id a.flags a.counter a.body.now a.n a.leading a.fragment_heads.now a.bodies.now place.result (place.ensures.0 ∙ c.before.before.before.before.before.before.before.before.before.before.find-fragment.ensures.0) place.ensures.2 _ _ _ n.few (sym c.before.before.before.before.before.before.first-fits.ensures ∙ c.before.before.before.before.before.if1.false) c.before.before.drop_at.ensures
+    first_not_held a.id a.flags a.body.now a.n a.leading a.fragment_heads.now a.bodies.now place.result (place.ensures.0 ∙ c.before.before.before.before.before.before.before.before.before.before.find-fragment.ensures.0) place.ensures.2 _ _ _ n.few (sym c.before.before.before.before.before.before.first-fits.ensures ∙ c.before.before.before.before.before.if1.false) c.before.before.drop_at.ensures
 
 pub hold-first-spec : {M : Type 1} → statement M
 hold-first-spec =

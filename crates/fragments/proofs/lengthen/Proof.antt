@@ -57,7 +57,7 @@ returns c =
     let a = c.before.before.before.before.before.before.before.before.before.before.before.before.before.args in
     let pre = c.before.before.before.before.before.before.before.before.before.before.before.before.before.requires in
     let w = c.before.before.before.before.copy in (
-      lengthened a.place a.counter a.body.now a.n a.fragment_heads.now a.bodies.now _ _ _ _ pre.0 pre.1 pre.2 pre.3 c.before.before.before.before.before.before.before.before.move-free.ensures w.auto.1.0 w.ensures (ap (set a.fragment_heads.now a.place.index) c.longer.ensures),
+      lengthened a.place a.body.now a.n a.fragment_heads.now a.bodies.now _ _ _ _ pre.0 pre.1 pre.2 pre.3 c.before.before.before.before.before.before.before.before.move-free.ensures w.auto.1.0 w.ensures (ap (set a.fragment_heads.now a.place.index) c.longer.ensures),
       refl,
     )
 

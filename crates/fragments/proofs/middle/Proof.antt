@@ -22,7 +22,7 @@ returns : tie.Need-returns
 returns c =
     let a = c.before.before.before.before.before.before.before.before.before.before.args in
     let g = rw c.before.held.given.1 at c.before.before.before.before.before.grow.ensures in
-    middle_joined a.id a.j a.body.now a.n a.leading a.fragment_heads.now a.bodies.now _ _ _ _ _ _ g
+    middle_joined a.id a.most a.body.now a.n a.leading a.fragment_heads.now a.bodies.now _ _ _ _ _ _ g
 
 same-length-2 : tie.Need-same-length-2
 same-length-2 c = search rules
@@ -31,7 +31,7 @@ returns-2 : tie.Need-returns-2
 returns-2 c =
     let a = c.before.before.before.before.before.before.before.before.before.before.args in
     let g = rw c.before.held2.given.1 at c.before.before.before.before.before.grow.ensures in
-    middle_discarded a.id a.j a.body.now a.n a.leading a.fragment_heads.now a.bodies.now _ _ _ g
+    middle_discarded a.id a.most a.body.now a.n a.leading a.fragment_heads.now a.bodies.now _ _ _ g
 
 same-length-3 : tie.Need-same-length-3
 same-length-3 c = search rules
@@ -40,7 +40,7 @@ returns-3 : tie.Need-returns-3
 returns-3 c =
     let a = c.before.before.before.before.before.before.before.before.before.args in
     let g = rw c.enum_told.given.1 at c.before.before.before.before.grow.ensures in
-    middle_absent a.id a.j a.body.now a.n a.leading a.fragment_heads.now a.bodies.now _ _ g
+    middle_absent a.id a.most a.body.now a.n a.leading a.fragment_heads.now a.bodies.now _ _ g
 
 pub middle-spec : {M : Type 1} → statement M
 middle-spec =

@@ -40,14 +40,14 @@ element-write-fragment-heads c =
     let pre = c.before.before.before.before.before.before.before.before.before.before.before.before.before.before.before.requires in
     omega (arith, others_small a.place.index a.n c.before.others.result pre.1.index_low pre.0 pre.2.few c.before.others.ensures)
 
-add-t16 : tie.Need-overflow-add-t16
-add-t16 c =
+add-t15 : tie.Need-overflow-add-t15
+add-t15 c =
     let a = c.before.before.before.before.before.before.before.before.before.before.before.before.before.before.before.args in
     let pre = c.before.before.before.before.before.before.before.before.before.before.before.before.before.before.before.requires in
     omega (arith, others_small a.place.index a.n c.before.others.result pre.1.index_low pre.0 pre.2.few c.before.others.ensures)
 
-add-t13 : tie.Need-overflow-add-t13
-add-t13 c =
+add-t12 : tie.Need-overflow-add-t12
+add-t12 c =
     let a = c.before.before.before.before.before.before.before.before.before.before.before.before.before.before.before.args in
     let pre = c.before.before.before.before.before.before.before.before.before.before.before.before.before.before.before.requires in
     omega (arith, others_small a.place.index a.n c.before.others.result pre.1.index_low pre.0 pre.2.few c.before.others.ensures)
@@ -60,7 +60,7 @@ returns c =
     let a = c.before.before.before.before.before.before.before.before.before.before.before.before.before.before.before.args in
     let pre = c.before.before.before.before.before.before.before.before.before.before.before.before.before.before.before.requires in
     let w = c.before.before.before.before.before.before.copy in
-    put a.place a.id a.flags a.counter a.body.now a.n a.fragment_heads.now a.bodies.now (omega (arith, c.before.before.before.before.before.before.before.before.before.before.before.before.before.before.before.ranges.counter)) pre.0 pre.1 pre.2 pre.3 _ _ _ _ _ _ c.before.others.ensures w.auto.1.0 c.before.before.before.before.before.before.before.before.before.before.before.pack.ensures w.ensures c.before.before.take_out.ensures c.fragment-head.ensures
+    put a.place a.id a.flags a.body.now a.n a.fragment_heads.now a.bodies.now pre.0 pre.1 pre.2 pre.3 _ _ _ _ _ _ c.before.others.ensures w.auto.1.0 c.before.before.before.before.before.before.before.before.before.before.before.pack.ensures w.ensures c.before.before.take_out.ensures c.fragment-head.ensures
 
 pub put-behind-spec : {M : Type 1} → statement M
 put-behind-spec =
@@ -74,7 +74,7 @@ put-behind-spec =
     fragment-head-requires
     mul-fragment-heads
     element-write-fragment-heads
-    add-t16
-    add-t13
+    add-t15
+    add-t12
     same_length
     returns)

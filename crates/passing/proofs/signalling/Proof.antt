@@ -49,7 +49,7 @@ emit-requires c κs =
     let seen = y f.0 here f.6 (holding_anew f.7.holding) in
     let packages = seen.holding.tables_kept.packages_kept.pairs in (
       rw payload h,
-      spares a.t.options f.0 a.t.modes a.signal.id here _ _ _ seen.news_are (pairs_in_lem packages),
+      spares a.t.options f.0 a.signal.id here _ _ _ seen.news_are (pairs_in_lem packages),
       omega (arith, packages.count, packages.few),
       pairs_length packages,
       x.0,

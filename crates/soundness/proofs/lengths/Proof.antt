@@ -8,13 +8,13 @@ use Rattle.soundness.proofs.lengths.Statement.{statement}
 use Rattle.soundness.proofs.lengths.Tie as tie
 
 abbrev invariant-loop : tie.invariant-loop
-invariant-loop fragment_heads n sum₀ i₀ sum i = Summed fragment_length 4294967296 n fragment_heads sum i
+invariant-loop fragment_heads n sum₀ i₀ sum i = Summed fragment_length 1099511627776 n fragment_heads sum i
 
 abbrev decreases-loop : tie.decreases-loop
 decreases-loop fragment_heads n sum₀ i₀ sum i = n - i
 
 loop-holds : tie.Need-loop-init invariant-loop decreases-loop
-loop-holds c = summed_begin fragment_length 4294967296 c.args.n c.args.fragment_heads.now
+loop-holds c = summed_begin fragment_length 1099511627776 c.args.n c.args.fragment_heads.now
 
 mul-sum : tie.Need-overflow-mul-sum invariant-loop decreases-loop
 mul-sum c = search rules
@@ -36,14 +36,14 @@ unfolding fragment_length
 loop-again c =
     let a = c.before.before.before.args in
     let l = c.before.before.loop in
-    let b : get_or a.fragment_heads.now l.i 0 % 4294967296 < 4294967296 = omega arith in
-    summed_next fragment_length 4294967296 a.n a.fragment_heads.now l.sum l.i l.invariant (omega arith) (omega arith) b
+    let b : get_or a.fragment_heads.now l.i 0 % 1099511627776 < 1099511627776 = omega arith in
+    summed_next fragment_length 1099511627776 a.n a.fragment_heads.now l.sum l.i l.invariant (omega arith) (omega arith) b
 
 returns : tie.Need-returns invariant-loop decreases-loop
 returns c =
     let a = c.before.before.args in
     let l = c.before.loop in
-    summed_done fragment_length 4294967296 a.n a.fragment_heads.now l.sum l.i l.invariant (omega arith)
+    summed_done fragment_length 1099511627776 a.n a.fragment_heads.now l.sum l.i l.invariant (omega arith)
 
 pub lengths-spec : {M : Type 1} → statement M
 lengths-spec =

@@ -188,9 +188,9 @@ impl Known {
     }
 }
 
-/// The length in a fragment's head, behind identifier, flags and counter.
+/// The length in a fragment's head.
 fn length(head: &u64) -> usize {
-    (head & 0xffff_ffff) as usize
+    (head & 0xff_ffff_ffff) as usize
 }
 
 /// The fragments whose bodies stand one after the other at the front of these bytes.

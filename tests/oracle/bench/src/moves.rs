@@ -33,9 +33,7 @@ pub fn print(streams: &[Stream]) {
         return;
     }
     let chunks: usize = streams.iter().map(compare_stream).sum();
-    let orders: usize = orders(Modes::OFF)
-        .map(|ordered| compare_order(&ordered))
-        .sum();
+    let orders: usize = orders().map(|ordered| compare_order(&ordered)).sum();
     println!(
         "bytes of the fragment room that are moved: in all, for each body that comes, and at most for one body"
     );
@@ -127,7 +125,7 @@ fn compare_order(ordered: &Ordered) -> usize {
     let passage = Passage {
         stream: Rc::from(pushed.collect::<Vec<_>>().concat()),
         options: case.options,
-        modes: case.modes,
+        modes: Modes::OFF,
         total: case.limits.total,
         first: 0,
         size: SHORT_CHUNK,

@@ -19,8 +19,6 @@ const SMALLEST: usize = 4;
 pub const TOTAL: usize = 1 << 20;
 /// The greatest T.
 const MOST: usize = 16 << 20;
-/// A T that messages of many identifiers at a time pass.
-const SMALL: usize = 65_536;
 
 /// Neither captions nor carousels.
 pub const NEITHER: Options = Options {
@@ -54,7 +52,7 @@ impl Stream {
 
 /// All, in the order of the table.
 pub fn streams() -> Vec<Stream> {
-    let streams = [usual(), fragments(), strict(), plain_ip()];
+    let streams = [usual(), fragments(), plain_ip()];
     streams.into_iter().flatten().collect()
 }
 
@@ -86,48 +84,26 @@ fn usual() -> Vec<Stream> {
 /// where T is 65,536 the proved filter gives up what does not fit, as it is to; the original holds it, for it has no T that
 /// a stream of 1 MiB could pass. They grow one after the other in the order in which they began; staggered they do not.
 pub fn fragments() -> Vec<Stream> {
+    let stream = |name: String, total, bytes| Stream {
+        total,
+        ..neither(&name, bytes)
+    };
     let mut streams = Vec::new();
-    for body in [150, 1_400] {
-        for total in [SMALL, MOST] {
-            let of = |identifiers| fragmented(identifiers, body, total);
-            streams.extend([1, 5, 16, 256].map(of));
+    for (body, length) in [(150, "150"), (1_400, "1,400")] {
+        for (total, room) in [(65_536, "65,536"), (MOST, "16 MiB")] {
+            for identifiers in [1, 5, 16, 256] {
+                let name = format!("fragments over {identifiers} of {length}, T {room}");
+                let bytes = maker::fragmented(SEED, identifiers, body, SIZE);
+                streams.push(stream(name, total, bytes));
+            }
         }
     }
     for identifiers in [16, 256] {
         let name = format!("staggered over {identifiers} of 1,400, T 16 MiB");
         let bytes = maker::staggered(SEED, identifiers, 1_400, SIZE);
-        streams.push(Stream {
-            total: MOST,
-            ..neither(&name, bytes)
-        });
+        streams.push(stream(name, MOST, bytes));
     }
     streams
-}
-
-/// Messages in three fragments, with right counters.
-fn fragmented(identifiers: u16, body: usize, total: usize) -> Stream {
-    let length = if body == 150 { "150" } else { "1,400" };
-    let room = if total == SMALL { "65,536" } else { "16 MiB" };
-    let name = format!("fragments over {identifiers} of {length}, T {room}");
-    let bytes = maker::fragmented(SEED, identifiers, body, SIZE);
-    Stream {
-        total,
-        ..neither(&name, bytes)
-    }
-}
-
-/// Some of them in strict joining, which joins the same: their counters are right. The original reads none.
-fn strict() -> Vec<Stream> {
-    let rows = [(1, 150), (5, 150), (16, 150), (256, 150), (5, 1_400)];
-    let stream = |(identifiers, body)| {
-        let stream = fragmented(identifiers, body, SMALL);
-        Stream {
-            name: format!("{}, strict", stream.name),
-            modes: Modes::STRICT_JOINING,
-            ..stream
-        }
-    };
-    rows.map(stream).into()
 }
 
 /// A signalling payload.
@@ -214,7 +190,7 @@ mod tests {
 
     use original::Untouched;
 
-    use super::{Stream, fragments, pieces, streams, strict};
+    use super::{Stream, fragments, pieces, streams};
 
     /// How much of a stream goes out, in percent.
     fn share(stream: &Stream) -> usize {
@@ -255,12 +231,10 @@ mod tests {
 
     #[test]
     fn fragments_are_as_their_names_say() {
-        let (fragments, strict) = (fragments(), strict());
-        assert_eq!((fragments.len(), strict.len()), (4 * 2 * 2 + 2, 5));
-        for stream in fragments.iter().chain(&strict) {
-            let plain_name = stream.name.strip_suffix(", strict");
-            assert_eq!(stream.modes.strict_joining, plain_name.is_some());
-            let words: Vec<_> = plain_name.unwrap_or(&stream.name).split(' ').collect();
+        let fragments = fragments();
+        assert_eq!(fragments.len(), 4 * 2 * 2 + 2);
+        for stream in &fragments {
+            let words: Vec<_> = stream.name.split(' ').collect();
             let unit = words.get(7).map_or(1, |_| 1 << 20);
             assert_eq!(stream.total, number(words[6]) * unit, "{}", stream.name);
             let (identifiers, lengths): (BTreeSet<_>, BTreeSet<_>) = pieces(&stream.bytes)

@@ -13,7 +13,7 @@ const SHORT: usize = 32_768;
 /// Fewer runs than of a row: there are many lines, and a turn is long.
 const RUNS: usize = 61;
 /// The width of the column of names.
-const NAME: usize = 44;
+const NAME: usize = 38;
 
 pub struct Line {
     name: String,

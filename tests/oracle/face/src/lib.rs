@@ -62,37 +62,20 @@ impl Options {
 pub struct Modes {
     /// Request 2: tables in plain IPv4 and IPv6 packets are narrowed too.
     pub plain_ip: bool,
-    /// Request 4: fragments are joined only if their counters say that none is missing.
-    pub strict_joining: bool,
 }
 
 impl Modes {
-    pub const OFF: Self = Self {
-        plain_ip: false,
-        strict_joining: false,
-    };
-    pub const PLAIN_IP: Self = Self {
-        plain_ip: true,
-        ..Self::OFF
-    };
-    pub const STRICT_JOINING: Self = Self {
-        strict_joining: true,
-        ..Self::OFF
-    };
-    /// The greatest modes byte that has a meaning: all are on.
-    pub const MOST_BITS: u8 = 3;
+    pub const OFF: Self = Self { plain_ip: false };
+    pub const PLAIN_IP: Self = Self { plain_ip: true };
 
-    /// The modes byte of cases: bit 0 is plain IP, bit 1 strict joining. `None`: a bit is set that has no meaning.
+    /// The modes byte of cases: bit 0 is plain IP. `None`: a bit is set that has no meaning.
     pub fn from_bits(bits: u8) -> Option<Self> {
-        let modes = Self {
-            plain_ip: bits & 1 != 0,
-            strict_joining: bits & 2 != 0,
-        };
-        (bits <= Self::MOST_BITS).then_some(modes)
+        let plain_ip = bits & 1 != 0;
+        (bits <= 1).then_some(Self { plain_ip })
     }
 
     pub fn bits(&self) -> u8 {
-        u8::from(self.plain_ip) | u8::from(self.strict_joining) << 1
+        u8::from(self.plain_ip)
     }
 
     pub fn all_off(&self) -> bool {

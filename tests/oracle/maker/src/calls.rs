@@ -12,7 +12,7 @@ use crate::rng::Rng;
 use crate::stage::Stage;
 use crate::tags::Tag;
 use crate::{Calls, Operation};
-use crate::{cuts, damage, fragments, limits, scenes, strict};
+use crate::{cuts, damage, fragments, limits, scenes};
 
 /// The most operations, for programs with fixed rooms.
 pub(crate) const OPERATIONS_MOST: usize = 1_024;
@@ -27,13 +27,6 @@ enum Profile {
     Crowded,
     Damaged,
     Disorder,
-    /// Fragments with gaps, in strict joining; then such that are damaged.
-    Gaps,
-    DamagedGaps,
-    /// Fragments that meet and pass T and M.
-    Edges,
-    /// More fragments than are held.
-    ManyFragments,
     /// Starts that are refused for limits, for wishes, or for both.
     RefusedLimits,
     RefusedWishes,
@@ -54,22 +47,6 @@ const PROFILES: [(usize, Profile); 9] = [
     (3, Profile::Empty),
 ];
 
-const STRICT_PROFILES: [(usize, Profile); 10] = [
-    (56, Profile::Gaps),
-    (6, Profile::DamagedGaps),
-    (16, Profile::Edges),
-    (6, Profile::Disorder),
-    (3, Profile::ManyFragments),
-    (6, Profile::Wishes),
-    (2, Profile::RefusedLimits),
-    (2, Profile::RefusedWishes),
-    (2, Profile::RefusedBoth),
-    (1, Profile::Empty),
-];
-
-/// How often, in percent, calls of strict joining have the mode of plain IP as well.
-const BOTH: usize = 25;
-
 pub(crate) fn tagged_calls(seed: u64) -> (Calls, BTreeSet<Tag>) {
     tagged(Rng::new(seed, 9), Modes::OFF)
 }
@@ -78,45 +55,28 @@ pub(crate) fn tagged_plain_ip_calls(seed: u64) -> (Calls, BTreeSet<Tag>) {
     tagged(Rng::new(seed, 11), Modes::PLAIN_IP)
 }
 
-/// `both`: with plain IP, whatever is drawn.
-pub(crate) fn tagged_strict_calls(seed: u64, both: bool) -> (Calls, BTreeSet<Tag>) {
-    let mut rng = Rng::new(seed, 16);
-    let plain_ip = rng.chance(BOTH) || both;
-    if plain_ip {
-        rng.note(Tag::StrictPlainIp);
-    }
-    let modes = Modes {
-        plain_ip,
-        ..Modes::STRICT_JOINING
-    };
-    tagged(rng, modes)
-}
-
 fn tagged(mut rng: Rng, modes: Modes) -> (Calls, BTreeSet<Tag>) {
-    let profile = match modes.strict_joining {
-        true => rng.weighted(&STRICT_PROFILES),
-        false => rng.weighted(&PROFILES),
-    };
+    let profile = rng.weighted(&PROFILES);
     let services = rng.within(1..=4);
     let broadcast = match profile {
         Profile::Crowded => Broadcast::crowded(&mut rng, services),
         _ => Broadcast::new(&mut rng, services),
     };
-    let limits = limits_of(&mut rng, profile);
+    let limits = match profile {
+        Profile::RefusedLimits | Profile::RefusedBoth => limits::refused(&mut rng),
+        _ => limits::usual(&mut rng),
+    };
     let options = options(&mut rng, profile, &broadcast.numbers());
     limits::note_refusals(&mut rng, &limits, &options);
     if !options.other {
         broadcast.note_kinds(&mut rng);
     }
     let mut stage = Stage::new(rng, broadcast);
-    if modes.strict_joining {
-        stage.join_strictly(&options);
-    }
     if modes.plain_ip && profile != Profile::Empty {
         stage.plain_ip = true;
         scenes::foreseen(&mut stage, &options);
     }
-    perform(&mut stage, profile, &limits);
+    perform(&mut stage, profile);
     let operations = operations(&mut stage, &limits, &options);
     let calls = Calls {
         limits,
@@ -127,28 +87,15 @@ fn tagged(mut rng: Rng, modes: Modes) -> (Calls, BTreeSet<Tag>) {
     (calls, stage.rng.into_tags())
 }
 
-fn limits_of(rng: &mut Rng, profile: Profile) -> Limits {
-    match profile {
-        Profile::RefusedLimits | Profile::RefusedBoth => limits::refused(rng),
-        Profile::Gaps | Profile::DamagedGaps => limits::roomy(rng),
-        Profile::Edges => fragments::limits(rng),
-        Profile::ManyFragments => limits::ample(),
-        _ => limits::usual(rng),
-    }
-}
-
 fn options(rng: &mut Rng, profile: Profile, services: &[u16]) -> Options {
     match profile {
         Profile::Captions => limits::captions_only(rng, services),
         Profile::RefusedWishes | Profile::RefusedBoth => limits::refused_wishes(rng, services),
-        Profile::Gaps | Profile::DamagedGaps | Profile::Edges | Profile::ManyFragments => {
-            limits::telling_wishes(rng, services)
-        }
         _ => limits::taken_wishes(rng, services),
     }
 }
 
-fn perform(stage: &mut Stage, profile: Profile, limits: &Limits) {
+fn perform(stage: &mut Stage, profile: Profile) {
     match profile {
         Profile::Empty => {}
         Profile::RefusedLimits | Profile::RefusedWishes | Profile::RefusedBoth => {
@@ -157,39 +104,30 @@ fn perform(stage: &mut Stage, profile: Profile, limits: &Limits) {
         }
         Profile::Disorder => fragments::disorders(stage),
         Profile::Captions | Profile::Wishes | Profile::Crowded => scenes::wishes(stage),
-        Profile::Gaps | Profile::DamagedGaps => strict::gaps(stage),
-        Profile::Edges => {
-            strict::rooms(stage, limits);
-            fragments::edges(stage, limits);
+        Profile::Damaged => {
+            scenes::wishes(stage);
+            let count = stage.rng.within(1..=12);
+            damage::packets(&mut stage.rng, &mut stage.packets, count);
         }
-        Profile::ManyFragments => fragments::many(stage),
-        Profile::Damaged => scenes::wishes(stage),
-    }
-    if matches!(profile, Profile::Damaged | Profile::DamagedGaps) {
-        let count = stage.rng.within(1..=12);
-        damage::packets(&mut stage.rng, &mut stage.packets, count);
     }
 }
 
 /// How a series asks: how often, in percent, an output is too short, how often it asks for the number of dropped
-/// identifiers, whether it does so at its end in any case, and whether all outputs are of one length.
+/// identifiers, and whether all outputs are of one length.
 struct Manner {
     short: usize,
     dropped: usize,
-    dropped_last: bool,
     one_room: bool,
 }
 
-/// In strict joining it asks more, since what is dropped tells what was joined.
-fn manner(rng: &mut Rng, strict: bool) -> Manner {
-    let one_room = rng.chance(if strict { 50 } else { 30 });
+fn manner(rng: &mut Rng) -> Manner {
+    let one_room = rng.chance(30);
     if one_room {
         rng.note(Tag::OneRoom);
     }
     Manner {
         short: rng.pick(&[0, 0, 8]),
-        dropped: rng.pick(if strict { &[10, 50, 50] } else { &[0, 10, 50] }),
-        dropped_last: strict,
+        dropped: rng.pick(&[0, 10, 50]),
         one_room,
     }
 }
@@ -203,7 +141,7 @@ fn operations(stage: &mut Stage, limits: &Limits, options: &Options) -> Vec<Oper
     }
     let (bytes, ends) = join(&stage.packets);
     let cuts = cuts::cuts(rng, limits, &ends, past);
-    let manner = manner(rng, stage.own.is_some());
+    let manner = manner(rng);
     let mut lender = Lender::new(limits, options);
     let mut spare = OPERATIONS_MOST.saturating_sub(cuts.len());
     let mut operations = Vec::new();
@@ -214,11 +152,7 @@ fn operations(stage: &mut Stage, limits: &Limits, options: &Options) -> Vec<Oper
         rest = after;
         operations.push(lender.push(rng, &manner, chunk));
     }
-    if manner.dropped_last && spare > 0 && !operations.is_empty() {
-        operations.push(Operation::Dropped);
-    } else {
-        ask(rng, &manner, &mut spare, &mut operations);
-    }
+    ask(rng, &manner, &mut spare, &mut operations);
     note_questions(rng, &operations);
     operations
 }

@@ -75,16 +75,6 @@ fn in_turns(rng: &mut Rng, contents: Vec<(u16, Vec<u8>)>) -> Vec<(u16, Vec<u8>)>
         let firsts = scripts.iter_mut();
         sent.extend(firsts.filter_map(|(at, script)| Some((*at, script.pop_front()?))));
     }
-    sent.extend(take_turns(rng, scripts));
-    sent
-}
-
-/// What each identifier is to send, in this order, with turns that are left to chance.
-pub(crate) fn take_turns(
-    rng: &mut Rng,
-    mut scripts: Vec<(u16, VecDeque<Vec<u8>>)>,
-) -> Vec<(u16, Vec<u8>)> {
-    let mut sent = Vec::new();
     while !scripts.is_empty() {
         let nth = rng.below(scripts.len());
         match scripts[nth].1.pop_front() {

@@ -14,7 +14,7 @@ use crate::tags::Tag;
 /// The length of the shortest message that `news` makes.
 pub(crate) const NEWS_LEAST: usize = 77;
 /// Identifiers of fragments that only take up room.
-pub(crate) const PARKED: u16 = 0x2000;
+const PARKED: u16 = 0x2000;
 const HELD_MOST: u16 = 256;
 
 /// T and M so small that a few packets reach them.
@@ -73,10 +73,7 @@ fn disorder(stage: &mut Stage) {
 
 /// A message of exactly this length about some service, different from what was sent before.
 pub(crate) fn news(stage: &mut Stage, length: usize) -> (u16, Vec<u8>) {
-    let table = match &mut stage.own {
-        Some(own) => signalling::own_news(&mut stage.rng, own),
-        None => signalling::news(&mut stage.rng, &stage.broadcast),
-    };
+    let table = signalling::news(&mut stage.rng, &stage.broadcast);
     let mut pa = Pa::of(vec![table]);
     pa.after = stage.rng.bytes(length - pa.write().len());
     let services = &stage.broadcast.services;

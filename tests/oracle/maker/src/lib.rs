@@ -23,7 +23,6 @@ mod rng;
 mod scenes;
 mod signalling;
 mod stage;
-mod strict;
 pub mod sums;
 mod tables;
 mod tags;
@@ -107,17 +106,6 @@ pub fn plain_ip_calls(seed: u64) -> Calls {
 /// Inputs with any of the four wishes and the mode of plain IP, most of them packets of it.
 pub fn plain_ip_inputs(seed: u64) -> Vec<Input> {
     narrowing::tagged_plain_ip_inputs(seed).0
-}
-
-/// Calls with any of the four wishes and the mode of strict joining, about messages in fragments. A quarter of them have that
-/// of plain IP as well, which then carries most of their packets.
-pub fn strict_calls(seed: u64) -> Calls {
-    calls::tagged_strict_calls(seed, false).0
-}
-
-/// The same with both modes in all.
-pub fn strict_plain_ip_calls(seed: u64) -> Calls {
-    calls::tagged_strict_calls(seed, true).0
 }
 
 /// 01's examples 1 to 10, tables to narrow.

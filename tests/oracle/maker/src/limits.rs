@@ -32,16 +32,6 @@ pub(crate) fn usual(rng: &mut Rng) -> Limits {
     }
 }
 
-/// Usual ones that hold back no message of a few packets.
-pub(crate) fn roomy(rng: &mut Rng) -> Limits {
-    let (total, most) = rng.pick(&[(TOTAL_MOST, TOTAL_MOST), (65_536, 65_536), (20_000, 1_000)]);
-    Limits {
-        total,
-        most,
-        ..usual(rng)
-    }
-}
-
 /// Limits that hold no message back, so that a scene meets only the limit it is about.
 pub(crate) fn ample() -> Limits {
     Limits {
@@ -140,29 +130,6 @@ pub(crate) fn taken_wishes(rng: &mut Rng, services: &[u16]) -> Options {
     let any = rng.below(8) as u8;
     let wishes = rng.weighted(&[(60, any | CAPTIONS | Options::OTHER_OFF), (40, any)]);
     wished(rng, wishes, services)
-}
-
-/// Options with which a filter starts, and with which a list shows in what is dropped: of a service, or without some kind.
-pub(crate) fn telling_wishes(rng: &mut Rng, services: &[u16]) -> Options {
-    let any = rng.below(8) as u8;
-    let wishes = rng.weighted(&[(30, any | CAPTIONS | Options::OTHER_OFF), (70, any)]);
-    let mut options = with_service(rng, wishes, services);
-    if options.service.is_none() && unwanted_kinds(&options).is_empty() {
-        options.carousel = false;
-    }
-    note_options(rng, &options, services);
-    options
-}
-
-/// The asset types of the kinds that are not wanted.
-pub(crate) fn unwanted_kinds(options: &Options) -> Vec<[u8; 4]> {
-    let kinds = [
-        (*b"stpp", options.caption),
-        (*b"aapp", options.carousel),
-        (*b"hvc1", options.other),
-    ];
-    let unwanted = kinds.into_iter().filter(|(_, wanted)| !wanted);
-    unwanted.map(|(kind, _)| kind).collect()
 }
 
 /// Options with which no filter starts: neither captions nor other assets.

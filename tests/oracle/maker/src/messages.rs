@@ -104,20 +104,13 @@ pub(crate) enum Place {
     Last = 3,
 }
 
-/// A fragment by itself, with the counter that it has in a message of two, or of three: a last has 0, any other 1.
 pub(crate) fn fragment(place: Place, flags: u8, body: &[u8]) -> Vec<u8> {
-    let counter = u8::from(!matches!(place, Place::Last));
-    counted_fragment(place, flags, counter, body)
-}
-
-pub(crate) fn counted_fragment(place: Place, flags: u8, counter: u8, body: &[u8]) -> Vec<u8> {
-    let mut out = vec![(place as u8) << 6 | flags & 0x3f, counter];
+    let mut out = vec![(place as u8) << 6 | flags & 0x3f, 0x55];
     out.extend_from_slice(body);
     out
 }
 
-/// The content in fragments that end at these rising offsets; the last ends with the content. Each one's counter tells how
-/// many follow; of more than 256 its lowest eight bits do.
+/// The content in fragments that end at these rising offsets; the last ends with the content.
 pub(crate) fn fragments(flags: u8, content: &[u8], ends: &[usize]) -> Vec<Vec<u8>> {
     let mut out = Vec::new();
     let mut at = 0;
@@ -127,11 +120,10 @@ pub(crate) fn fragments(flags: u8, content: &[u8], ends: &[usize]) -> Vec<Vec<u8
         } else {
             Place::Middle
         };
-        let counter = (ends.len() - out.len()) as u8;
-        out.push(counted_fragment(place, flags, counter, &content[at..end]));
+        out.push(fragment(place, flags, &content[at..end]));
         at = end;
     }
     // Only the first's flags count, so the last's are other ones.
-    out.push(counted_fragment(Place::Last, !flags, 0, &content[at..]));
+    out.push(fragment(Place::Last, !flags, &content[at..]));
     out
 }

@@ -22,11 +22,6 @@ impl Rng {
         rng
     }
 
-    /// Another source, which this one's state decides and whose draws take none from this one.
-    pub(crate) fn beside(&self, salt: u64) -> Self {
-        Self::new(self.state, salt)
-    }
-
     fn next(&mut self) -> u64 {
         self.state = self.state.wrapping_add(0x9e37_79b9_7f4a_7c15);
         let mut mixed = self.state;

@@ -5,7 +5,6 @@ use crate::broadcast::{Broadcast, Service};
 use crate::damage;
 use crate::messages::{self, CA, DATA, OTHERS, Pa};
 use crate::rng::Rng;
-use crate::stage::Own;
 use crate::tables::{self, Asset, LONGEST, Location, MPT_FIRST, MPT_LAST, Mpt, PLT, Plt};
 use crate::tags::Tag;
 
@@ -63,17 +62,6 @@ pub(crate) fn news(rng: &mut Rng, broadcast: &Broadcast) -> Vec<u8> {
     let assets = (0..3).map(|_| {
         let kind = rng.pick(&[b"hvc1", b"stpp", b"stpp", b"aapp", b"aapp"]);
         Asset::plain(kind, broadcast.identifier(rng))
-    });
-    Mpt::of(assets.collect()).write()
-}
-
-/// A short MPT of one to three assets that no other lists. It is not longer than that of `news`.
-pub(crate) fn own_news(rng: &mut Rng, own: &mut Own) -> Vec<u8> {
-    let first = own.listed.end;
-    own.listed.end += rng.within(1..=3) as u16;
-    let assets = (first..own.listed.end).map(|identifier| {
-        let kind = rng.pick(&own.kinds);
-        Asset::plain(&kind, identifier)
     });
     Mpt::of(assets.collect()).write()
 }

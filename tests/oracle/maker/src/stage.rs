@@ -2,26 +2,18 @@
 //! fragments still under way, and the packets that belong to nobody.
 
 use std::collections::VecDeque;
-use std::ops::Range;
-
-use face::Options;
 
 use crate::broadcast::Broadcast;
 use crate::ip;
-use crate::limits;
 use crate::messages::{self, Pa, Place};
 use crate::mmtp::{self, MEDIA, SIGNALLING};
 use crate::rng::Rng;
 use crate::signalling::{self, ODD};
-use crate::strict;
 use crate::tags::Tag;
 use crate::tlv::{self, Carrier};
 
 /// How often, in percent, a stage of plain IP sends a packet in it.
 const PLAIN_IP: usize = 75;
-
-/// How many of the assets that messages list for themselves are asked for at a time.
-const PROBED: usize = 6;
 
 pub(crate) struct Stage {
     pub(crate) rng: Rng,
@@ -29,45 +21,19 @@ pub(crate) struct Stage {
     pub(crate) packets: Vec<Vec<u8>>,
     /// Most packets are carried in plain IP.
     pub(crate) plain_ip: bool,
-    /// In plain joining counters are any, by draws of their own: nobody reads them. Strict joining has those that payloads
-    /// come with.
-    pub(crate) counters: Option<Rng>,
-    /// In strict joining news lists assets of its own.
-    pub(crate) own: Option<Own>,
     /// Fragments not sent yet, by identifier.
     pending: Vec<(u16, VecDeque<Vec<u8>>)>,
-}
-
-/// Assets that one message alone lists, so that it shows whether it was joined.
-pub(crate) struct Own {
-    /// The kinds that show.
-    pub(crate) kinds: Vec<[u8; 4]>,
-    /// The identifiers of those that were listed so far.
-    pub(crate) listed: Range<u16>,
 }
 
 impl Stage {
     pub(crate) fn new(rng: Rng, broadcast: Broadcast) -> Self {
         Self {
-            counters: Some(rng.beside(17)),
             rng,
             broadcast,
             packets: Vec::new(),
             plain_ip: false,
-            own: None,
             pending: Vec::new(),
         }
-    }
-
-    /// Counters are as they are told, and news lists assets of its own, of kinds that these options do not want.
-    pub(crate) fn join_strictly(&mut self, options: &Options) {
-        let unwanted = limits::unwanted_kinds(options);
-        let any = || vec![*b"stpp", *b"aapp", *b"hvc1"];
-        self.counters = None;
-        self.own = Some(Own {
-            kinds: if unwanted.is_empty() { any() } else { unwanted },
-            listed: strict::OWN..strict::OWN,
-        });
     }
 
     fn push(&mut self, carrier: Carrier, mmtp: &[u8]) {
@@ -95,27 +61,7 @@ impl Stage {
     }
 
     pub(crate) fn signal(&mut self, identifier: u16, payload: &[u8]) {
-        let mut payload = payload.to_vec();
-        self.recount(&mut payload);
-        self.send(identifier, SIGNALLING, &payload);
-    }
-
-    /// Any counter, where it is not read: the one that is there, the least, the greatest or another.
-    fn recount(&mut self, payload: &mut [u8]) {
-        let (Some(counters), [flags, counter, ..]) = (&mut self.counters, payload) else {
-            return;
-        };
-        let came = *counter;
-        let other = counters.byte();
-        *counter = counters.weighted(&[(40, came), (15, 0), (10, 255), (35, other)]);
-        if *flags >= 0x40 {
-            let same = *counter == came;
-            self.rng.note(if same {
-                Tag::UnreadRight
-            } else {
-                Tag::UnreadWrong
-            });
-        }
+        self.send(identifier, SIGNALLING, payload);
     }
 
     /// A message as one rewritable packet, for scenes that leave its way through the layers to no chance.
@@ -226,15 +172,6 @@ impl Stage {
     /// One media packet for each identifier: what comes out of these tells what was learned.
     pub(crate) fn probe(&mut self) {
         for identifier in self.broadcast.identifiers() {
-            self.media(identifier);
-        }
-        self.probe_own();
-    }
-
-    /// The same for what the latest messages have listed for themselves, if there are such.
-    pub(crate) fn probe_own(&mut self) {
-        let listed = self.own.as_ref().map_or(0..0, |own| own.listed.clone());
-        for identifier in listed.rev().take(PROBED) {
             self.media(identifier);
         }
     }

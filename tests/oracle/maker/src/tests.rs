@@ -14,8 +14,8 @@ use crate::tags::{FLOORS, Tag};
 use crate::tlv::{self, SYNC};
 use crate::{
     Case, Operation, air, calls, case, cases, cuts, dense, examples, fragmented, inputs, media,
-    messages, narrowing, nulls, plain_case, plain_ip_air, plain_ip_calls, plain_ip_inputs,
-    plain_ip_plts, plain_ip_uncut, staggered, strict_calls, strict_plain_ip_calls, wished_inputs,
+    narrowing, nulls, plain_case, plain_ip_air, plain_ip_calls, plain_ip_inputs, plain_ip_plts,
+    plain_ip_uncut, staggered, wished_inputs,
 };
 
 const SEEDS: u64 = 2_000;
@@ -31,8 +31,7 @@ fn count<T>(tagged: impl Fn(u64) -> (T, BTreeSet<Tag>)) -> BTreeMap<Tag, usize> 
     counts
 }
 
-/// `of` is the place of the floors: cases, inputs, calls or inputs with any wishes, calls or inputs of plain IP, calls of
-/// strict joining.
+/// `of` is the place of the floors: cases, inputs, calls or inputs with any wishes, calls or inputs of plain IP.
 fn assert_floors(counts: &BTreeMap<Tag, usize>, of: usize) {
     let reached = |tag| counts.get(&tag).copied().unwrap_or(0);
     let mut short = Vec::new();
@@ -76,11 +75,6 @@ fn inputs_of_plain_ip_reach_every_situation() {
 }
 
 #[test]
-fn calls_of_strict_joining_reach_every_situation() {
-    assert_floors(&count(|seed| calls::tagged_strict_calls(seed, false)), 6);
-}
-
-#[test]
 fn a_seed_is_all_there_is() {
     for seed in 0..200 {
         assert_eq!(case(seed), case(seed));
@@ -90,8 +84,6 @@ fn a_seed_is_all_there_is() {
         assert_eq!(wished_inputs(seed), wished_inputs(seed));
         assert_eq!(plain_ip_calls(seed), plain_ip_calls(seed));
         assert_eq!(plain_ip_inputs(seed), plain_ip_inputs(seed));
-        assert_eq!(strict_calls(seed), strict_calls(seed));
-        assert_eq!(strict_plain_ip_calls(seed), strict_plain_ip_calls(seed));
         assert_ne!(case(seed).bytes, plain_case(seed).bytes);
     }
     assert_eq!(air(1, 20_000), air(1, 20_000));
@@ -142,12 +134,7 @@ fn inputs_keep_their_bounds() {
 #[test]
 fn calls_keep_their_bounds() {
     for seed in 0..SEEDS {
-        for calls in [
-            calls(seed),
-            plain_ip_calls(seed),
-            strict_calls(seed),
-            strict_plain_ip_calls(seed),
-        ] {
+        for calls in [calls(seed), plain_ip_calls(seed)] {
             assert!(calls.limits.work <= WORK_MOST && calls.limits.maps <= MAPS_MOST);
             assert!(calls.limits.total <= TOTAL_MOST);
             assert!(calls.operations.len() <= OPERATIONS_MOST, "seed {seed}");
@@ -308,15 +295,10 @@ fn benchmark_streams_are_of_packets_that_are_alike() {
     }
 }
 
-/// Of each fragment of a stream for benchmarks, its identifier's number and which third it is. Its counter is right.
+/// Of each fragment of a stream for benchmarks, its identifier's number and which third it is.
 fn thirds(stream: &[u8], body: usize) -> Vec<(usize, usize)> {
     let fragments = &packets(stream)[7..];
     assert!(fragments.iter().all(|packet| packet[21..].len() == body));
-    assert!(
-        fragments
-            .iter()
-            .all(|packet| packet[20] == 3 - (packet[19] >> 6))
-    );
     let third = |packet: &&[u8]| (packet[10].into(), usize::from(packet[19] >> 6) - 1);
     fragments.iter().map(third).collect()
 }
@@ -381,32 +363,6 @@ fn plain_ip_carries_most_packets_of_its_mode() {
         }
     }
     assert!(4 * plain > 3 * all, "{plain} of {all}");
-}
-
-/// Strict joining in all of its calls, plain IP in some of them, or in all.
-#[test]
-fn calls_of_strict_joining_have_plain_ip_at_times() {
-    let mut both = 0;
-    for seed in 0..400 {
-        let (made, tags) = calls::tagged_strict_calls(seed, false);
-        assert!(made.modes.strict_joining);
-        assert_eq!(made.modes.plain_ip, tags.contains(&Tag::StrictPlainIp));
-        assert_eq!(strict_plain_ip_calls(seed).modes.bits(), Modes::MOST_BITS);
-        both += usize::from(made.modes.plain_ip);
-    }
-    assert!((60..140).contains(&both), "{both}");
-}
-
-/// Counters tell how many fragments follow, of more than 256 modulo 256.
-#[test]
-fn fragments_have_right_counters() {
-    for count in [2, 3, 256, 257] {
-        let content = vec![0; count];
-        let ends: Vec<usize> = (1..count).collect();
-        let payloads = messages::fragments(0, &content, &ends);
-        let counters = payloads.iter().map(|payload| payload[1]);
-        assert!(counters.eq((0..count).rev().map(|following| following as u8)));
-    }
 }
 
 /// A usual packet of plain IPv4: its lengths agree and its checksums are right.

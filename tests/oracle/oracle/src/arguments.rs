@@ -100,21 +100,13 @@ impl Arguments {
         Ok(Options::from_flags(flags, service))
     }
 
-    /// `--modes plain-ip`, `--modes strict-joining`, or both with a comma between them; all off if not given.
+    /// `--modes plain-ip`; all off if not given.
     pub fn modes(&self) -> Result<Modes, String> {
-        let mut modes = Modes::OFF;
-        for name in self
-            .text("modes")
-            .into_iter()
-            .flat_map(|text| text.split(','))
-        {
-            match name {
-                "plain-ip" => modes.plain_ip = true,
-                "strict-joining" => modes.strict_joining = true,
-                other => return Err(format!("--modes {other} is no plain-ip or strict-joining")),
-            }
+        match self.text("modes") {
+            None => Ok(Modes::OFF),
+            Some("plain-ip") => Ok(Modes::PLAIN_IP),
+            Some(other) => Err(format!("--modes {other} is not plain-ip")),
         }
-        Ok(modes)
     }
 
     /// `--NAME on` or `--NAME off`; `None` if not given.

@@ -8,12 +8,12 @@
 //! Calls are: kind 4, wishes 1 byte (flag bits 0 to 4), modes 1, service 2, W 4, T 4, M 4, map room 4, number of
 //! operations 2, then the operations: 0 (push), output 4, chunk length 4, the chunk; or 1 (dropped). A narrowing
 //! with modes is: kind 7 (table), 8 (payload) or 9 (packet), wishes 1, modes 1, and then as without. Bit 0 of the modes is
-//! plain IP, bit 1 strict joining, the others have no meaning yet.
+//! plain IP, the others have no meaning yet.
 
 use face::{Kind, Limits, Modes, Options};
 
 use crate::named::{self, Requested};
-use crate::{orders, sequences};
+use crate::orders;
 
 /// The rooms of the port's program: what a case may ask for at most.
 const WORK: usize = 131_200;
@@ -173,8 +173,6 @@ impl<'a> Narrowing<'a> {
 pub struct Selection {
     /// Its stream, or its calls.
     pub series: bool,
-    /// Of calls those of strict joining, whatever the modes: messages with gaps.
-    pub gaps: bool,
     /// The most narrowings.
     pub narrowings: usize,
 }
@@ -191,8 +189,8 @@ pub fn of_seed(seed: u64, selection: Selection) -> Vec<u8> {
     writer.bytes
 }
 
-/// A seed's cases with any of the four wishes as bytes: its calls, then its narrowings, all in these modes; in strict joining
-/// alone some calls have plain IP as well. `other` leaves those with that wish on, or off.
+/// A seed's cases with any of the four wishes as bytes: its calls, then its narrowings, all in these modes. `other` leaves
+/// those with that wish on, or off.
 pub fn wished_of_seed(
     seed: u64,
     selection: Selection,
@@ -202,7 +200,7 @@ pub fn wished_of_seed(
     let left = |options: &Options| other.is_none_or(|other| options.other == other);
     let mut writer = Writer::default();
     if selection.series {
-        let calls = calls_of_seed(seed, modes, selection.gaps);
+        let calls = calls_of_seed(seed, modes);
         if left(&calls.options) {
             writer.calls(&Calls::from(&calls));
         }
@@ -215,30 +213,20 @@ pub fn wished_of_seed(
     writer.bytes
 }
 
-fn calls_of_seed(seed: u64, modes: Modes, gaps: bool) -> maker::Calls {
-    let calls = match (modes.strict_joining || gaps, modes.plain_ip) {
-        (true, true) => maker::strict_plain_ip_calls(seed),
-        (true, false) => maker::strict_calls(seed),
-        (false, true) => maker::plain_ip_calls(seed),
-        (false, false) => maker::calls(seed),
-    };
-    let modes = if modes.strict_joining {
-        calls.modes
+fn calls_of_seed(seed: u64, modes: Modes) -> maker::Calls {
+    if modes.plain_ip {
+        maker::plain_ip_calls(seed)
     } else {
-        modes
-    };
-    maker::Calls { modes, ..calls }
+        maker::calls(seed)
+    }
 }
 
-/// Narrowing joins nothing, so that those of strict joining are the same in that mode.
 fn inputs_of_seed(seed: u64, modes: Modes) -> Vec<maker::Input> {
-    let mut inputs = if modes.plain_ip {
+    if modes.plain_ip {
         maker::plain_ip_inputs(seed)
     } else {
         maker::wished_inputs(seed)
-    };
-    inputs.iter_mut().for_each(|input| input.modes = modes);
-    inputs
+    }
 }
 
 /// The named cases as bytes: narrowings, then streams, then those of the requests.
@@ -259,21 +247,11 @@ pub fn named() -> Vec<u8> {
     writer.bytes
 }
 
-/// The cases of all orders in which fragments can come, in these modes, as bytes.
-pub fn orders(modes: Modes) -> Vec<u8> {
+/// The cases of all orders in which fragments can come, as bytes.
+pub fn orders() -> Vec<u8> {
     let mut writer = Writer::default();
-    for ordered in orders::orders(modes) {
+    for ordered in orders::orders() {
         writer.calls(&Calls::from(&ordered.case));
-    }
-    writer.bytes
-}
-
-/// The cases of all short sequences of payloads, in these modes, as bytes.
-pub fn sequences(modes: Modes) -> Vec<u8> {
-    let mut writer = Writer::default();
-    let letters = sequences::letters();
-    for sequence in sequences::sequences(&letters, sequences::LENGTH) {
-        writer.calls(&Calls::from(&sequences::case(modes, &sequence)));
     }
     writer.bytes
 }

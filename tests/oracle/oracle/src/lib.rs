@@ -14,5 +14,4 @@ pub mod narrow;
 pub mod orders;
 pub mod programs;
 pub mod run;
-pub mod sequences;
 pub mod theorems;

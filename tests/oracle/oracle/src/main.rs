@@ -33,24 +33,21 @@ const USAGE: &str = "usage: oracle COMMAND
                               one narrowing of standard input
   cases --seeds A..B [--narrowing N] [--streams 0]
                               the seeds' cases, each with at most N narrowings and its stream, or none
-  cases --seeds A..B --calls [MODES] [--narrowing N] [--streams 0] [--other on|off] [--gaps]
+  cases --seeds A..B --calls [MODES] [--narrowing N] [--streams 0] [--other on|off]
                               the seeds' cases with any of the four wishes: calls in the stream's
                               place, and narrowings with modes; with --other those that want other
-                              assets alone, or those that do not; with --gaps the calls of strict
-                              joining, with that mode off if it is not among MODES
+                              assets alone, or those that do not
   cases --named               the named cases: what the port's program answers stores
-  cases --orders [MODES]      messages in fragments in all orders in which these can come, with a
+  cases --orders              messages in fragments in all orders in which these can come, with a
                               fragment room that is just long enough, and a byte too short
-  cases --sequences [MODES]   all sequences of four payloads: firsts, middles and lasts with counters
-                              that fit and that do not, short ones, a whole one and an empty one
   answers [--by FILTER]       the answers to the cases on standard input
   checksums CASES ANSWERS     recounts lengths and checksums of the plain IP packets that answers to
                               these cases have rewritten; both are files
   theorems --seeds A..B [--narrowing N] [--longest N] [--most N]
                               the seeds' cases with the oracle's answers, as theorems on the
-                              definitions, then those of --calls --other off, of --modes plain-ip
-                              and, of its calls alone, of --modes strict-joining: of each sort at
-                              most N (400), each of at most N bytes (2000)
+                              definitions, then those of --calls --other off and --modes
+                              plain-ip: of each sort at most N
+                              (400), each of at most N bytes (2000)
   compare --seeds A..B        the original and the plain filter
   same --seeds A..B           the original at its own limits and the untouched one
 WISHES
@@ -64,10 +61,6 @@ WISHES
 MODES
   --modes plain-ip            tables in plain IPv4 and IPv6 packets are narrowed too; all modes are off
                               if not given
-  --modes strict-joining      fragments are joined only if their counters say that none is missing; of
-                              the seeds' calls a quarter are with plain-ip as well
-  --modes plain-ip,strict-joining
-                              both
 FILTER
   oracle                      the original where it can be asked, else plain; if not given
   original                    the original, which can't be asked without other assets or with a mode
@@ -92,7 +85,7 @@ fn dispatch(command: &str, words: impl Iterator<Item = String>) -> Answer {
         "input" => input_command(&read(&["seed"], &[])?),
         "run" => run_command(&read(RUN, &[])?),
         "narrow" => narrow_command(&read(NARROW, &["hex"])?),
-        "cases" => cases_command(&read(CASES, SETS)?),
+        "cases" => cases_command(&read(CASES, &["named", "orders", "calls"])?),
         "answers" => answers_command(&read(&["by"], &[])?),
         "checksums" => checksums_command(&read(&[], &[])?),
         "theorems" => theorems_command(&read(THEOREMS, &[])?),
@@ -110,8 +103,6 @@ const NARROW: &[&str] = &[
     "flags", "profile", "service", "modes", "id", "room", "by", "out",
 ];
 const CASES: &[&str] = &["seeds", "modes", "narrowing", "streams", "other"];
-/// The switches of `cases`.
-const SETS: &[&str] = &["named", "orders", "sequences", "calls", "gaps"];
 const THEOREMS: &[&str] = &["seeds", "narrowing", "longest", "most"];
 
 fn program(
@@ -177,36 +168,26 @@ fn narrow_command(arguments: &Arguments) -> Answer {
 
 fn cases_command(arguments: &Arguments) -> Answer {
     let mut output = io::stdout().lock();
-    let modes = arguments.modes()?;
     for (name, made) in [
-        ("orders", cases::orders as fn(_) -> _),
-        ("sequences", cases::sequences),
+        ("named", cases::named as fn() -> _),
+        ("orders", cases::orders),
     ] {
         if arguments.has(name) {
-            output.write_all(&made(modes)).map_err(text)?;
+            output.write_all(&made()).map_err(text)?;
             return Ok(ExitCode::SUCCESS);
         }
     }
-    let calls = arguments.has("calls");
-    if !modes.all_off() && !calls {
-        let message = "--modes is of --calls, --orders and --sequences: others have their own";
-        return Err(message.to_owned());
-    }
-    if arguments.has("named") {
-        output.write_all(&cases::named()).map_err(text)?;
-        return Ok(ExitCode::SUCCESS);
-    }
     let selection = Selection {
         series: arguments.number("streams", 1)? > 0,
-        gaps: arguments.has("gaps"),
         narrowings: arguments.number("narrowing", usize::MAX)?,
     };
-    let other = arguments.on_or_off("other")?;
+    let (calls, other) = (arguments.has("calls"), arguments.on_or_off("other")?);
+    let modes = arguments.modes()?;
     if other.is_some() && !calls {
         return Err("--other is of --calls: all other cases want other assets".to_owned());
     }
-    if selection.gaps && !calls {
-        return Err("--gaps is of --calls".to_owned());
+    if !modes.all_off() && !calls {
+        return Err("--modes is of --calls: all other cases are without modes".to_owned());
     }
     for seed in arguments.seeds()? {
         let bytes = if calls {

@@ -17,7 +17,6 @@ mod readings;
 mod relay;
 mod sizes;
 mod streams;
-mod strict;
 mod wishes;
 mod worked_out;
 
@@ -60,7 +59,6 @@ pub fn requested() -> Vec<Requested> {
             relay::relay(),
         ),
         of_request(Vec::new(), growing::growing()),
-        of_request(strict::narrowings(), strict::strict()),
     ]
     .concat()
 }

@@ -1,7 +1,7 @@
 //! `cases --orders`: messages of a few identifiers in fragments, in every order in which these can come, with a fragment
 //! room that is just long enough for what is held, and with one that is a byte too short. Each message lists assets of its
 //! own, and at the end a packet comes on each of their identifiers, so that an answer tells which messages were joined, and
-//! from which bytes. All counters are right, so that strict joining joins what plain joining does.
+//! from which bytes.
 
 use std::collections::BTreeSet;
 
@@ -36,10 +36,9 @@ pub enum Room {
     MostPassed,
 }
 
-/// All cases in these modes, family by family.
-pub fn orders(modes: Modes) -> impl Iterator<Item = Ordered> {
-    let families = families().into_iter();
-    families.flat_map(move |family| family.cases(modes))
+/// All cases, family by family.
+pub fn orders() -> impl Iterator<Item = Ordered> {
+    families().into_iter().flat_map(Family::cases)
 }
 
 // Messages
@@ -101,8 +100,8 @@ impl Message {
         }
     }
 
-    fn sent(self, place: Place, flags: u8, counter: usize, body: &[u8]) -> Sent {
-        let head = [(place as u8) << 6 | flags & 0x3f, counter as u8];
+    fn sent(self, place: Place, flags: u8, body: &[u8]) -> Sent {
+        let head = [(place as u8) << 6 | flags & 0x3f, 0];
         Sent {
             message: self,
             payload: [&head, body].concat(),
@@ -111,23 +110,17 @@ impl Message {
 
     fn whole(self) -> Sent {
         let (flags, content) = self.content();
-        // One that says something, though nobody reads it.
-        self.sent(Place::Whole, flags, 1, &content)
+        self.sent(Place::Whole, flags, &content)
     }
 
-    /// In fragments that end at these offsets, the last where the message does. The flags of all but the first say nothing;
-    /// each one's counter says how many follow.
+    /// In fragments that end at these offsets, the last where the message does. The flags of all but the first say nothing.
     pub(crate) fn parts(self, ends: &[usize]) -> Vec<Sent> {
         let (flags, content) = self.content();
         let starts = [&[0], ends].concat();
-        let part = |(nth, start): (usize, usize)| {
-            let (place, flags) = match nth {
-                0 => (Place::First, flags),
-                _ if nth == ends.len() => (Place::Last, !flags),
-                _ => (Place::Middle, !flags),
-            };
-            let end = ends.get(nth).copied().unwrap_or(content.len());
-            self.sent(place, flags, ends.len() - nth, &content[start..end])
+        let part = |(nth, start): (usize, usize)| match ends.get(nth) {
+            None => self.sent(Place::Last, !flags, &content[start..]),
+            Some(&end) if nth > 0 => self.sent(Place::Middle, !flags, &content[start..end]),
+            Some(&end) => self.sent(Place::First, flags, &content[start..end]),
         };
         starts.into_iter().enumerate().map(part).collect()
     }
@@ -193,23 +186,20 @@ pub(crate) fn with_whole(behind: usize) -> Vec<Sent> {
 }
 
 impl Family {
-    fn cases(self, modes: Modes) -> impl Iterator<Item = Ordered> {
+    fn cases(self) -> impl Iterator<Item = Ordered> {
         let lengths: Vec<_> = self.scripts.iter().map(Vec::len).collect();
         let orders = interleavings(&lengths).into_iter().enumerate();
-        orders.flat_map(move |(nth, order)| self.of_order(nth, &order, modes))
+        orders.flat_map(move |(nth, order)| self.of_order(nth, &order))
     }
 
     /// An order in all its rooms. In each second case the packets are one chunk; in the others each is one.
-    fn of_order(&self, nth: usize, order: &[usize], modes: Modes) -> Vec<Ordered> {
+    fn of_order(&self, nth: usize, order: &[usize]) -> Vec<Ordered> {
         let sent = in_order(&self.scripts, order);
         let case = |(at, (room, limits)): (usize, (Room, Limits))| Ordered {
             family: self.name,
             order: order.to_vec(),
             room,
-            case: Calls {
-                modes,
-                ..self.case(&sent, limits, at.is_multiple_of(2))
-            },
+            case: self.case(&sent, limits, at.is_multiple_of(2)),
         };
         (nth..).zip(rooms(nth, &sent)).map(case).collect()
     }

@@ -22,13 +22,13 @@ pub struct Bounds {
 }
 
 /// The whole file: what an answer is by the definitions, then a theorem for each case of the seeds, for each of their
-/// cases without other assets, for each of those with plain IP, and for each of their calls in strict joining.
+/// cases without other assets, and for each of those with plain IP.
 pub fn theorems(seeds: Range<u64>, bounds: Bounds) -> String {
     let sort = |of_seed: fn(u64, Bounds) -> Vec<String>| {
         let theorems = seeds.clone().flat_map(move |seed| of_seed(seed, bounds));
         theorems.take(bounds.most)
     };
-    let theorems = [of_seed, wished_of_seed, plain_ip_of_seed, strict_of_seed].map(sort);
+    let theorems = [of_seed, wished_of_seed, plain_ip_of_seed].map(sort);
     let theorems = theorems.into_iter().flatten();
     let parts = iter::once(DEFINITIONS.to_owned()).chain(theorems);
     parts.collect::<Vec<_>>().join("\n")
@@ -62,13 +62,6 @@ fn plain_ip_of_seed(seed: u64, bounds: Bounds) -> Vec<String> {
     let narrowings = narrowings.map(|input| Case::Narrowing(Narrowing::with_modes(input)));
     let cases = iter::once(Case::Calls(Calls::from(&made))).chain(narrowings);
     of_cases(&format!("plain-ip-seed-{seed}"), cases, bounds)
-}
-
-/// A seed's calls in strict joining; narrowing joins nothing.
-fn strict_of_seed(seed: u64, bounds: Bounds) -> Vec<String> {
-    let made = maker::strict_calls(seed);
-    let cases = iter::once(Case::Calls(Calls::from(&made)));
-    of_cases(&format!("strict-seed-{seed}"), cases, bounds)
 }
 
 /// The theorems of a seed's cases, which are counted as `cases` writes them: those that are short enough.
@@ -191,7 +184,7 @@ fn list<T: ToString>(members: impl IntoIterator<Item = T>) -> String {
 /// The answers by the definitions, as `answers::numbers` tells those of a filter.
 const DEFINITIONS: &str = "\
 -- The oracle's answers, each a theorem that holds by computing the definitions.
-use Prim.Native.Nat.{ℕ, zero, suc, _%_, _/_}
+use Prim.Native.Nat.{ℕ, zero, suc, _%_}
 use mathlib.Core.Path.{_≡_, refl}
 use mathlib.Core.List.{List, [], _∷_, _++_, flatten}
 use mathlib.Core.Option.{Option, none, some}
@@ -210,7 +203,7 @@ use Rattle·meaning.specs.declared.Modes.{Modes}
 
 -- Of their bits.
 abbrev modesOf : ℕ → Modes
-modesOf n = record { «plain_ip» = eqb (n % 2) 1; «strict_joining» = eqb (n / 2 % 2) 1 }
+modesOf n = record { «plain_ip» = eqb (n % 2) 1 }
 
 -- ---- narrowing: refusal, changed, length, three that stayed, three that went, the bytes
 

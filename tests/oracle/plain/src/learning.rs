@@ -1,8 +1,8 @@
-//! 01 "What is learned": the lists that the rules ask, and the fragments from which messages are joined, strictly in the
-//! mode of request 4. All lists are in the order in which their members came.
+//! 01 "What is learned": the lists that the rules ask, and the fragments from which messages are joined.
+//! All lists are in the order in which their members came.
 
 use crate::tables::{self, AssetEntry, Mpt, Plt};
-use face::{Limits, Modes, Part};
+use face::{Limits, Part};
 
 /// Places of the map room, one for each identifier.
 const MOST_MAPS: usize = 64;
@@ -40,43 +40,12 @@ struct Fragment {
     identifier: u16,
     /// The first's byte 0: of its low six bits, which the joined message has, two are read.
     flags: u8,
-    /// How many fragments follow, as the latest of its payloads says. Plain joining does not ask.
-    following: u8,
     body: Vec<u8>,
-}
-
-/// A payload, of which strict joining reads the counter where it is a fragment.
-struct Piece<'a> {
-    identifier: u16,
-    flags: u8,
-    /// Byte 1, how many fragments follow; a payload of one byte has none.
-    counter: Option<u8>,
-    body: &'a [u8],
-}
-
-impl Piece<'_> {
-    fn is_last(&self) -> bool {
-        self.flags >> 6 == 3
-    }
-
-    /// Strict joining: "each fragment's counter is one less than the one before, the last has 0". Nothing is one less than
-    /// 0, and no counter is none that fits.
-    fn follows(&self, held: &Fragment) -> bool {
-        let fits = |counter: u8| held.following.checked_sub(1) == Some(counter);
-        self.counter
-            .is_some_and(|counter| fits(counter) && (counter == 0 || !self.is_last()))
-    }
 }
 
 impl Learned {
     /// Observes a payload of type 2 and answers how many maps were lost.
-    pub fn observe(
-        &mut self,
-        identifier: u16,
-        payload: &[u8],
-        limits: &Limits,
-        modes: &Modes,
-    ) -> u64 {
+    pub fn observe(&mut self, identifier: u16, payload: &[u8], limits: &Limits) -> u64 {
         let Some(&flags) = payload.first() else {
             return 0;
         };
@@ -84,27 +53,22 @@ impl Learned {
         if self.data.contains(&identifier) {
             return 0;
         }
-        let piece = Piece {
-            identifier,
-            flags,
-            counter: payload.get(1).copied(),
-            body: payload.get(2..).unwrap_or_default(),
-        };
+        let body = payload.get(2..).unwrap_or_default();
         match flags >> 6 {
             0 => {
                 self.take_fragment(identifier);
-                self.learn(identifier, flags, piece.body)
+                self.learn(identifier, flags, body)
             }
             1 => {
-                self.hold_first(&piece, limits, modes);
+                self.hold_first(identifier, flags, body, limits);
                 0
             }
             2 => {
-                self.join(&piece, limits, modes);
+                self.join(identifier, body, limits);
                 0
             }
             _ => {
-                self.join(&piece, limits, modes);
+                self.join(identifier, body, limits);
                 let joined = self.take_fragment(identifier);
                 joined.map_or(0, |whole| self.learn(identifier, whole.flags, &whole.body))
             }
@@ -125,33 +89,28 @@ impl Learned {
         Some(self.fragments.remove(at))
     }
 
-    /// A first takes the place of what its identifier held, if there is room for it. M is not tested on a first. Strict
-    /// joining does not hold one that has no counter.
-    fn hold_first(&mut self, piece: &Piece, limits: &Limits, modes: &Modes) {
-        self.take_fragment(piece.identifier);
-        let room = self.fragments.len() < MOST_FRAGMENTS && self.has_room(piece.body.len(), limits);
-        if room && (piece.counter.is_some() || !modes.strict_joining) {
+    /// A first takes the place of what its identifier held, if there is room for it. M is not tested on a first.
+    fn hold_first(&mut self, identifier: u16, flags: u8, body: &[u8], limits: &Limits) {
+        self.take_fragment(identifier);
+        if self.fragments.len() < MOST_FRAGMENTS && self.has_room(body.len(), limits) {
+            let body = body.to_vec();
             self.fragments.push(Fragment {
-                identifier: piece.identifier,
-                flags: piece.flags,
-                following: piece.counter.unwrap_or_default(),
-                body: piece.body.to_vec(),
+                identifier,
+                flags,
+                body,
             });
         }
     }
 
-    /// Joins a middle's or last's body to the held fragment, or discards the fragment where M or T is passed, and in strict
-    /// joining where a fragment is missing between the two.
-    fn join(&mut self, piece: &Piece, limits: &Limits, modes: &Modes) {
-        let room = self.has_room(piece.body.len(), limits);
-        let Some(at) = self.fragment(piece.identifier) else {
+    /// Joins a middle's or last's body to the held fragment, or discards the fragment where M or T is passed.
+    fn join(&mut self, identifier: u16, body: &[u8], limits: &Limits) {
+        let room = self.has_room(body.len(), limits);
+        let Some(at) = self.fragment(identifier) else {
             return;
         };
-        let held = &mut self.fragments[at];
-        let fits = room && held.body.len() + piece.body.len() <= limits.most;
-        if fits && (piece.follows(held) || !modes.strict_joining) {
-            held.body.extend_from_slice(piece.body);
-            held.following = piece.counter.unwrap_or_default();
+        let joined = &mut self.fragments[at].body;
+        if room && joined.len() + body.len() <= limits.most {
+            joined.extend_from_slice(body);
         } else {
             self.fragments.remove(at);
         }

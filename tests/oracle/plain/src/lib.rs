@@ -144,10 +144,9 @@ impl Plain {
         call.counts.accepted += 1;
         if let Some(mmtp) = payload::mmtp(packet) {
             if mmtp.is_signalling() {
-                let lost =
+                call.counts.lost +=
                     self.learned
-                        .observe(mmtp.identifier, mmtp.payload, &self.limits, &self.modes);
-                call.counts.lost += lost;
+                        .observe(mmtp.identifier, mmtp.payload, &self.limits);
             }
             if !self.rules().writes(&mmtp) {
                 return;

@@ -1,4 +1,4 @@
-use Rattle.observing.proofs.ObserveSteps.{keeps_fragments, part_within, lost_within, lost_held, last_joining, last_grew, last_gave, last_absent}
+use Rattle.observing.proofs.ObserveSteps.{keeps_fragments, part_within, lost_within, last_grew, last_gave, last_absent}
 use Rattle.fragments.proofs.GrowLaws.{grew_numbers}
 use Rattle.meaning.specs.Learn.{with_fragments, without}
 use lib.ListN.{length}
@@ -9,9 +9,6 @@ use borrow.Author.Rules.{rules}
 use Rattle.observing.proofs.observe.last.Statement.{statement}
 use Rattle.observing.proofs.observe.last.Tie as tie
 
-last-joining-requires : tie.Need-last-joining-requires
-last-joining-requires c κs = search rules
-
 grow-requires : tie.Need-grow-requires
 grow-requires c κs = search rules
 
@@ -20,46 +17,41 @@ enum-known-start c = search rules
 
 sub-learn : tie.Need-overflow-sub-learn
 sub-learn c =
-    let a = c.before.before.before.before.before.before.before.before.before.before.before.before.args in
-    let x = c.before.before.before.before.before.before.before.before.before.before.before.before.requires.2 in
-    let u = rw (c.before.start.given.1, c.before.before.before.before.before.before.before.before.last-joining.ensures) at c.before.before.before.before.before.grow.ensures in
-    let g = u.is (record { work = 0; total = x.0; most = a.p.most }) x.1.fragments refl x.2.fragments_kept in
+    let a = c.before.before.before.before.before.before.before.before.before.before.before.args in
+    let x = c.before.before.before.before.before.before.before.before.before.before.before.requires.1 in
+    let g = (rw c.before.start.given.1 at c.before.before.before.before.before.grow.ensures).is (record { work = 0; total = x.0; most = a.most }) x.1.fragments refl x.2.fragments_kept in
     g.ordered
 
 part-learn-start : tie.Need-slice-bounds-learn-start
 part-learn-start c =
-    let a = c.before.before.before.before.before.before.before.before.before.before.before.before.before.args in
-    let x = c.before.before.before.before.before.before.before.before.before.before.before.before.before.requires.2 in
-    let u = rw (c.before.before.start.given.1, c.before.before.before.before.before.before.before.before.before.last-joining.ensures) at c.before.before.before.before.before.before.grow.ensures in
-    let g = u.is (record { work = 0; total = x.0; most = a.p.most }) x.1.fragments refl x.2.fragments_kept in
+    let a = c.before.before.before.before.before.before.before.before.before.before.before.before.args in
+    let x = c.before.before.before.before.before.before.before.before.before.before.before.before.requires.1 in
+    let g = (rw c.before.before.start.given.1 at c.before.before.before.before.before.before.grow.ensures).is (record { work = 0; total = x.0; most = a.most }) x.1.fragments refl x.2.fragments_kept in
     omega (arith, g.ordered, g.inside)
 
 part-learn-end : tie.Need-slice-bounds-learn-end
 part-learn-end c =
-    let a = c.before.before.before.before.before.before.before.before.before.before.before.before.before.args in
-    let x = c.before.before.before.before.before.before.before.before.before.before.before.before.before.requires.2 in
-    let u = rw (c.before.before.start.given.1, c.before.before.before.before.before.before.before.before.before.last-joining.ensures) at c.before.before.before.before.before.before.grow.ensures in
-    let g = u.is (record { work = 0; total = x.0; most = a.p.most }) x.1.fragments refl x.2.fragments_kept in
+    let a = c.before.before.before.before.before.before.before.before.before.before.before.before.args in
+    let x = c.before.before.before.before.before.before.before.before.before.before.before.before.requires.1 in
+    let g = (rw c.before.before.start.given.1 at c.before.before.before.before.before.before.grow.ensures).is (record { work = 0; total = x.0; most = a.most }) x.1.fragments refl x.2.fragments_kept in
     omega (arith, g.ordered, g.inside)
 
 learn-requires : tie.Need-learn-requires
 learn-requires c κs =
-    let a = c.before.before.before.before.before.before.before.before.before.before.before.before.before.before.before.before.before.before.args in
-    let x = c.before.before.before.before.before.before.before.before.before.before.before.before.before.before.before.before.before.before.requires.2 in
-    let u = rw (c.before.before.before.before.before.before.before.start.given.1, c.before.before.before.before.before.before.before.before.before.before.before.before.before.before.last-joining.ensures) at c.before.before.before.before.before.before.before.before.before.before.before.grow.ensures in
-    let g = u.is (record { work = 0; total = x.0; most = a.p.most }) x.1.fragments refl x.2.fragments_kept in
+    let a = c.before.before.before.before.before.before.before.before.before.before.before.before.before.before.before.before.before.args in
+    let x = c.before.before.before.before.before.before.before.before.before.before.before.before.before.before.before.before.before.requires.1 in
+    let g = (rw c.before.before.before.before.before.before.before.start.given.1 at c.before.before.before.before.before.before.before.before.before.before.before.grow.ensures).is (record { work = 0; total = x.0; most = a.most }) x.1.fragments refl x.2.fragments_kept in
     let v = c.before.before.before.before.before.before.before.start.given.0 in
     let t : length a.bodies.now ≡ x.0 = x.2.fragments_kept.total in
-    let pre : a.e.lost + x.0 ≤ 18446744073709551615 = omega (arith, c.before.before.before.before.before.before.before.before.before.before.before.before.before.before.before.before.before.before.requires.0, t) in
+    let pre : a.e.lost + x.0 ≤ 18446744073709551615 = omega (arith, c.before.before.before.before.before.before.before.before.before.before.before.before.before.before.before.before.before.requires.0, t) in
     (part_within a.e.lost _ v.0 v.1.0 x.0 18446744073709551615 g.kept.total pre, (x.1, x.2.tables_kept))
 
 give-back-requires : tie.Need-give-back-requires
 give-back-requires c κs =
-    let a = c.before.before.before.before.before.before.before.before.before.before.before.before.before.before.before.before.before.before.before.before.before.before.args in
-    let x = c.before.before.before.before.before.before.before.before.before.before.before.before.before.before.before.before.before.before.before.before.before.before.requires.2 in
-    let u = rw (c.before.before.before.before.before.before.before.before.before.before.before.start.given.1, c.before.before.before.before.before.before.before.before.before.before.before.before.before.before.before.before.before.before.last-joining.ensures) at c.before.before.before.before.before.before.before.before.before.before.before.before.before.before.before.grow.ensures in
-    let g = u.is (record { work = 0; total = x.0; most = a.p.most }) x.1.fragments refl x.2.fragments_kept in
-    grew_numbers (record { work = 0; total = x.0; most = a.p.most }) (last_joining a.p.modes a.counter a.p.most) a.p.id a.body.now x.1.fragments _ _ _ _ _ _ g
+    let a = c.before.before.before.before.before.before.before.before.before.before.before.before.before.before.before.before.before.before.before.before.before.args in
+    let x = c.before.before.before.before.before.before.before.before.before.before.before.before.before.before.before.before.before.before.before.before.before.requires.1 in
+    let g = (rw c.before.before.before.before.before.before.before.before.before.before.before.start.given.1 at c.before.before.before.before.before.before.before.before.before.before.before.before.before.before.before.grow.ensures).is (record { work = 0; total = x.0; most = a.most }) x.1.fragments refl x.2.fragments_kept in
+    grew_numbers (record { work = 0; total = x.0; most = a.most }) a.id a.body.now x.1.fragments _ _ _ _ _ _ g
 
 with-held-requires : tie.Need-with-held-requires
 with-held-requires c κs = search rules
@@ -81,20 +73,20 @@ same-length-2 c = c.before.before.before.before.before.before.before.before.befo
 
 returns : tie.Need-returns
 returns c =
-    let a = c.before.before.before.before.before.before.before.before.before.before.before.before.before.before.before.before.before.before.before.before.before.before.before.before.args in
-    let x = c.before.before.before.before.before.before.before.before.before.before.before.before.before.before.before.before.before.before.before.before.before.before.before.before.requires.2 in
-    let u = rw (c.before.before.before.before.before.before.before.before.before.before.before.before.before.start.given.1, c.before.before.before.before.before.before.before.before.before.before.before.before.before.before.before.before.before.before.before.before.last-joining.ensures) at c.before.before.before.before.before.before.before.before.before.before.before.before.before.before.before.before.before.grow.ensures in
+    let a = c.before.before.before.before.before.before.before.before.before.before.before.before.before.before.before.before.before.before.before.before.before.before.before.args in
     let w = c.with-held.ensures in
     let y = c.before.before.before.before.before.learn.ensures in
     let v = c.before.before.before.before.before.before.before.before.before.before.before.before.before.start.given.0 in
-    let g₀ = u.is (record { work = 0; total = x.0; most = a.p.most }) x.1.fragments refl x.2.fragments_kept in
+    let x = c.before.before.before.before.before.before.before.before.before.before.before.before.before.before.before.before.before.before.before.before.before.before.before.requires.1 in
+    let u = rw c.before.before.before.before.before.before.before.before.before.before.before.before.before.start.given.1 at c.before.before.before.before.before.before.before.before.before.before.before.before.before.before.before.before.before.grow.ensures in
+    let g₀ = u.is (record { work = 0; total = x.0; most = a.most }) x.1.fragments refl x.2.fragments_kept in
     let t : length a.bodies.now ≡ x.0 = x.2.fragments_kept.total in
     let l = lost_within a.e.lost _ _ v.0 v.1.0 x.0 g₀.kept.total y.1 in (
       (λ L k most h.
           rw w
-          (last_grew L a.p.modes a.p.id a.counter a.p.most a.body.now k a.e c.before.before.before.before.before.before.before.before.before.before.before.before.before.before.before.before.before.before.before.before.before.before.before.before.requires.1 _ _ _ _ _ _ (u.is L k.fragments most h.fragments_kept) _ _ _ _ _ _ _
-          (y.0 (with_fragments (without a.p.id k.fragments) k) (keeps_fragments k _ a.e _ _ _ _ h.tables_kept)) c.before.give-back.ensures)),
-      lost_held _ _ a.e.lost (length a.bodies.now) x.0 (ap (λ z. z.lost) w) l t,
+          (last_grew L a.id a.body.now k a.e _ _ _ _ _ _ (u.is L k.fragments most h.fragments_kept) _ _ _ _ _ _ _
+          (y.0 (with_fragments (without a.id k.fragments) k) (keeps_fragments k _ a.e _ _ _ _ h.tables_kept)) c.before.give-back.ensures)),
+      omega (arith, ap (λ z. z.lost) w, l, t),
       u.once,
     )
 
@@ -103,11 +95,10 @@ same-length-3 c = search rules
 
 returns-2 : tie.Need-returns-2
 returns-2 c =
-    let a = c.before.before.before.before.before.before.before.before.before.before.before.before.before.args in
-    let x = c.before.before.before.before.before.before.before.before.before.before.before.before.before.requires.2 in
-    let u = rw (c.before.before.held.given.1, c.before.before.before.before.before.before.before.before.before.last-joining.ensures) at c.before.before.before.before.before.before.grow.ensures in
-    let w = c.with-held2.ensures in (
-      (λ L k most h. rw w (last_gave L a.p.modes a.p.id a.counter a.p.most a.body.now k a.e c.before.before.before.before.before.before.before.before.before.before.before.before.before.requires.1 _ _ _ (u.is L k.fragments most h.fragments_kept) _ _ _ _ h.tables_kept)),
+    let a = c.before.before.before.before.before.before.before.before.before.before.before.before.args in
+    let w = c.with-held2.ensures in
+    let u = rw c.before.before.held.given.1 at c.before.before.before.before.before.before.grow.ensures in (
+      (λ L k most h. rw w (last_gave L a.id a.body.now k a.e _ _ _ (u.is L k.fragments most h.fragments_kept) _ _ _ _ h.tables_kept)),
       omega (arith, ap (λ z. z.lost) w),
       u.once,
     )
@@ -117,12 +108,11 @@ same-length-4 c = search rules
 
 returns-3 : tie.Need-returns-3
 returns-3 c =
-    let a = c.before.before.before.before.before.before.before.before.before.before.before.args in
-    let x = c.before.before.before.before.before.before.before.before.before.before.before.requires.2 in
-    let u = rw (c.enum_told.given.1, c.before.before.before.before.before.before.before.last-joining.ensures) at c.before.before.before.before.grow.ensures in (
+    let a = c.before.before.before.before.before.before.before.before.before.before.args in
+    let u = rw c.enum_told.given.1 at c.before.before.before.before.grow.ensures in (
       (λ L k most h.
           let g = u.is L k.fragments most h.fragments_kept in
-          last_absent L a.p.modes a.p.id a.counter a.p.most a.body.now k a.e c.before.before.before.before.before.before.before.before.before.before.before.requires.1 g.0 _ _ _ _ _ _ (rw (g.1, g.2) h)),
+          last_absent L a.id a.body.now k a.e g.0 _ _ _ _ _ _ (rw (g.1, g.2) h)),
       omega arith,
       u.once,
     )
@@ -131,7 +121,6 @@ pub last-spec : {M : Type 1} → statement M
 last-spec =
     tie.close
     (tie.spec
-    last-joining-requires
     grow-requires
     enum-known-start
     sub-learn

@@ -35,7 +35,7 @@ returns c =
     record {
       call = p.result;
       pushed = p.ensures;
-      answer_is = c.before.first_of.ensures ∙ ap (first_of (answer_number p.result.answer)) c.before.before.tally-answer.ensures;
+      answer_is = c.before.first_of_lem.ensures ∙ ap (first_of (answer_number p.result.answer)) c.before.before.tally-answer.ensures;
       bytes_are = refl;
       sums_are = c.sum_of.ensures;
       filter_is = refl;

@@ -21,11 +21,7 @@ clear32-requires : tie.Need-clear32-requires
 clear32-requires c κs = search rules
 
 slice-aggregate-clear32-2 : tie.Need-slice-aggregate-clear32-2
-unfolding record_in
-slice-aggregate-clear32-2 c =
-    let z = c.before.before.before.before.before.before.before.before.before.before.before.before.before in
-    let g = z.well-formed.0.1.1.1.1.1.1.1.1.1.1.1.1.1 in
-    sym (whole_record z.args.self g.0.1.0.1 g.1.0.1.0.1 g.1.1.0.1.0.1 g.1.1.1.0.1.0.1).map_heads_all
+slice-aggregate-clear32-2 c = search rules
 
 clear32-requires-2 : tie.Need-clear32-requires-2
 clear32-requires-2 c κs = search rules

@@ -38,15 +38,15 @@ clear-unused-requires c κs = search rules
 
 carry-out-requires : tie.Need-carry-out-requires
 carry-out-requires c κs =
-    let z = c.before.before.before.before.before.before.before.before.before.before.before.before.before.before.before.before.before.before.before.before.before.before.before.before.before.before.before.before.before.before.before in
+    let z = c.before.before.before.before.before.before.before.before.before.before.before.before.before.before.before.before.before.before.before.before.before.before.before.before.before.before.before.before.before.before in
     let a = z.args in
     let g = z.well-formed.0.1.1.1.1.1.1.1.1.1.1.1.1.1 in
     let all = whole_record a.self g.0.1.0.1 g.1.0.1.0.1 g.1.1.0.1.0.1 g.1.1.1.0.1.0.1 in
-    let b = c.before.before.before.before.before.before.before.before.before.before.before.before.before.before.before.before.before.before.before.before.before.before.before.before.before.begun.ensures in
+    let b = c.before.before.before.before.before.before.before.before.before.before.before.before.before.before.before.before.before.before.before.before.before.before.before.before.begun.ensures in
     let u = c.before.before.before.before.before.before.before.before.before.clear-unused.ensures in
     rw (u.0, u.1, u.2, b)
-    (may_carry_out a.self a.work.now a.bodies.now a.map_room.now a.chunk.now a.out.now c.before.before.before.before.before.before.before.before.before.before.before.before.before.before.before.before.before.call-answer.result (rw (b, c.before.before.before.before.before.before.before.before.before.before.before.before.before.before.before.before.before.before.before.before.before.before.before.before.lengths.ensures) at c.before.before.before.before.before.before.before.before.before.before.before.before.before.before.before.before.before.call-answer.ensures) all
-    (sym c.before.before.before.before.before.before.before.before.before.before.before.before.before.before.before.before.is-done.ensures ∙ not-false _ c.before.before.before.before.before.before.before.before.before.before.before.before.before.before.before.if1.false))
+    (may_carry_out a.self a.work.now a.bodies.now a.map_room.now a.chunk.now a.out.now c.before.before.before.before.before.before.before.before.before.before.before.before.before.before.before.before.call-answer.result (rw (b, c.before.before.before.before.before.before.before.before.before.before.before.before.before.before.before.before.before.before.before.before.before.before.before.lengths.ensures) at c.before.before.before.before.before.before.before.before.before.before.before.before.before.before.before.before.call-answer.ensures) all
+    (sym c.before.before.before.before.before.before.before.before.before.before.before.before.before.before.before.is-done.ensures ∙ not-false _ c.before.before.before.before.before.before.before.before.before.before.before.before.before.before.if1.false))
 
 hand-back-requires : tie.Need-hand-back-requires
 hand-back-requires c κs = search rules
@@ -65,15 +65,15 @@ same-length-4 c = search rules
 
 returns-2 : tie.Need-returns-2
 returns-2 c =
-    let z = c.before.before.before.before.before.before.before.before.before.before.before.before.before.before.before.before.before.before.before.before.before.before.before.before.before.before.before.before.before.before.before.before.before.before.before.before.before.before.before.before.before in
+    let z = c.before.before.before.before.before.before.before.before.before.before.before.before.before.before.before.before.before.before.before.before.before.before.before.before.before.before.before.before.before.before.before.before.before.before.before.before.before.before.before.before in
     let a = z.args in
     let g = z.well-formed.0.1.1.1.1.1.1.1.1.1.1.1.1.1 in
     let all = whole_record a.self g.0.1.0.1 g.1.0.1.0.1 g.1.1.0.1.0.1 g.1.1.1.0.1.0.1 in
-    let b = c.before.before.before.before.before.before.before.before.before.before.before.before.before.before.before.before.before.before.before.before.before.before.before.before.before.before.before.before.before.before.before.before.before.before.before.begun.ensures in
+    let b = c.before.before.before.before.before.before.before.before.before.before.before.before.before.before.before.before.before.before.before.before.before.before.before.before.before.before.before.before.before.before.before.before.before.before.begun.ensures in
     let u = c.before.before.before.before.before.before.before.before.before.before.before.before.before.before.before.before.before.before.before.clear-unused.ensures in
     rw (c.hand-back.ensures, b)
-    (done_as a.self a.work.now a.bodies.now a.map_room.now a.chunk.now a.out.now c.before.before.before.before.before.before.before.before.before.before.before.before.before.before.before.before.before.before.before.before.before.before.before.before.before.before.before.call-answer.result (rw (b, c.before.before.before.before.before.before.before.before.before.before.before.before.before.before.before.before.before.before.before.before.before.before.before.before.before.before.before.before.before.before.before.before.before.before.lengths.ensures) at c.before.before.before.before.before.before.before.before.before.before.before.before.before.before.before.before.before.before.before.before.before.before.before.before.before.before.before.call-answer.ensures) all
-    (sym c.before.before.before.before.before.before.before.before.before.before.before.before.before.before.before.before.before.before.before.before.before.before.before.before.before.before.is-done.ensures ∙ not-false _ c.before.before.before.before.before.before.before.before.before.before.before.before.before.before.before.before.before.before.before.before.before.before.before.before.before.if1.false) c.before.before.before.before.before.before.before.before.before.carry-out.result _ _ _ _ _ _ _ _ (rw (u.0, u.1, u.2, b) at c.before.before.before.before.before.before.before.before.before.carry-out.ensures)
+    (done_as a.self a.work.now a.bodies.now a.map_room.now a.chunk.now a.out.now c.before.before.before.before.before.before.before.before.before.before.before.before.before.before.before.before.before.before.before.before.before.before.before.before.before.before.call-answer.result (rw (b, c.before.before.before.before.before.before.before.before.before.before.before.before.before.before.before.before.before.before.before.before.before.before.before.before.before.before.before.before.before.before.before.before.before.lengths.ensures) at c.before.before.before.before.before.before.before.before.before.before.before.before.before.before.before.before.before.before.before.before.before.before.before.before.before.before.call-answer.ensures) all
+    (sym c.before.before.before.before.before.before.before.before.before.before.before.before.before.before.before.before.before.before.before.before.before.before.before.before.before.is-done.ensures ∙ not-false _ c.before.before.before.before.before.before.before.before.before.before.before.before.before.before.before.before.before.before.before.before.before.before.before.before.if1.false) c.before.before.before.before.before.before.before.before.before.carry-out.result _ _ _ _ _ _ _ _ (rw (u.0, u.1, u.2, b) at c.before.before.before.before.before.before.before.before.before.carry-out.ensures)
     (search rules))
 
 pub push_spec : {M : Type 1} → statement M

@@ -4,9 +4,6 @@ use mathlib.Core.List.{◌++◌}
 use native.Mathlib.Omega.{arith}
 use lib.ListN.{length, take, drop, length-append, length-drop}
 use lib.Seq.{length-take-le, take_all}
-use Rattle.meaning.specs.Packets.{cut}
-use Rattle.meaning.specs.Rooms.{packet_limit}
-use Rattle.meaning.specs.Leading.{leading_over}
 use Rattle.meaning.specs.Push.{filtered}
 use Rattle.passing.specs.declared.Terms.{Terms}
 use Rattle.recorder.proofs.FrontLaws.{run_end, run_front, run_is, run_length, front_holds, front_reads}
@@ -65,7 +62,7 @@ returns-2 c L k em ew h =
     let terms = c.before.before.before.before.before.before.before.before.terms-of in
     let held = take a.b.held_count a.work.now in
     let len : length (held ++ a.chunk.now) ≡ a.b.held_count + length a.chunk.now = omega (arith, length-append held a.chunk.now, length-take-le a.b.held_count a.work.now (omega (arith, z.requires.0.work_room))) in
-    ran_as (not_all L _ _ _ _ (sym c.before.before.before.before.before.before.before.before.before.before.copies-all.ensures ∙ c.before.before.before.before.before.before.before.before.before.if1.false)) (not_all_leads L _ _ _ _ _ (sym c.before.before.before.before.before.before.before.before.before.before.copies-all.ensures ∙ c.before.before.before.before.before.before.before.before.before.if1.false))
+    ran_as (not_all L _ _ _ _ (sym c.before.before.before.before.before.before.before.before.before.before.copies-all.ensures ∙ c.before.before.before.before.before.before.before.before.before.if1.false)) (not_all_leads L _ _ _ _ (sym c.before.before.before.before.before.before.before.before.before.before.copies-all.ensures ∙ c.before.before.before.before.before.before.before.before.before.if1.false))
     (held_ends L a.b.modes a.b.options k held a.chunk.now a.out.now _ (length a.work.now) terms.result.limit a.b.extent c.before.before.all_held.result _ _ _ _ _ _ (ap (λ (t : Terms). t.limit) terms.ensures) ew
     (front_holds terms.result.limit a.b.held_count a.chunk.now a.work.now (omega (arith, z.requires.0.work_room)) _ c.before.before.before.before.before.before.front_of.ensures c.before.before.before.before.enum_told.given.1)
     (rw (← len) at e.0) (ap (λ (n : ℕ). take n c.before.before.all_held.new.1.1.1.0) len ∙ e.1.front) h)
@@ -184,7 +181,7 @@ returns-3 c L known em ew h =
     let on = rw second at c.before.before.held_on.ensures in
     ran_as
     (ap (λ (t : Terms). filtered L t.modes t.options (record { held = held; known = known }) a.chunk.now) terms.ensures ∙ not_all L _ _ _ _ (sym c.before.before.before.before.before.before.before.before.before.before.before.before.before.before.before.before.before.before.before.before.before.before.before.before.before.before.before.before.before.before.before.before.before.before.copies-all.ensures ∙ c.before.before.before.before.before.before.before.before.before.before.before.before.before.before.before.before.before.before.before.before.before.before.before.before.before.before.before.before.before.before.before.before.before.if1.false))
-    (ap (λ (t : Terms). leading_over L t.modes known (cut (packet_limit L.work) (held ++ a.chunk.now)).packets a.b.extent.leading) terms.ensures ∙ not_all_leads L _ _ _ _ _ (sym c.before.before.before.before.before.before.before.before.before.before.before.before.before.before.before.before.before.before.before.before.before.before.before.before.before.before.before.before.before.before.before.before.before.before.copies-all.ensures ∙ c.before.before.before.before.before.before.before.before.before.before.before.before.before.before.before.before.before.before.before.before.before.before.before.before.before.before.before.before.before.before.before.before.before.if1.false))
+    (not_all_leads L _ _ _ _ (sym c.before.before.before.before.before.before.before.before.before.before.before.before.before.before.before.before.before.before.before.before.before.before.before.before.before.before.before.before.before.before.before.before.before.before.copies-all.ensures ∙ c.before.before.before.before.before.before.before.before.before.before.before.before.before.before.before.before.before.before.before.before.before.before.before.before.before.before.before.before.before.before.before.before.before.if1.false))
     (parts_carried L terms.result known held a.chunk.now (held ++ take k a.chunk.now) (drop k a.chunk.now) a.out.now _ _ _ (length a.work.now) c.before.before.before.before.before.before.before.before.before.before.before.before.before.before.before.before.before.before.before.before.before.before.before.before.copy.result a.b.extent _ _ _ _ _ _ _ _ _ _ _ _ c.before.before.before.before.before.before.before.before.before.before.before.in_parts.result c.before.before.held_on.result
     (ap (λ (t : Terms). t.limit) terms.ensures) ew (em ∙ sym (ap (λ (t : Terms). t.most) terms.ensures)) (run_parts held a.chunk.now k) f.1 (run_front a.b.held_count k a.chunk.now a.work.now _ c.before.before.before.before.before.before.before.before.before.before.before.before.before.before.before.before.before.before.before.before.before.before.before.before.copy.result f.0 (omega (arith, f.0, z.requires.0.work_room)) c.before.before.before.before.before.before.before.before.before.before.before.before.before.before.before.before.before.before.before.before.before.before.before.before.copy.ensures) h passed on)
 

@@ -114,23 +114,19 @@ fn cases_stand_byte_by_byte() {
 /// The modes byte, in calls and in narrowings.
 #[test]
 fn modes_stand_behind_the_wishes() {
-    for bits in 0..4 {
-        let modes = Modes::from_bits(bits).expect("modes");
-        let series = Calls {
-            modes,
-            ..calls(&[])
-        };
-        let packet = Narrowing {
-            modes,
-            ..with_modes(Kind::Packet, &[0xaa])
-        };
-        let cases = [Case::Calls(series), Case::Narrowing(packet)];
-        let bytes = written(&cases);
-        assert_eq!(bytes[..5], hex(&format!("04 17 0{bits} 0000")));
-        let rest = "0401 1234 00000064 00000001 AA";
-        assert_eq!(bytes[23..], hex(&format!("09 1F 0{bits} {rest}")));
-        assert_eq!(read(&bytes), cases);
-    }
+    let series = Calls {
+        modes: Modes::PLAIN_IP,
+        ..calls(&[])
+    };
+    let packet = Narrowing {
+        modes: Modes::PLAIN_IP,
+        ..with_modes(Kind::Packet, &[0xaa])
+    };
+    let cases = [Case::Calls(series), Case::Narrowing(packet)];
+    let bytes = written(&cases);
+    assert_eq!(bytes[..5], hex("04 17 01 0000"));
+    assert_eq!(bytes[23..], hex("09 1F 01 0401 1234 00000064 00000001 AA"));
+    assert_eq!(read(&bytes), cases);
 }
 
 #[test]
@@ -154,7 +150,7 @@ fn kinds_0_to_3_have_no_place_for_the_fourth_wish() {
 }
 
 #[test]
-fn wishes_above_31_or_modes_above_3_end_the_run() {
+fn wishes_above_31_or_modes_above_1_end_the_run() {
     for case in [
         Case::Calls(calls(&[])),
         Case::Narrowing(with_modes(Kind::Table, &[])),
@@ -165,7 +161,7 @@ fn wishes_above_31_or_modes_above_3_end_the_run() {
             assert_eq!(read_with(case.clone(), 1, &[wishes]), cases);
         }
         for modes in 0..=255 {
-            let cases = if modes < 4 { 2 } else { 0 };
+            let cases = if modes < 2 { 2 } else { 0 };
             assert_eq!(read_with(case.clone(), 2, &[modes]), cases);
         }
     }
@@ -396,9 +392,8 @@ fn the_filters_agree_on_the_calls_of_the_first_seeds() {
         for input in &inputs {
             answered(&written(&[Case::Narrowing(Narrowing::with_modes(input))]));
         }
-        for made in [maker::plain_ip_calls(seed), maker::strict_calls(seed)] {
-            answered(&written(&[Case::Calls(Calls::from(&made))]));
-        }
+        let relay = maker::plain_ip_calls(seed);
+        answered(&written(&[Case::Calls(Calls::from(&relay))]));
     }
 }
 

@@ -238,7 +238,6 @@ fn answers_to_other_cases_are_an_error() {
 fn the_second_filter_sums_as_the_recount_does() {
     let selection = Selection {
         series: true,
-        gaps: false,
         narrowings: 8,
     };
     let of_seed = |seed| wished_of_seed(seed, selection, Modes::PLAIN_IP, None);

@@ -136,7 +136,6 @@ fn the_original_is_not_asked_without_other_assets() {
     let wished = |other| {
         let selection = Selection {
             series: true,
-            gaps: false,
             narrowings: 2,
         };
         (0..9).flat_map(move |seed| wished_of_seed(seed, selection, Modes::OFF, Some(other)))
@@ -172,12 +171,7 @@ fn words_that_do_not_go_together_are_refused() {
         &["cases", "--seeds", "0..1", "--other", "off"][..],
         &["cases", "--seeds", "0..1", "--calls", "--other", "none"],
         &["cases", "--seeds", "0..1", "--modes", "plain-ip"],
-        &["cases", "--seeds", "0..1", "--modes", "strict-joining"],
-        &["cases", "--named", "--modes", "strict-joining"],
-        &["cases", "--seeds", "0..1", "--gaps"],
-        &["cases", "--orders", "--modes", "strict"],
         &["cases", "--seeds", "0..1", "--calls", "--modes", "fast"],
-        &["run", "--modes", "plain-ip,"],
         &["checksums", "one-file"],
         &["checksums", "no-such-file", "none-such"],
         &["answers", "--by", "nobody"],
@@ -190,54 +184,15 @@ fn words_that_do_not_go_together_are_refused() {
 }
 
 #[test]
-fn modes_are_told_by_their_names() {
-    let modes = |words: &str| {
-        let words = words.split(' ').map(str::to_owned);
-        Arguments::read(words, &["modes"], &[]).unwrap().modes()
-    };
-    assert_eq!(modes("table"), Ok(Modes::OFF));
-    assert_eq!(modes("--modes plain-ip"), Ok(Modes::PLAIN_IP));
-    assert_eq!(modes("--modes strict-joining"), Ok(Modes::STRICT_JOINING));
-    let both = Modes::from_bits(3).expect("both");
-    assert_eq!(modes("--modes plain-ip,strict-joining"), Ok(both));
-    assert_eq!(modes("--modes strict-joining,plain-ip"), Ok(both));
-    assert!(modes("--modes strict,plain-ip").is_err());
-}
-
-#[test]
 fn the_original_is_not_asked_with_a_mode_on() {
-    for modes in ["plain-ip", "strict-joining", "plain-ip,strict-joining"] {
-        let words = ["cases", "--seeds", "0..9", "--calls", "--modes", modes];
-        let cases = command(&words, &[]).stdout;
-        let refused = command(&["answers", "--by", "original"], &cases);
-        assert_eq!(refused.status.code(), Some(2));
-        let message = String::from_utf8(refused.stderr).expect("text");
-        assert!(message.contains("with a mode on"), "{message}");
-        let plain = command(&["answers", "--by", "plain"], &cases).stdout;
-        assert_eq!(plain, command(&["answers"], &cases).stdout);
-    }
-}
-
-/// A message in two fragments with a third between them that is missing.
-#[test]
-fn a_stream_is_run_in_strict_joining() {
-    let message = pa(&[mpt(&[caption(1)])]);
-    let (front, end) = message.split_at(20);
-    let parts = |counter| [[&[0x40, counter][..], front].concat(), fragment(3, end)];
-    let dropped = |counter, words: &[&str]| {
-        let parts = parts(counter).map(|part| signalling(0xf001, &part));
-        let list = tables(0, &[plt(&[service_at(0x0401, 0xf001)])]);
-        let stream = [list, parts.concat()].concat();
-        let words = [&["run", "--flags", "6"], words].concat();
-        let text = String::from_utf8(command(&words, &stream).stdout).expect("text");
-        text.lines().last().expect("a line").to_owned()
-    };
-    assert_eq!(dropped(2, &[]), "dropped 1");
-    assert_eq!(dropped(2, &["--modes", "strict-joining"]), "dropped 0");
-    assert_eq!(dropped(1, &["--modes", "strict-joining"]), "dropped 1");
-    let both = "plain-ip,strict-joining";
-    assert_eq!(dropped(2, &["--modes", both]), "dropped 0");
-    assert_eq!(dropped(2, &["--modes", "plain-ip"]), "dropped 1");
+    let words = ["cases", "--seeds", "0..9", "--calls", "--modes", "plain-ip"];
+    let cases = command(&words, &[]).stdout;
+    let refused = command(&["answers", "--by", "original"], &cases);
+    assert_eq!(refused.status.code(), Some(2));
+    let message = String::from_utf8(refused.stderr).expect("text");
+    assert!(message.contains("with a mode on"), "{message}");
+    let plain = command(&["answers", "--by", "plain"], &cases).stdout;
+    assert_eq!(plain, command(&["answers"], &cases).stdout);
 }
 
 #[test]

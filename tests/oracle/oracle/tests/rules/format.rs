@@ -74,15 +74,10 @@ fn what_the_maker_makes_fits_the_format() {
         let (calls, wished) = (maker::calls(seed), maker::wished_inputs(seed));
         let narrowings = inputs.iter().map(Narrowing::from);
         let (relay, packets) = (maker::plain_ip_calls(seed), maker::plain_ip_inputs(seed));
-        let (strict, both) = (
-            maker::strict_calls(seed),
-            maker::strict_plain_ip_calls(seed),
-        );
         let with_modes = wished.iter().chain(&packets);
         let narrowings = narrowings.chain(with_modes.map(Narrowing::with_modes));
         let mut cases = vec![Case::Stream(Stream::from(&made))];
-        let series = [&calls, &relay, &strict, &both];
-        cases.extend(series.map(|made| Case::Calls(Calls::from(made))));
+        cases.extend([&calls, &relay].map(|made| Case::Calls(Calls::from(made))));
         cases.extend(narrowings.map(Case::Narrowing));
         assert_eq!(read(&written(&cases)), cases, "seed {seed}");
     }

@@ -17,6 +17,5 @@ mod packets;
 mod plain_ip;
 mod programs;
 mod refusals;
-mod strict;
 mod subject;
 mod theorems;

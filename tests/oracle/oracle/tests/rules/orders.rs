@@ -2,7 +2,6 @@
 
 use std::collections::{BTreeMap, BTreeSet};
 
-use face::Modes;
 use oracle::cases::{Calls, Case, Reader};
 use oracle::named::Reply;
 use oracle::orders::{Ordered, orders};
@@ -27,7 +26,7 @@ fn end(ordered: &Ordered) -> [Reply; 2] {
 fn each_family_has_all_its_orders() {
     let mut families = BTreeMap::<_, BTreeSet<_>>::new();
     let mut cases = 0;
-    for ordered in orders(Modes::OFF) {
+    for ordered in orders() {
         let family = families.entry(ordered.family).or_default();
         family.insert(ordered.order);
         cases += 1;
@@ -55,7 +54,7 @@ fn each_family_has_all_its_orders() {
 /// fragments before a whole message. Where T is less from the start, much is given up either way.
 #[test]
 fn a_byte_less_shows() {
-    let mut orders = orders(Modes::OFF);
+    let mut orders = orders();
     let (mut hidden, mut shown_with_less) = (0, 0);
     while let Some(met) = orders.next() {
         let joined = end(&met);
@@ -79,39 +78,13 @@ fn a_byte_less_shows() {
     );
 }
 
-/// Each message's own fragments come in order, and a first that comes again or a whole one begins anew in either mode: strict
-/// joining gives what plain joining gives, in all rooms.
-#[test]
-fn in_order_strict_joining_is_plain_joining() {
-    let strict = orders(Modes::STRICT_JOINING);
-    for (plain, strict) in orders(Modes::OFF).zip(strict) {
-        assert_eq!(strict.case.modes, Modes::STRICT_JOINING);
-        let name = format!("{}, {:?}, {:?}", plain.family, plain.order, plain.room);
-        let [plain, strict] = [plain, strict].map(|ordered| ordered.case);
-        assert_eq!(plain.operations, strict.operations, "{name}");
-        assert_eq!(
-            asked(&Subject::plain(), &name, &plain),
-            asked(&Subject::plain(), &name, &strict),
-            "{name}"
-        );
-    }
-}
-
 #[test]
 fn the_command_writes_them_in_order() {
-    for (modes, words) in [
-        (Modes::OFF, &["--orders"][..]),
-        (
-            Modes::STRICT_JOINING,
-            &["--orders", "--modes", "strict-joining"],
-        ),
-    ] {
-        let bytes = cases(words);
-        let mut written = Reader::new(&bytes);
-        for ordered in orders(modes) {
-            let expected = Case::Calls(Calls::from(&ordered.case));
-            assert_eq!(written.next(), Some(expected));
-        }
-        assert_eq!(written.next(), None);
+    let bytes = cases(&["--orders"]);
+    let mut written = Reader::new(&bytes);
+    for ordered in orders() {
+        let expected = Case::Calls(Calls::from(&ordered.case));
+        assert_eq!(written.next(), Some(expected));
     }
+    assert_eq!(written.next(), None);
 }

@@ -37,19 +37,12 @@ fn is_plain_ip(packet: &[u8]) -> bool {
 }
 
 #[test]
-fn the_modes_byte_has_a_bit_for_each() {
+fn the_modes_byte_has_one_bit() {
     assert_eq!(Modes::default(), Modes::OFF);
     assert_eq!(Modes::from_bits(0), Some(Modes::OFF));
     assert_eq!(Modes::from_bits(1), Some(Modes::PLAIN_IP));
-    assert_eq!(Modes::from_bits(2), Some(Modes::STRICT_JOINING));
-    let both = Modes {
-        plain_ip: true,
-        strict_joining: true,
-    };
-    assert_eq!(Modes::from_bits(3), Some(both));
-    assert!((4..=255).all(|bits| Modes::from_bits(bits).is_none()));
-    let read = (0..4).filter_map(Modes::from_bits);
-    assert!(read.map(|modes| modes.bits()).eq(0..4));
+    assert!((2..=255).all(|bits| Modes::from_bits(bits).is_none()));
+    assert_eq!((Modes::OFF.bits(), Modes::PLAIN_IP.bits()), (0, 1));
 }
 
 /// Narrowing what is narrowed finds nothing to do, or does the same once more.
@@ -130,57 +123,49 @@ fn written(calls: &Calls, options: Options, modes: Modes) -> Vec<Call> {
     answers
 }
 
-/// The packets of bytes that have nothing else, by their own lengths.
-pub fn split(mut bytes: &[u8]) -> Option<Vec<&[u8]>> {
+/// The packets of an output, which has nothing else.
+fn split(mut out: &[u8]) -> Vec<&[u8]> {
     let mut packets = Vec::new();
-    while let [_, _, high, low, ..] = *bytes {
-        let length = 4 + usize::from(u16::from_be_bytes([high, low]));
-        let (packet, rest) = bytes.split_at_checked(length)?;
+    while let [_, _, high, low, ..] = *out {
+        let (packet, rest) = out.split_at(4 + usize::from(u16::from_be_bytes([high, low])));
         packets.push(packet);
-        bytes = rest;
+        out = rest;
     }
-    bytes.is_empty().then_some(packets)
+    packets
 }
 
-/// Demand 3 over the stream of calls, with their modes in both: each packet of the first comes from one of the second, in
-/// order, and is that packet narrowed. Answers how many there are, and how many of plain IP were narrowed.
-pub fn less_is_less(calls: &Calls) -> (usize, usize) {
-    let (less, modes) = (calls.options, calls.modes);
-    let more = Options {
-        carousel: true,
-        eit: true,
-        other: true,
-        ..less
-    };
-    if less.copies_all() || more.copies_all() {
-        return (0, 0);
-    }
-    let [first, second] = [less, more].map(|options| {
-        let answers = written(calls, options, modes);
-        answers
-            .into_iter()
-            .flat_map(|call| call.out)
-            .collect::<Vec<u8>>()
-    });
-    let packets = |out| split(out).expect("an output is packets");
-    let mut theirs = packets(&second).into_iter();
-    let (mut compared, mut narrowed) = (0, 0);
-    for ours in packets(&first) {
-        let by = |packet: &[u8]| narrow(less, modes, packet).unwrap_or(packet.to_vec());
-        let from = theirs.find(|packet| by(packet) == ours);
-        compared += 1;
-        narrowed += usize::from(from.expect("it comes from none") != ours && is_plain_ip(ours));
-    }
-    (compared, narrowed)
-}
-
+/// Demand 3 over streams, with the mode in both: each packet of the first comes from one of the second, in order, and is
+/// that packet narrowed.
 #[test]
 fn less_is_less_with_the_mode_in_both() {
     let (mut compared, mut narrowed) = (0, 0);
     for seed in 0..SEEDS {
-        let (more, less) = less_is_less(&maker::plain_ip_calls(seed));
-        compared += more;
-        narrowed += less;
+        let calls = maker::plain_ip_calls(seed);
+        let less = calls.options;
+        let more = Options {
+            carousel: true,
+            eit: true,
+            other: true,
+            ..less
+        };
+        if less.copies_all() || more.copies_all() {
+            continue;
+        }
+        let [first, second] = [less, more].map(|options| {
+            let answers = written(&calls, options, Modes::PLAIN_IP);
+            answers
+                .into_iter()
+                .flat_map(|call| call.out)
+                .collect::<Vec<u8>>()
+        });
+        let mut theirs = split(&second).into_iter();
+        for ours in split(&first) {
+            let by =
+                |packet: &[u8]| narrow(less, Modes::PLAIN_IP, packet).unwrap_or(packet.to_vec());
+            let from = theirs.find(|packet| by(packet) == ours);
+            compared += 1;
+            narrowed += usize::from(from.expect("it comes from none") != ours && is_plain_ip(ours));
+        }
     }
     assert!(compared > 5_000 && narrowed > 100, "{compared} {narrowed}");
 }

@@ -183,28 +183,6 @@ fn a_start_without_captions_and_other_assets_is_refused() {
     );
 }
 
-/// Strict calls are behind all others, in modes 2 or 3.
-#[test]
-fn strict_calls_come_last() {
-    let bounds = Bounds {
-        narrowing: 1,
-        longest: 9_000,
-        most: usize::MAX,
-    };
-    let file = theorems(0..60, bounds);
-    let (first, last) = (file.find("\nstrict-seed-"), file.rfind("\nplain-ip-seed-"));
-    assert!(last.is_some() && last < first);
-    let signatures = file.lines().filter(|line| line.contains(" ≡ "));
-    let strict: Vec<_> = signatures
-        .filter(|line| line.starts_with("strict-seed-"))
-        .collect();
-    let modes = |line: &&str| line.split(' ').nth(5).map(str::to_owned);
-    let modes: BTreeSet<_> = strict.iter().filter_map(modes).collect();
-    assert!(strict.iter().all(|line| line.contains(" : stream ")) && strict.len() > 10);
-    assert_eq!(modes, ["2", "3"].map(str::to_owned).into());
-    assert!(file.contains("«strict_joining» = eqb (n / 2 % 2) 1"));
-}
-
 /// The flag bytes of the theorems of the seeds' cases, or of their wished ones.
 fn flags(file: &str, seed: &str) -> BTreeSet<u8> {
     let signatures = file.lines().filter(|line| line.contains(" ≡ "));
@@ -239,18 +217,7 @@ fn bounds_are_kept() {
     };
     let count = |bounds| theorems(0..20, bounds).matches(" = refl\n").count();
     assert!(count(bounds) > 100);
-    let few = Bounds { most: 9, ..bounds };
-    assert_eq!(
-        count(few),
-        27,
-        "nine of each sort, and no strict calls so short"
-    );
-    let longer = Bounds {
-        longest: 100_000,
-        most: 5,
-        ..bounds
-    };
-    assert_eq!(count(longer), 20, "five of each sort, of strict calls too");
+    assert_eq!(count(Bounds { most: 9, ..bounds }), 27, "nine of each sort");
     let bounds = Bounds {
         narrowing: 0,
         ..bounds

@@ -147,7 +147,7 @@ pub fn data_message() -> Vec<u8> {
     message(0x8003, &[])
 }
 
-/// A signalling payload: byte 0, a counter that plain joining does not read, and the body.
+/// A signalling payload: byte 0, a counter that nobody reads, and the body.
 pub fn payload(flags: u8, body: &[u8]) -> Vec<u8> {
     [&[flags, 9], body].concat()
 }

@@ -10,4 +10,3 @@ mod payload;
 mod plain_ip;
 mod refusals;
 mod rules;
-mod strict_joining;
