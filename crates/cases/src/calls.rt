@@ -12,7 +12,7 @@ use programs::pipe::{fill_all, write_all};
 use recorder::{Filter, start};
 
 // The lengths of the output and of the chunk of a push.
-#[derive(Drop)]
+#[derive(Clone, Copy)]
 pub struct Lengths {
     pub out: usize,
     pub chunk: usize,
@@ -20,7 +20,7 @@ pub struct Lengths {
 
 // The next operation: a push, whose chunk stands at the front of the room for chunks, or the question how many identifiers are dropped;
 // or it could not be read, or there is none of its number.
-#[derive(Drop)]
+#[derive(Clone, Copy)]
 pub enum Next {
     Push(Lengths),
     Dropped,

@@ -162,7 +162,7 @@ pub fn modes_of(bits: u8) -> Modes
 }
 
 // The head of a narrowing: service and wishes, the modes, the identifier, and the lengths of the output and of the input.
-#[derive(Drop)]
+#[derive(Clone, Copy)]
 pub struct Head {
     pub options: Options,
     pub modes: Modes,

@@ -17,7 +17,7 @@ const CALLS: usize = 1024;
 
 // What the head of a case asks for: service and wishes, the modes, the lengths of the rooms and of the output, the most bytes of one message, and how
 // many calls follow. In a case of case kind 4 each call has an output of its own, and none is asked for here.
-#[derive(Drop)]
+#[derive(Clone, Copy)]
 pub struct Asked {
     pub options: Options,
     pub modes: Modes,
@@ -30,7 +30,7 @@ pub struct Asked {
 }
 
 // The record that a call handed back, and whether the program goes on with it.
-#[derive(Drop)]
+#[derive(Clone, Copy)]
 pub struct Handed {
     pub goes_on: bool,
     pub filter: Filter,

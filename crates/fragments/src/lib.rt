@@ -114,7 +114,7 @@ fn length_at(fragment_heads: &[u64; 256], n: usize, index: usize) -> usize
 }
 
 // How many fragments are held, and how many of them lead.
-#[derive(Drop)]
+#[derive(Clone, Copy)]
 pub struct Held {
     pub count: usize,
     pub leading: usize,
@@ -222,7 +222,7 @@ pub fn give_back(n: usize, leading: usize, fragment_heads: &mut [u64; 256]) -> H
 
 // Where the fragment at `index` stands, and where the free bytes do, behind the first `leading`. Counted as if none were free, it has `own` bytes
 // from `start` on, and they are at `free`; all fragments have `all` bytes.
-#[derive(Drop)]
+#[derive(Clone, Copy)]
 struct Place {
     index: usize,
     leading: usize,
@@ -364,7 +364,7 @@ fn lengthen(
 }
 
 // What became of a fragment with a further body: it grew and stands there, it was given up, or there is none.
-#[derive(Drop)]
+#[derive(Clone, Copy)]
 pub enum Grown {
     At {
         start: usize,

@@ -8,7 +8,7 @@ pub mod packages;
 
 // What a payload brings: whether what is known changed, and what stands in its tables: assets of each kind, and, in a PLT on identifier 0,
 // packages that are not listed. Where no wish is against what stands there, narrowing has nothing to do.
-#[derive(Drop)]
+#[derive(Clone, Copy)]
 pub struct News {
     pub changed: bool,
     pub caption: bool,
@@ -20,7 +20,7 @@ pub struct News {
 // How much is known: how many packages, maps and fragments there are, and whether a PLT was seen. How many of the fragments lead: their
 // bodies stand at the front of the fragment room. How many maps were lost on the way, and what is new. The flags stand together: a gap
 // behind each would be copied too, in pieces that wait for each other.
-#[derive(Drop)]
+#[derive(Clone, Copy)]
 pub struct Extent {
     pub package_count: usize,
     pub map_count: usize,

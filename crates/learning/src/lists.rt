@@ -83,7 +83,7 @@ fn with_kind(n: News, part: Part) -> News
 }
 
 // The assets of an MPT's body: how many are listed, and what is new with their kinds.
-#[derive(Drop)]
+#[derive(Clone, Copy)]
 pub enum Assets {
     Listed(usize, News),
     Nothing,
@@ -185,7 +185,7 @@ fn is_asset(map_room: &[u16], at: usize, id: u16, part: Part) -> bool
 }
 
 // Whether a list is held: then what is new with the kinds of its MPT's assets.
-#[derive(Drop)]
+#[derive(Clone, Copy)]
 pub enum Held {
     With(News),
     No,

@@ -77,7 +77,7 @@ fn take_package(fresh: &mut [u32; 255], n: usize, name: Named, carrier: Carrier)
 }
 
 // The packages of a PLT's body: how many are listed, and whether that is not all.
-#[derive(Drop)]
+#[derive(Clone, Copy)]
 pub enum Services {
     Read(usize, bool),
     Nothing,

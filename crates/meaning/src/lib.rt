@@ -1,14 +1,14 @@
 // The plain data of the filter's interface. What each stands for is said once, in specs/.
 
 // Which service a recording is of: each one of the broadcast, or the one with this number.
-#[derive(Drop)]
+#[derive(Clone, Copy)]
 pub enum Service {
     Every,
     Only(u16),
 }
 
 // What is wanted: a service, and the four wishes; `other` are assets that are neither captions nor carousels.
-#[derive(Drop)]
+#[derive(Clone, Copy)]
 pub struct Options {
     pub service: Service,
     pub caption: bool,
@@ -18,13 +18,13 @@ pub struct Options {
 }
 
 // What the filter does beyond 01, each mode off or on; all off is 01's filter. In `plain_ip` tables are narrowed in plain IP packets too.
-#[derive(Drop)]
+#[derive(Clone, Copy)]
 pub struct Modes {
     pub plain_ip: bool,
 }
 
 // The limits of a start: the lengths of the work room and of the fragment room, and the most bytes of one message.
-#[derive(Drop)]
+#[derive(Clone, Copy)]
 pub struct Limits {
     pub work: usize,
     pub total: usize,
@@ -32,7 +32,7 @@ pub struct Limits {
 }
 
 // An asset's kind.
-#[derive(Drop)]
+#[derive(Clone, Copy)]
 pub enum Part {
     Caption,
     Carousel,
@@ -40,7 +40,7 @@ pub enum Part {
 }
 
 // What stands at an offset of a run of bytes: a packet of so many bytes, no start, or bytes to keep for the next call.
-#[derive(Drop)]
+#[derive(Clone, Copy)]
 pub enum Step {
     Packet(usize),
     Skip,
@@ -48,7 +48,7 @@ pub enum Step {
 }
 
 // What a call reports.
-#[derive(Drop)]
+#[derive(Clone, Copy)]
 pub struct Counts {
     pub bytes: usize,
     pub accepted: usize,
@@ -59,7 +59,7 @@ pub struct Counts {
 }
 
 // Why a call was refused; specs/Refusals.antt gives each its number.
-#[derive(Drop)]
+#[derive(Clone, Copy)]
 pub enum Refusal {
     WorkRoom,
     FragmentRoom,
@@ -73,14 +73,14 @@ pub enum Refusal {
 }
 
 // What a call answers.
-#[derive(Drop)]
+#[derive(Clone, Copy)]
 pub enum Answer {
     Done,
     Refused(Refusal),
 }
 
 // What narrowing answers; changed, with the length of what was written.
-#[derive(Drop)]
+#[derive(Clone, Copy)]
 pub enum Narrowing {
     Refused(Refusal),
     Unchanged,

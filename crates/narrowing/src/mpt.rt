@@ -15,7 +15,7 @@ use tables::assets::{Asset, asset_at, mpt_front};
 use tables::fields::End;
 
 // The entries of a body: where they end, how many are wanted, and how many bytes those are.
-#[derive(Drop)]
+#[derive(Clone, Copy)]
 pub enum EntryWalk {
     Done {
         end: usize,
@@ -26,7 +26,7 @@ pub enum EntryWalk {
 }
 
 // What narrowing makes of an MPT's body: where its count is, where its entries end, how many stay and how many bytes they are.
-#[derive(Drop)]
+#[derive(Clone, Copy)]
 pub enum MptChange {
     Less {
         front: usize,

@@ -21,7 +21,7 @@ use tables::pa::{Table, pa_tables, table_at};
 use tlv::{Mmtp, mmtp_of, packet_payload};
 
 // What narrowing answers. The rows count captions, carousels and others.
-#[derive(Drop)]
+#[derive(Clone, Copy)]
 pub struct Narrowed {
     pub narrowing: Narrowing,
     pub stayed: [u64; 3],
@@ -29,14 +29,14 @@ pub struct Narrowed {
 }
 
 // The PA message of a payload: where in the payload it ends, and where in its body the tables start.
-#[derive(Drop)]
+#[derive(Clone, Copy)]
 pub enum Pa {
     Found { end: usize, tables: usize },
     Nothing,
 }
 
 // The same of one that narrowing changes, with what it makes of a table.
-#[derive(Drop)]
+#[derive(Clone, Copy)]
 pub enum ChangedPa {
     Found {
         end: usize,

@@ -16,7 +16,7 @@ use tables::pa::{Table, table_at};
 
 // What narrowing makes of a table, and where that one starts. It is handed on to the writers, so that they need not walk the table's
 // entries again to work it out.
-#[derive(Drop)]
+#[derive(Clone, Copy)]
 pub struct TableChange {
     pub at: usize,
     pub change: BodyChange,

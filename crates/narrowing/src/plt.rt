@@ -8,7 +8,7 @@ use octets::{copy, put8, wide};
 use tables::packages::{Named, Package, package_at};
 
 // What narrowing makes of a PLT's body: the entry that stays, and where the entries end.
-#[derive(Drop)]
+#[derive(Clone, Copy)]
 pub enum PltChange {
     One {
         start: usize,

@@ -15,7 +15,7 @@ use octets::{copy, put16};
 use tables::pa::is_mpt;
 
 // What narrowing makes of a table's body.
-#[derive(Drop)]
+#[derive(Clone, Copy)]
 pub enum BodyChange {
     Mpt {
         front: usize,

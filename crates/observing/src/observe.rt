@@ -40,7 +40,7 @@ fn with_held(e: Extent, h: Held) -> Extent
 }
 
 // What comes with a payload's bytes from 2 on: its first byte, its identifier, and the most bytes of one message.
-#[derive(Drop)]
+#[derive(Clone, Copy)]
 pub struct Piece {
     pub flags: u8,
     pub id: u16,

@@ -22,7 +22,7 @@ use tables::fields::End;
 use tlv::{Mmtp, gap_end, mmtp_of, next, packet_payload};
 
 // What stays the same over a call: the modes, the wishes, the packet limit, and the most bytes of one message.
-#[derive(Drop)]
+#[derive(Clone, Copy)]
 pub struct Terms {
     pub modes: Modes,
     pub options: Options,
@@ -31,7 +31,7 @@ pub struct Terms {
 }
 
 // Between two packets of a call: how much is known, the counts so far, and whether the filter is ready.
-#[derive(Drop)]
+#[derive(Clone, Copy)]
 pub struct Progress {
     pub extent: Extent,
     pub counts: Counts,
@@ -39,14 +39,14 @@ pub struct Progress {
 }
 
 // A signalling packet: its identifier, and whether it is rewritable by its header.
-#[derive(Drop)]
+#[derive(Clone, Copy)]
 pub struct Signal {
     pub id: u16,
     pub rewritable: bool,
 }
 
 // What becomes of a packet; one of signalling is learned from first.
-#[derive(Drop)]
+#[derive(Clone, Copy)]
 pub enum Verdict {
     Pass,
     Withhold,
@@ -269,7 +269,7 @@ fn signalling(
 // ---- rows
 
 // What ends a row of packets that go to the output as they are.
-#[derive(Drop)]
+#[derive(Clone, Copy)]
 pub enum Stop {
     Keep,
     More,
@@ -279,7 +279,7 @@ pub enum Stop {
 }
 
 // `count` packets that go to the output as they are, up to `end`, and what stands there.
-#[derive(Drop)]
+#[derive(Clone, Copy)]
 pub struct Row {
     pub end: usize,
     pub count: usize,
@@ -392,14 +392,14 @@ fn bytes_so_far(s: Progress) -> usize
 // ---- packets that teach nothing
 
 // What stands behind them: bytes to keep, or a signalling packet from one offset to another.
-#[derive(Drop)]
+#[derive(Clone, Copy)]
 pub enum Ahead {
     Rest,
     Signalling(usize, usize, Signal),
 }
 
 // How far they go.
-#[derive(Drop)]
+#[derive(Clone, Copy)]
 pub struct Stretch {
     pub progress: Progress,
     pub at: usize,
@@ -459,7 +459,7 @@ fn plain_packets(
 // ---- all packets
 
 // How far a run was taken in, and where the bytes to keep begin.
-#[derive(Drop)]
+#[derive(Clone, Copy)]
 pub struct Scanned {
     pub progress: Progress,
     pub at: usize,

@@ -32,7 +32,7 @@ pub fn options_of(flags: u8, service: u16) -> Options
 }
 
 // What a head asks for, or its refusal: it is too short, a flag is set that nothing is named by, or no start takes these wishes.
-#[derive(Drop)]
+#[derive(Clone, Copy)]
 pub enum Asked {
     For(Options),
     Refused(Refusal),

@@ -75,7 +75,7 @@ pub fn put_sums(c: Counts, held_count: usize, out: &mut [u8]) -> usize
 }
 
 // What is left of an input to be told: whether a read or a write failed, the answer, the sums, and how many bytes are held.
-#[derive(Drop)]
+#[derive(Clone, Copy)]
 pub struct Ending {
     pub failed: bool,
     pub answer: Answer,

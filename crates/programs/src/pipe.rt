@@ -5,7 +5,7 @@ ghost use Rattle.std.specs.Prelude.{◌≡◌, ◌≤◌, true, length};
 ghost use Rattle.programs.specs.Pipe.{came_of, is_full};
 
 // How many bytes came to the front of a slice: fewer than it has where the input ended. A read that failed has been told.
-#[derive(Drop)]
+#[derive(Clone, Copy)]
 pub enum Filled {
     Bytes(usize),
     Failed,

@@ -31,7 +31,7 @@ const LINE: usize = 170;
 
 // How far a stream has come: what was answered last, whether a read or a write failed, how many bytes the last call wrote, the sums, and
 // the record to go on with.
-#[derive(Drop)]
+#[derive(Clone, Copy)]
 pub struct Standing {
     pub answer: Answer,
     pub failed: bool,
@@ -309,7 +309,7 @@ fn run(
 }
 
 // What is left to be done for an input: nothing where a read or a write failed, else a line of so many bytes is to be written.
-#[derive(Drop)]
+#[derive(Clone, Copy)]
 pub struct Last {
     pub failed: bool,
     pub bytes: usize,

@@ -22,7 +22,7 @@ use rules::first_drops;
 use soundness::{copies_all, packet_limit, parts_sound};
 
 // What a call leaves beside the arrays.
-#[derive(Drop)]
+#[derive(Clone, Copy)]
 pub struct CarriedOut {
     pub extent: Extent,
     pub counts: Counts,
@@ -65,7 +65,7 @@ fn all_held(held_count: usize, chunk: &[u8], e: Extent, work: &mut [u8]) -> Carr
 }
 
 // How far a run in two parts was taken in, and where the bytes to keep begin in each.
-#[derive(Drop)]
+#[derive(Clone, Copy)]
 pub struct InParts {
     pub progress: Progress,
     pub first_at: usize,
@@ -158,7 +158,7 @@ fn copied(chunk: &[u8], e: Extent, out: &mut [u8]) -> CarriedOut
 }
 
 // What a call begins with beside the arrays: its record's limits, modes and wishes, how many bytes are held, and how much is known.
-#[derive(Drop)]
+#[derive(Clone, Copy)]
 pub struct Begun {
     pub limits: Limits,
     pub modes: Modes,
@@ -235,7 +235,7 @@ pub fn is_done(a: Answer) -> bool
 }
 
 // The lengths of what a call is lent.
-#[derive(Drop)]
+#[derive(Clone, Copy)]
 pub struct Lengths {
     pub work: usize,
     pub bodies: usize,

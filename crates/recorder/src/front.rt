@@ -17,7 +17,7 @@ use tlv::next_across;
 
 // No packet is whole yet, and all is held; or packets are read: with so many bytes of the chunk put behind the held ones, and in the rest of
 // the chunk where it stands.
-#[derive(Drop)]
+#[derive(Clone, Copy)]
 pub enum Front {
     Hold,
     Read(usize),

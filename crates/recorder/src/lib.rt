@@ -26,7 +26,7 @@ use soundness::{good_fragment_room, good_map_room, good_work_room, wants_assets}
 
 // The record, as specs/Record.antt of `meaning` has it. In one that a start or a push that is not refused hands back, unused slots are zero;
 // in one handed in they may hold anything (D9), and `dropped` leaves them as they are.
-#[derive(Drop)]
+#[derive(Clone, Copy)]
 pub struct Filter {
     // The start's limits: the lengths of the work room and of the fragment room, and the most bytes of one message.
     pub work: usize,
@@ -54,7 +54,7 @@ pub struct Filter {
 }
 
 // What a start answers, and the record to begin with; refused, one that can be used for nothing.
-#[derive(Drop)]
+#[derive(Clone, Copy)]
 pub struct Started {
     pub answer: Answer,
     pub filter: Filter,
@@ -129,7 +129,7 @@ pub fn start(
 }
 
 // What a push answers, its counts, and the record to go on with.
-#[derive(Drop)]
+#[derive(Clone, Copy)]
 pub struct Pushed {
     pub answer: Answer,
     pub counts: Counts,
@@ -137,7 +137,7 @@ pub struct Pushed {
 }
 
 // How many identifiers the rules drop, 0 where the record is refused, and the record, which is the one given.
-#[derive(Drop)]
+#[derive(Clone, Copy)]
 pub struct Dropped {
     pub answer: Answer,
     pub count: u32,

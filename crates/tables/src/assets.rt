@@ -10,7 +10,7 @@ use meaning::Part;
 use octets::{be32, id16, wide};
 
 // An entry: where it ends, its kind, its identifier.
-#[derive(Drop)]
+#[derive(Clone, Copy)]
 pub enum Asset {
     Entry {
         end: usize,

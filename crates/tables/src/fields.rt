@@ -6,7 +6,7 @@ ghost use Rattle.tables.specs.Answers.{Ends};
 use octets::{be16, wide};
 
 // Where something ends, if it is there.
-#[derive(Drop)]
+#[derive(Clone, Copy)]
 pub enum End {
     At(usize),
     Nothing,

@@ -8,14 +8,14 @@ use crate::fields::{End, bytes_end, counted_end};
 use octets::id16;
 
 // The packet identifier under which something comes, if it has one.
-#[derive(Drop)]
+#[derive(Clone, Copy)]
 pub enum Carrier {
     By(u16),
     Nowhere,
 }
 
 // A location, or several: where they end, and the first identifier among them.
-#[derive(Drop)]
+#[derive(Clone, Copy)]
 pub enum Located {
     To(usize, Carrier),
     Broken,

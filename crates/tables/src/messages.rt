@@ -7,7 +7,7 @@ ghost use Rattle.tables.specs.Answers.{FrameIs, MessageIs};
 
 use octets::{be16, be32, id16};
 
-#[derive(Drop)]
+#[derive(Clone, Copy)]
 pub enum Found {
     Message {
         number: u16,
@@ -17,7 +17,7 @@ pub enum Found {
     Nothing,
 }
 
-#[derive(Drop)]
+#[derive(Clone, Copy)]
 pub enum Frame {
     Part(usize, usize),
     Done,

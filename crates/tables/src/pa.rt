@@ -6,7 +6,7 @@ ghost use Rattle.tables.specs.Answers.{TableIs, PaHeadIs};
 use crate::fields::End;
 use octets::{be16, wide};
 
-#[derive(Drop)]
+#[derive(Clone, Copy)]
 pub enum Table {
     To(usize),
     Cut,

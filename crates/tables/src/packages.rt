@@ -8,13 +8,13 @@ use crate::locations::{Carrier, Located, location_at};
 use octets::id16;
 
 // The service that a name of two bytes is.
-#[derive(Drop)]
+#[derive(Clone, Copy)]
 pub enum Named {
     Service(u16),
     Other,
 }
 
-#[derive(Drop)]
+#[derive(Clone, Copy)]
 pub enum Package {
     Entry {
         end: usize,

@@ -12,14 +12,14 @@ use meaning::Step;
 use octets::{be16, id16, wide};
 
 // Where the MMTP of a packet is: an offset in the TLV payload, and whether the packet may be rewritten.
-#[derive(Drop)]
+#[derive(Clone, Copy)]
 pub enum Offset {
     Unread,
     At(usize, bool),
 }
 
 // The MMTP header: where the payload starts, the packet identifier and the payload type.
-#[derive(Drop)]
+#[derive(Clone, Copy)]
 pub enum Header {
     Cut,
     Read {
@@ -30,7 +30,7 @@ pub enum Header {
 }
 
 // What is read of a packet: what its header says, and whether the packet may be rewritten.
-#[derive(Drop)]
+#[derive(Clone, Copy)]
 pub enum Mmtp {
     Unread,
     Read {

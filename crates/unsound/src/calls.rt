@@ -9,7 +9,7 @@ use programs::asked::answer_number;
 use recorder::{Filter, Started, start};
 
 // The numbers of the two answers, and whether rooms, output and record are as they were and nothing was counted.
-#[derive(Drop)]
+#[derive(Clone, Copy)]
 pub struct Told {
     pub push: u8,
     pub dropped: u8,

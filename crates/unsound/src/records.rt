@@ -18,7 +18,7 @@ pub const T: usize = 16;
 pub const MAPS: usize = 32768;
 
 // A record, and the lengths of the rooms that are lent with it.
-#[derive(Drop)]
+#[derive(Clone, Copy)]
 pub struct Lent {
     pub filter: Filter,
     pub work: usize,
@@ -27,7 +27,7 @@ pub struct Lent {
 }
 
 // The number that makes a clause's record unsound, and the nearest with which it is sound.
-#[derive(Drop)]
+#[derive(Clone, Copy)]
 pub struct Numbers {
     pub unsound: usize,
     pub sound: usize,
