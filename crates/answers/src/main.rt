@@ -1,4 +1,6 @@
 // The program `answers`: answers to a batch of cases, in the format of docs/ARCHITECTURE.md.
+#![tactic(auto)]
+
 use cases::answer_all;
 
 fn main() {

@@ -2,6 +2,8 @@
 // kind 4, in `calls`), or a narrowing (case kinds 1 to 3, and 7 to 9 with modes). No contract can say which bytes are read or written, so
 // the promises stop at what is read from and written to the arrays here. A read or a write that fails ends the program; `programs.pipe`
 // tells it.
+#![tactic(auto)]
+
 ghost use Rattle.std.specs.Prelude.{◌≡◌, ◌+◌, ◌≤◌, length};
 ghost use Rattle.meaning.specs.Writing.{Wrote};
 ghost use Rattle.meaning.specs.Narrow.{narrow_refusal};

@@ -1,1 +1,2 @@
 // The three demands, over what the functions of the face promise: specs/Demands.antt states them, proofs/ shows them. No code that runs.
+#![tactic(auto)]

@@ -1,4 +1,6 @@
 // The program `filter`: writes the filtered stream of what it reads, or the line of a refusal.
+#![tactic(auto)]
+
 use programs::stream::stream;
 
 fn main() {

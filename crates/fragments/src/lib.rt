@@ -1,6 +1,8 @@
 // Fragments of messages: their heads in an array, identifier, flags and length in one number. Of their bodies the first, those that lead, stand
 // one after the other at the front of the room, the others so at its end. The free bytes between them go behind the one that grows, so that
 // for one incoming body only what stands between their old and their new place moves, and each byte of it once.
+#![tactic(auto)]
+
 ghost use Rattle.std.specs.Prelude.{◌≡◌, ◌+◌, ◌-◌, ◌*◌, ◌%◌, ◌≤◌, ◌<◌, ◌&&◌, [], ◌∷◌, ◌++◌, length, take, drop, leb, ltb};
 ghost use Rattle.meaning.specs.Writing.{Wrote};
 ghost use Rattle.meaning.specs.Record.{fragment_flags, fragment_length, lens};

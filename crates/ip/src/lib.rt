@@ -1,5 +1,7 @@
 // Plain IP packets: which may be rewritten, and their lengths and checksums worked out afresh, in place. Rests on `octets`; what is meant is
 // said in Ip.antt and Checksums.antt of `meaning`.
+#![tactic(auto)]
+
 ghost use Rattle.std.specs.Prelude.{◌≡◌, ◌+◌, ◌-◌, ◌*◌, ◌≤◌, ◌<◌, ◌&&◌, length, take, drop, eqb};
 ghost use Rattle.meaning.specs.Bytes.{with16};
 ghost use Rattle.meaning.specs.Writing.{Wrote};

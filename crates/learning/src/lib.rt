@@ -1,4 +1,6 @@
 // What tables teach: the packages of a PLT, the lists of assets that MPTs give. No wish comes in.
+#![tactic(auto)]
+
 ghost use Rattle.std.specs.Prelude.{◌≡◌, true};
 ghost use Rattle.learning.specs.News.{no_news};
 ghost use Rattle.learning.specs.Learnt.{with_news};

@@ -1,4 +1,5 @@
 // The plain data of the filter's interface. What each stands for is said once, in specs/.
+#![tactic(auto)]
 
 // Which service a recording is of: each one of the broadcast, or the one with this number.
 #[derive(Clone, Copy)]

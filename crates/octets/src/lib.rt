@@ -1,4 +1,6 @@
 // Reading and moving bytes, and sets of packet identifiers: the leaves that every other crate calls.
+#![tactic(auto)]
+
 ghost use Rattle.std.specs.Prelude.{◌≡◌, ◌+◌, ◌-◌, ◌%◌, ◌≤◌, ◌<◌, ◌^◌, [], ◌∷◌, length, take, drop, get_or};
 ghost use Rattle.meaning.specs.Bytes.{be16, be16_at, be32_at, put16, put32};
 ghost use Rattle.meaning.specs.Writing.{Wrote};

@@ -1,5 +1,7 @@
 // The packets of a run, one after the other: what is learned from each, whether it goes to the output, and how. Packets that go out as
 // they are go in rows, one copy for a row.
+#![tactic(auto)]
+
 ghost use Rattle.std.specs.Prelude.{◌≡◌, ℕ, ◌+◌, ◌-◌, ◌*◌, ◌≤◌, ◌<◌, true, false, not, ◌&&◌, List, [], ◌∷◌, ◌++◌, length};
 ghost use Rattle.std.proofs.Math.Option.{some};
 ghost use Rattle.meaning.specs.Sets.{in_set};

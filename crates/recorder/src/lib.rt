@@ -1,5 +1,7 @@
 // The filter's record, what a recorder has between two calls beside the three lent rooms, and its calls: start, push, dropped. Rests on
 // `call` for a push, on `soundness` for what is asked of rooms and record, on `rules` for the number of dropped identifiers.
+#![tactic(auto)]
+
 mod call;
 mod front;
 pub mod profiles;

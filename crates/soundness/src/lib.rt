@@ -1,5 +1,7 @@
 // Whether the parts of a record are sound: what the code asks of a record handed back before it reads anything by it. Over the record's
 // numbers and lent arrays, apart from the struct. Rests on specs/Parts, and on sets of `octets`.
+#![tactic(auto)]
+
 ghost use Rattle.std.specs.Prelude.{◌≡◌, ℕ, ◌≤◌, ◌<◌, map, length, take, get_or, eqb, leb};
 ghost use Rattle.meaning.specs.Sets.{in_set, with_id};
 ghost use Rattle.meaning.specs.Lists.{all, any, sum};

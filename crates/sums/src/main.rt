@@ -1,4 +1,6 @@
 // The program `sums`: prints a line of sums of what it reads, or the line of a refusal.
+#![tactic(auto)]
+
 use programs::stream::stream;
 
 fn main() {

@@ -1,5 +1,7 @@
 // The day tally: counts that the caller lends and that gain each call's counts. Where a sum would not fit, the call is
 // refused and the tally stays as it was. Over `tally_refusal` and `tallied` of `meaning`, specs/Tally.antt.
+#![tactic(auto)]
+
 ghost use Rattle.std.specs.Prelude.{◌≡◌, ◌+◌, ◌^◌, ltb};
 ghost use Rattle.meaning.specs.Refusals.{answer_number};
 ghost use Rattle.meaning.specs.Tally.{add_counts, fits64, tally_refusal, tallied};

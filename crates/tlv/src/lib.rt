@@ -1,4 +1,6 @@
 // From a run of bytes to the MMTP payload of a packet: the step that finds packets, the offset of the MMTP, its header.
+#![tactic(auto)]
+
 ghost use Rattle.std.specs.Prelude.{◌≡◌, cond, ◌&&◌, [], ◌∷◌, ◌++◌, ◌+◌, ◌*◌, ◌%◌, ◌≤◌, ◌<◌, length, drop, get_or, eqb, leb};
 ghost use Rattle.std.proofs.Math.Option.{map};
 ghost use Rattle.meaning.specs.Packets.{is_type, size_of, candidate, followed, step_of};

@@ -1,6 +1,8 @@
 // The program `unsound`: refusal 4, run. For each clause of 01's "Unsound", and for that of 02 [1], it hands a record that is unsound by
 // this clause alone, and the nearest that is sound, to push and then to dropped, with the record that push handed back. It prints a line
 // for each clause: its words, the two answers to the one record, the two to the other. `calls` runs them, `records` makes the records.
+#![tactic(auto)]
+
 mod calls;
 mod records;
 
