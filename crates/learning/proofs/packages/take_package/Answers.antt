@@ -1,0 +1,20 @@
+use mathlib.Core.Path.{refl}
+use native.Mathlib.Omega.{arith}
+use Rattle.learning.proofs.PairLaws.{pairs_as}
+use Rattle.learning.proofs.PackageLaws.{unpacked}
+use Rattle.learning.proofs.packages.take_package.Goals as goal
+
+pub returns-in_default : goal.returns-in_default
+returns-in_default c = (λ ps k. rw c.in_default.is k, omega arith)
+
+pub returns-in_default-carrier : goal.returns-in_default-carrier
+returns-in_default-carrier c = (λ ps k. rw (c.in-Service.is, c.in_default-carrier.is) k, omega arith)
+
+pub returns : goal.returns
+returns c =
+    let q = c.carrier-1.given in
+    let s = c.name-1.given in
+    let fits = c.known_told-in-By-1.given.0 in (
+      λ ps k. rw (s.1, q.1) (pairs_as (c.add_package.ensures.0 ps k) (unpacked _ _ c.packed.result ps (omega (arith, fits)) c.packed.ensures) refl refl),
+      c.add_package.ensures.1,
+    )

@@ -1,0 +1,4 @@
+use Rattle.programs.proofs.stream.begun.Goals as goal
+
+pub returns : goal.returns
+returns c = rw c.no_counts.ensures

@@ -1,0 +1,12 @@
+use Rattle.soundness.specs.Parts.{rest}
+use Rattle.meaning.specs.Lists.{all}
+use lib.ListN.{take}
+use mathlib.Core.Path.{◌≡◌}
+use Prim.Native.Nat.{◌-◌, ◌≤◌}
+use Rattle.soundness.proofs.counts_few.Given as goal
+
+abbrev pub invariant-loop-i : goal.invariant-loop-i
+invariant-loop-i l = (l.i ≤ l.n) × (all few (take l.n l.map_heads) ≡ all few (rest l.n l.i l.map_heads))
+
+abbrev pub decreases-loop-i : goal.decreases-loop-i
+decreases-loop-i l = l.n - l.i

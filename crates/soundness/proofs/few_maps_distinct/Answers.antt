@@ -1,0 +1,16 @@
+use Rattle.soundness.proofs.SoundnessLaws.{apart_begin, pairs}
+use native.Mathlib.Omega.{arith}
+use Prim.Native.Nat.{◌-◌}
+use Rattle.soundness.proofs.few_maps_distinct.Goals as goal
+
+pub loop-i-init : goal.loop-i-init
+loop-i-init c = apart_begin (omega arith)
+
+pub returns-then-map_among : goal.returns-then-map_among
+returns-then-map_among c = search pairs
+
+pub loop-i-preserved : goal.loop-i-preserved
+loop-i-preserved c = search pairs
+
+pub returns : goal.returns
+returns c = search pairs

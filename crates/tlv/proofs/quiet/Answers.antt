@@ -1,0 +1,25 @@
+use Rattle.tlv.proofs.GapLaws.{looked_begin, looked_one, looked_next}
+use Rattle.tlv.specs.Gaps.{is_mark}
+use native.Mathlib.Omega.{arith}
+use borrow.Author.Tests.{eq-eqb, ne_eqb}
+use mathlib.Core.Logic.{⊎_elim}
+use mathlib.Core.Path.{◌≡◌}
+use Prim.Native.Nat.{◌-◌}
+use Rattle.tlv.proofs.quiet.Goals as goal
+
+pub loop-i-init : goal.loop-i-init
+loop-i-init c = (omega arith, looked_begin (is_mark c.args.run.now) c.args.at)
+
+pub loop-i-preserved : goal.loop-i-preserved
+loop-i-preserved c =
+    let l = c.loop-i in
+    let a = c.args in (
+      omega arith,
+      ⊎_elim
+          (λ w. rw w.1 (looked_one (is_mark a.run.now) a.at l.i (eq-eqb _ 0x7F w.0.taken)))
+          (λ w. rw w.1 (looked_next (is_mark a.run.now) a.at l.i l.none (ne_eqb _ 0x7F w.0.left) l.invariant.1))
+          c.if-run-at-eq127.branch,
+    )
+
+pub returns : goal.returns
+returns c = let e : c.loop-i.i ≡ 64 = omega arith in rw e at c.loop-i.invariant.1
