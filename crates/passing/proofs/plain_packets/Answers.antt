@@ -7,17 +7,6 @@ use mathlib.Core.Path.{◌≡◌, refl, ap, ◌∙◌}
 use Prim.Native.Nat.{◌-◌}
 use Rattle.passing.proofs.plain_packets.Goals as goal
 
--- once the row is written
-went : (c : lts.After-with-row (row-at-reads.Asked, row-at-reads.Learnt, bytes-so-far-reads.Asked, bytes-so-far-reads.Learnt, copy-reads.Asked, copy-reads.Learnt, with-row-reads.Asked, with-row-reads.Learnt, stretch-to-reads.Asked, stretch-to-reads.Learnt, gap-end-reads.Asked, gap-end-reads.Learnt, with-skipped-reads.Asked, with-skipped-reads.Learnt, with-withheld-reads.Asked, with-withheld-reads.Learnt) reads.Pre reads.Post invariant-loop decreases-loop)
-    → let a = c.args in
-    Along a.run.now a.from a.t a.first a.set.now a.out.now c.with_row-s.result c.row_at-x.result.end c.copy-bytes.new.out
-    × (length c.copy-bytes.new.out ≡ length a.out.now)
-went c =
-    let row = c.row_at-x in
-    let put = c.copy-bytes in
-    let l = c.loop-at in
-    (along_row _ _ _ _ l.invariant.0 row.result put.result _ _ c.with_row-s.result row.ensures c.bytes_so_far.ensures put.ensures put.auto.out c.with_row-s.ensures, put.auto.out ∙ l.invariant.1)
-
 pub loop-at-init : goal.loop-at-init
 loop-at-init c = (along_begin _ _ _ _ _ _ c.requires.0 c.requires.1, refl)
 
@@ -46,16 +35,16 @@ with_row-s-requires c =
     (omega (arith, fits.accepted_fit, row.few, row.inside), omega (arith, fits.written_fit, row.few, row.inside))
 
 pub shape_of-out-in-Keep : goal.shape_of-out-in-Keep
-shape_of-out-in-Keep c = (went c).1
+shape_of-out-in-Keep c = (c.copy-bytes.auto.out ∙ c.loop-at.invariant.1)
 
 pub returns-in-Keep : goal.returns-in-Keep
-returns-in-Keep c = rw c.stretch_to.ensures ((went c).0, rw c.in-Keep.is at c.row_at-x.ensures.stop_is)
+returns-in-Keep c = rw c.stretch_to.ensures ((along_row _ _ _ _ c.loop-at.invariant.0 c.row_at-x.result c.copy-bytes.result _ _ c.with_row-s.result c.row_at-x.ensures c.bytes_so_far.ensures c.copy-bytes.ensures c.copy-bytes.auto.out c.with_row-s.ensures), rw c.in-Keep.is at c.row_at-x.ensures.stop_is)
 
 pub loop-at-smaller-in-More : goal.loop-at-smaller-in-More
 loop-at-smaller-in-More c = let row = c.row_at-x.ensures in omega (arith, rw c.in-More.is at row.stop_is, row.row.inside)
 
 pub loop-at-preserved-in-More : goal.loop-at-preserved-in-More
-loop-at-preserved-in-More c = went c
+loop-at-preserved-in-More c = (along_row _ _ _ _ c.loop-at.invariant.0 c.row_at-x.result c.copy-bytes.result _ _ c.with_row-s.result c.row_at-x.ensures c.bytes_so_far.ensures c.copy-bytes.ensures c.copy-bytes.auto.out c.with_row-s.ensures, c.copy-bytes.auto.out ∙ c.loop-at.invariant.1)
 
 pub gap_end-at-requires : goal.gap_end-at-requires
 gap_end-at-requires c = c.row_at-x.ensures.row.inside
@@ -64,7 +53,7 @@ pub overflow_sub-at : goal.overflow_sub-at
 overflow_sub-at c = c.gap_end-at.ensures.forth
 
 pub with_skipped-s-requires : goal.with_skipped-s-requires
-with_skipped-s-requires c = omega (arith, (went c).0.fits.skipped_fit, c.gap_end-at.ensures.forth, c.gap_end-at.ensures.inside)
+with_skipped-s-requires c = omega (arith, (along_row _ _ _ _ c.loop-at.invariant.0 c.row_at-x.result c.copy-bytes.result _ _ c.with_row-s.result c.row_at-x.ensures c.bytes_so_far.ensures c.copy-bytes.ensures c.copy-bytes.auto.out c.with_row-s.ensures).fits.skipped_fit, c.gap_end-at.ensures.forth, c.gap_end-at.ensures.inside)
 
 pub loop-at-smaller-in-Skip : goal.loop-at-smaller-in-Skip
 loop-at-smaller-in-Skip c =
@@ -73,12 +62,12 @@ loop-at-smaller-in-Skip c =
     omega (arith, gap_forth _ _ _ _ gap (rw c.in-Skip.is at row.stop_is), gap.inside, row.row.forth)
 
 pub loop-at-preserved-in-Skip : goal.loop-at-preserved-in-Skip
-loop-at-preserved-in-Skip c = (along_gap _ _ _ _ (went c).0 _ _ c.gap_end-at.ensures c.with_skipped-s.ensures, (went c).1)
+loop-at-preserved-in-Skip c = (along_gap _ _ _ _ (along_row _ _ _ _ c.loop-at.invariant.0 c.row_at-x.result c.copy-bytes.result _ _ c.with_row-s.result c.row_at-x.ensures c.bytes_so_far.ensures c.copy-bytes.ensures c.copy-bytes.auto.out c.with_row-s.ensures) _ _ c.gap_end-at.ensures c.with_skipped-s.ensures, (c.copy-bytes.auto.out ∙ c.loop-at.invariant.1))
 
 pub with_withheld-s-requires : goal.with_withheld-s-requires
 with_withheld-s-requires c =
     let st = rw c.in-Withhold.is at c.row_at-x.ensures.stop_is in
-    omega (arith, (went c).0.fits.accepted_fit, st.0.forth, st.0.inside)
+    omega (arith, (along_row _ _ _ _ c.loop-at.invariant.0 c.row_at-x.result c.copy-bytes.result _ _ c.with_row-s.result c.row_at-x.ensures c.bytes_so_far.ensures c.copy-bytes.ensures c.copy-bytes.auto.out c.with_row-s.ensures).fits.accepted_fit, st.0.forth, st.0.inside)
 
 pub loop-at-smaller : goal.loop-at-smaller
 loop-at-smaller c =
@@ -88,12 +77,12 @@ loop-at-smaller c =
 pub loop-at-preserved : goal.loop-at-preserved
 loop-at-preserved c =
     let st = rw c.in-Withhold.is at c.row_at-x.ensures.stop_is in
-    (along_withheld _ _ _ _ (went c).0 _ _ _ (ap (λ (z : Progress). z.ready) c.with_row-s.ensures) st c.with_withheld-s.ensures, (went c).1)
+    (along_withheld _ _ _ _ (along_row _ _ _ _ c.loop-at.invariant.0 c.row_at-x.result c.copy-bytes.result _ _ c.with_row-s.result c.row_at-x.ensures c.bytes_so_far.ensures c.copy-bytes.ensures c.copy-bytes.auto.out c.with_row-s.ensures) _ _ _ (ap (λ (z : Progress). z.ready) c.with_row-s.ensures) st c.with_withheld-s.ensures, (c.copy-bytes.auto.out ∙ c.loop-at.invariant.1))
 
 pub shape_of-out-in-Signalling : goal.shape_of-out-in-Signalling
-shape_of-out-in-Signalling c = (went c).1
+shape_of-out-in-Signalling c = (c.copy-bytes.auto.out ∙ c.loop-at.invariant.1)
 
 pub returns-in-Signalling : goal.returns-in-Signalling
 returns-in-Signalling c =
     let st = rw c.in-Signalling.is at c.row_at-x.ensures.stop_is in
-    rw c.stretch_to-in-Signalling.ensures ((went c).0, (refl, st.0, st.1))
+    rw c.stretch_to-in-Signalling.ensures ((along_row _ _ _ _ c.loop-at.invariant.0 c.row_at-x.result c.copy-bytes.result _ _ c.with_row-s.result c.row_at-x.ensures c.bytes_so_far.ensures c.copy-bytes.ensures c.copy-bytes.auto.out c.with_row-s.ensures), (refl, st.0, st.1))

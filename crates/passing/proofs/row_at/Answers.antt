@@ -6,12 +6,6 @@ use mathlib.Core.Path.{sym, ◌∙◌}
 use Prim.Native.Nat.{◌+◌, ◌-◌}
 use Rattle.passing.proofs.row_at.Goals as goal
 
--- the packet that `next` found
-packet : (c : lts.After-known-told (next-reads.Asked, next-reads.Learnt, verdict-of-reads.Asked, verdict-of-reads.Learnt, row-to-reads.Asked, row-to-reads.Learnt) reads.Pre reads.Post invariant-loop decreases-loop)
-    → let a = c.args in
-    PacketTo a.limit a.run.now c.loop-at.at (c.loop-at.at + c.in-Packet.n)
-packet c = packet_to _ _ _ _ (sym c.next.ensures ∙ c.in-Packet.is)
-
 pub loop-at-init : goal.loop-at-init
 loop-at-init c = row_begin _ _ _ _ _ c.requires
 
@@ -19,29 +13,29 @@ pub overflow_sub-at : goal.overflow_sub-at
 overflow_sub-at c = omega (arith, c.loop-at.invariant.forth)
 
 pub overflow_add-at : goal.overflow_add-at
-overflow_add-at c = omega (arith, (packet c).inside)
+overflow_add-at c = omega (arith, (packet_to c.args.limit c.args.run.now c.loop-at.at c.in-Packet.n (sym c.next.ensures ∙ c.in-Packet.is)).inside)
 
 pub slice_bounds-verdict_of-end : goal.slice_bounds-verdict_of-end
-slice_bounds-verdict_of-end c = omega (arith, (packet c).inside)
+slice_bounds-verdict_of-end c = omega (arith, (packet_to c.args.limit c.args.run.now c.loop-at.at c.in-Packet.n (sym c.next.ensures ∙ c.in-Packet.is)).inside)
 
 pub overflow_add-count : goal.overflow_add-count
-overflow_add-count c = omega (arith, c.loop-at.invariant.few, (packet c).forth, (packet c).inside)
+overflow_add-count c = omega (arith, c.loop-at.invariant.few, (packet_to c.args.limit c.args.run.now c.loop-at.at c.in-Packet.n (sym c.next.ensures ∙ c.in-Packet.is)).forth, (packet_to c.args.limit c.args.run.now c.loop-at.at c.in-Packet.n (sym c.next.ensures ∙ c.in-Packet.is)).inside)
 
 pub loop-at-smaller : goal.loop-at-smaller
-loop-at-smaller c = omega (arith, (packet c).forth, (packet c).inside)
+loop-at-smaller c = omega (arith, (packet_to c.args.limit c.args.run.now c.loop-at.at c.in-Packet.n (sym c.next.ensures ∙ c.in-Packet.is)).forth, (packet_to c.args.limit c.args.run.now c.loop-at.at c.in-Packet.n (sym c.next.ensures ∙ c.in-Packet.is)).inside)
 
 pub loop-at-preserved : goal.loop-at-preserved
-loop-at-preserved c = row_next _ _ _ _ _ _ _ _ (packet c) (rw c.in-Pass.is at c.verdict_of.ensures) c.loop-at.invariant
+loop-at-preserved c = row_next _ _ _ _ _ _ _ _ (packet_to c.args.limit c.args.run.now c.loop-at.at c.in-Packet.n (sym c.next.ensures ∙ c.in-Packet.is)) (rw c.in-Pass.is at c.verdict_of.ensures) c.loop-at.invariant
 
 pub returns-in-Withhold : goal.returns-in-Withhold
 returns-in-Withhold c =
     rw c.row_to.ensures
-    (row_stops _ _ _ _ _ _ _ (Stop.Withhold _) (packet c, rw c.in-Withhold.is at c.verdict_of.ensures) c.loop-at.invariant)
+    (row_stops _ _ _ _ _ _ _ (Stop.Withhold _) ((packet_to c.args.limit c.args.run.now c.loop-at.at c.in-Packet.n (sym c.next.ensures ∙ c.in-Packet.is)), rw c.in-Withhold.is at c.verdict_of.ensures) c.loop-at.invariant)
 
 pub returns-in-Signalling : goal.returns-in-Signalling
 returns-in-Signalling c =
     rw c.row_to-in-Signalling.ensures
-    (row_stops _ _ _ _ _ _ _ (Stop.Signalling _ _) (packet c, rw c.in-Signalling.is at c.verdict_of.ensures) c.loop-at.invariant)
+    (row_stops _ _ _ _ _ _ _ (Stop.Signalling _ _) ((packet_to c.args.limit c.args.run.now c.loop-at.at c.in-Packet.n (sym c.next.ensures ∙ c.in-Packet.is)), rw c.in-Signalling.is at c.verdict_of.ensures) c.loop-at.invariant)
 
 pub returns-in-Skip : goal.returns-in-Skip
 returns-in-Skip c = rw c.row_to-in-Skip.ensures (row_stops _ _ _ _ _ _ _ Stop.Skip (sym c.next.ensures ∙ c.in-Skip.is) c.loop-at.invariant)

@@ -11,24 +11,6 @@ use native.Mathlib.Omega.{arith}
 use lib.Dec.{eqb}
 use Rattle.rules.proofs.decide_on.Goals as goal
 
--- before EIT's wish: what is known drops
-known-dropped : (m : lts.After-remove (
-  drop-packages-reads.Asked,
-  drop-packages-reads.Learnt,
-  keep-packages-reads.Asked,
-  keep-packages-reads.Learnt,
-  remove-reads.Asked,
-  remove-reads.Learnt,
-  insert-reads.Asked,
-  insert-reads.Learnt,
-) reads.Pre reads.Post) (k : Known) (ds : Words) → let a = m.before.before.before.before.before.before.before.args in
-    Keeps k a.e ds a.packages.now a.map_heads.now a.map_room.now → SetIs (λ q. not a.o.carousel && in_set ds q) a.set.now → SetIs (in_drop_set a.o k) m.remove.new.0
-known-dropped m k ds h f =
-    let a = m.before.before.before.before.before.before.before.args in
-    let kept = m.before.before.keep-packages in
-    let z : Removes (eqb 0) kept.new.1.1.1.1.1.0 m.remove.new.0 = rw m.remove.ensures (removes_one _ 0 kept.ensures.all_words (omega arith)) in
-    decided h a.o f m.before.before.before.before.drop-packages.ensures kept.ensures z
-
 pub drop_packages-requires : goal.drop_packages-requires
 drop_packages-requires c =
     let p = c.requires in
@@ -42,10 +24,11 @@ keep_packages-requires c =
 pub returns-then-not-o : goal.returns-then-not-o
 returns-then-not-o c =
     let o = c.args.o in
-    λ k ds h f. let s = known-dropped c k ds h f in
+    λ k ds h f. let z : Removes (eqb 0) c.keep_packages.new.set c.remove.new.words = rw c.remove.ensures (removes_one c.keep_packages.new.set 0 c.keep_packages.ensures.all_words (omega arith)) in 
+    let s = decided h c.args.o f c.drop_packages.ensures c.keep_packages.ensures z in
     eit_dropped h o (not-true _ c.if-not-o.true) s (rw c.insert.ensures (inserts_one c.remove.new.words 0x8000 s.all_words (omega arith)))
 
 pub returns-else-not-o : goal.returns-else-not-o
 returns-else-not-o c =
     let o = c.args.o in
-    λ k ds h f. eit_kept h o (not-false _ c.if-not-o.false) (known-dropped c k ds h f)
+    λ k ds h f. eit_kept h o (not-false _ c.if-not-o.false) (let z : Removes (eqb 0) c.keep_packages.new.set c.remove.new.words = rw c.remove.ensures (removes_one c.keep_packages.new.set 0 c.keep_packages.ensures.all_words (omega arith)) in decided h c.args.o f c.drop_packages.ensures c.keep_packages.ensures z)

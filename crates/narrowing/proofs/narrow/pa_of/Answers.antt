@@ -10,13 +10,6 @@ use Rattle.narrowing.proofs.PayloadLaws.{started, no_start}
 use Rattle.narrowing.proofs.FoundLaws.{PaEnds, no_message, pa_ends, headless_pa, pa_found}
 use Rattle.narrowing.proofs.narrow.pa_of.Goals as goal
 
--- the message is a PA message
-ends : (c : lts.After-known-told (starts-pa-reads.Asked, starts-pa-reads.Learnt, message-reads.Asked, message-reads.Learnt, pa-tables-reads.Asked, pa-tables-reads.Learnt) reads.Pre reads.Post)
-    → PaEnds c.args.payload.now (c.in-Message.end + 2)
-ends c =
-    let s = c.args.payload.now in
-    pa_ends s (started s (sym c.starts_pa.ensures ∙ not-false _ c.if-not-starts_pa.false-raw)) _ _ _ (rw c.in-Message.is at c.message.ensures)
-
 -- flags and counter are there
 two_long : (s : Bytes) {r : Bool} → r ≡ starts_pa s → not r ≡ false → 2 ≤ length s
 two_long s {r} e f = omega (arith, (started s (sym e ∙ not-false r f)).four)
@@ -41,16 +34,16 @@ overflow_add-last c =
     omega (arith, k.2)
 
 pub slice_bounds-pa_tables-count : goal.slice_bounds-pa_tables-count
-slice_bounds-pa_tables-count c = (ends c).nine
+slice_bounds-pa_tables-count c = (pa_ends c.args.payload.now (started c.args.payload.now (sym c.starts_pa.ensures ∙ not-false _ c.if-not-starts_pa.false-raw)) _ _ _ (rw c.in-Message.is at c.message.ensures)).nine
 
 pub slice_bounds-pa_tables-start : goal.slice_bounds-pa_tables-start
-slice_bounds-pa_tables-start c = (ends c).nine
+slice_bounds-pa_tables-start c = (pa_ends c.args.payload.now (started c.args.payload.now (sym c.starts_pa.ensures ∙ not-false _ c.if-not-starts_pa.false-raw)) _ _ _ (rw c.in-Message.is at c.message.ensures)).nine
 
 pub slice_bounds-pa_tables-end : goal.slice_bounds-pa_tables-end
-slice_bounds-pa_tables-end c = (ends c).within
+slice_bounds-pa_tables-end c = (pa_ends c.args.payload.now (started c.args.payload.now (sym c.starts_pa.ensures ∙ not-false _ c.if-not-starts_pa.false-raw)) _ _ _ (rw c.in-Message.is at c.message.ensures)).within
 
 pub returns-in_default-pa_tables : goal.returns-in_default-pa_tables
-returns-in_default-pa_tables c = headless_pa _ _ (ends c) (rw c.in_default-pa_tables.is at c.pa_tables.ensures)
+returns-in_default-pa_tables c = headless_pa _ _ (pa_ends c.args.payload.now (started c.args.payload.now (sym c.starts_pa.ensures ∙ not-false _ c.if-not-starts_pa.false-raw)) _ _ _ (rw c.in-Message.is at c.message.ensures)) (rw c.in_default-pa_tables.is at c.pa_tables.ensures)
 
 pub returns : goal.returns
-returns c = pa_found _ _ (ends c) _ (rw c.in-At.is at c.pa_tables.ensures)
+returns c = pa_found _ _ (pa_ends c.args.payload.now (started c.args.payload.now (sym c.starts_pa.ensures ∙ not-false _ c.if-not-starts_pa.false-raw)) _ _ _ (rw c.in-Message.is at c.message.ensures)) _ (rw c.in-At.is at c.pa_tables.ensures)
