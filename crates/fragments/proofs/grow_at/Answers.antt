@@ -19,7 +19,7 @@ returns-then-fits c =
     let a = c.args in
     let pre = c.requires in
     let l = c.lengthen-end in
-    grew a.most a.body.now a.n a.leading a.fragment_heads.now a.bodies.now a.place pre.2 pre.0 _ _ _ _ pre.1 l.ensures.1 c.flags_of-flags.ensures (sym c.fits.ensures ∙ c.if-fits.true) l.ensures.0
+    grew a.most a.body.now a.n a.leading a.fragment_heads.now a.bodies.now a.place pre.2 pre.0 _ _ _ _ pre.1 l.ensures.value c.flags_of-flags.ensures (sym c.fits.ensures ∙ c.if-fits.true) l.ensures.lengthens
 
 pub returns : goal.returns
 returns c =

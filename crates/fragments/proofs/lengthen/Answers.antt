@@ -36,7 +36,7 @@ pub returns : goal.returns
 returns c =
     let a = c.args in
     let pre = c.requires in
-    let w = c.copy in (
-      lengthened a.place a.body.now a.n a.fragment_heads.now a.bodies.now _ _ _ _ pre.0 pre.1 pre.2 pre.3 c.move_free.ensures w.auto.out w.ensures (ap (set a.fragment_heads.now a.place.index) c.longer.ensures),
-      refl,
-    )
+    let w = c.copy in record {
+      lengthens = lengthened a.place a.body.now a.n a.fragment_heads.now a.bodies.now _ _ _ _ pre.0 pre.1 pre.2 pre.3 c.move_free.ensures w.auto.out w.ensures (ap (set a.fragment_heads.now a.place.index) c.longer.ensures);
+      value = refl;
+    }

@@ -14,7 +14,7 @@ pub loop-i-preserved : goal.loop-i-preserved
 loop-i-preserved c =
     let l = c.loop-i in
     let s = c.args.s.now in
-    let k = c.shared_slice_known-in-loop-i-2-1.given in
+    let k = c.type_inv.s in
     omega (arith, words_two s l.i (omega arith) (omega (arith, k l.i)) (omega (arith, k (l.i + 1))))
 
 pub overflow_add-result : goal.overflow_add-result
@@ -30,7 +30,7 @@ pub returns-then-i-s : goal.returns-then-i-s
 returns-then-i-s c =
     let s = c.args.s.now in
     let i = c.loop-i.i in
-    omega (arith, words_one s i (omega arith) (omega arith) (omega (arith, c.shared_slice_known-then-i-s-1.given i)), words_le s)
+    omega (arith, words_one s i (omega arith) (omega arith) (omega (arith, c.type_inv.s i)), words_le s)
 
 pub overflow_mul-result-2 : goal.overflow_mul-result-2
 overflow_mul-result-2 c = omega (arith, words_le c.args.s.now)

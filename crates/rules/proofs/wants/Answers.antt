@@ -12,4 +12,4 @@ returns-in-1 c = rw c.in-1.is
 
 pub returns-in_default : goal.returns-in_default
 unfolding kind_of
-returns-in_default c = rw (kind_other c.args.kind c.in-0.rest.0.1 c.in-0.rest.1)
+returns-in_default c = rw (kind_other c.args.kind c.in_default.in_default-own.rest.0.1 c.in_default.in_default-own.rest.1)

@@ -1,3 +1,4 @@
+use borrow.Author.Rules.{rules}
 use mathlib.Core.Logic.{inl, inr}
 use borrow.Author.Tests.{le-leb, lt-leb}
 use Rattle.tlv.proofs.Laws.{no_header_type}
@@ -26,4 +27,4 @@ returns-in-96 c = rw (le-leb 3 _ c.if-s-lt3.false, c.in-96.is)
 
 pub returns-in_default : goal.returns-in_default
 unfolding compressed
-returns-in_default c = rw (le-leb 3 _ c.if-s-lt3.false, no_header_type _ c.in-33.rest.0.0.1 c.in-33.rest.0.1 c.in-33.rest.1)
+returns-in_default c = rw (le-leb 3 _ c.if-s-lt3.false, no_header_type _ c.in_default.in_default-own.rest.0.0.1 c.in_default.in_default-own.rest.0.1 c.in_default.in_default-own.rest.1)

@@ -18,7 +18,7 @@ returns-then-flags-eq1 c =
     let s = c.args.s.now in
     let f = get_or s 0 0 in
     rw c.extended.ensures
-    (head_extended s _ c.if-s-lt12.false (omega (arith, c.shared_slice_known-2-1.given 0))
+    (head_extended s _ c.if-s-lt12.false (omega (arith, c.type_inv.s 0))
     (omega (arith, c.wide.ensures.0, and_mask (f / 32) 1)) (omega (arith, c.if-flags-eq1.true, and_mask (f / 2) 1)))
 
 pub returns : goal.returns
@@ -26,5 +26,5 @@ returns c =
     let s = c.args.s.now in
     let f = get_or s 0 0 in
     rw c.header_to.ensures
-    (head_plain s _ c.if-s-lt12.false (omega (arith, c.shared_slice_known-2-1.given 0))
+    (head_plain s _ c.if-s-lt12.false (omega (arith, c.type_inv.s 0))
     (omega (arith, c.wide.ensures.0, and_mask (f / 32) 1)) (omega (arith, c.if-flags-eq1.false, and_mask (f / 2) 1)))

@@ -20,15 +20,13 @@ returns-in_default c =
 pub returns-then-p-at : goal.returns-then-p-at
 returns-then-p-at c =
     let p = c.args.p.now in
-    let g = c.at-1.given in
-    unread_past p (omega arith) g.0.0 g.0.1.0
-    (placed_at (offset_of (get_or p 1 0) (drop 4 p)) _ _ (sym g.1 ∙ c.offset_of.ensures ∙ ap (λ (z : List ℕ). as_offset (offset_of (get_or p 1 0) z)) (to_end p 4)))
+    unread_past p (omega arith) c.in-At.at c.in-At.rewritable
+    (placed_at (offset_of (get_or p 1 0) (drop 4 p)) _ _ (sym c.in-At.is ∙ c.offset_of.ensures ∙ ap (λ (z : List ℕ). as_offset (offset_of (get_or p 1 0) z)) (to_end p 4)))
     c.if-p-at.true
 
 pub returns : goal.returns
 returns c =
     let p = c.args.p.now in
-    let g = c.at-1.given in
-    placed p (omega arith) g.0.0 g.0.1.0
-    (placed_at (offset_of (get_or p 1 0) (drop 4 p)) _ _ (sym g.1 ∙ c.offset_of.ensures ∙ ap (λ (z : List ℕ). as_offset (offset_of (get_or p 1 0) z)) (to_end p 4)))
+    placed p (omega arith) c.in-At.at c.in-At.rewritable
+    (placed_at (offset_of (get_or p 1 0) (drop 4 p)) _ _ (sym c.in-At.is ∙ c.offset_of.ensures ∙ ap (λ (z : List ℕ). as_offset (offset_of (get_or p 1 0) z)) (to_end p 4)))
     c.if-p-at.false

@@ -1,3 +1,4 @@
+use borrow.Author.Rules.{rules}
 use Rattle.tlv.proofs.Laws.{no_ip}
 use Rattle.meaning.specs.Mmtp.{offset_of}
 use Rattle.tlv.proofs.offset_of.Goals as goal
@@ -15,4 +16,4 @@ unfolding offset_of
 returns-in-2 c = rw c.in-2.is c.udp_body-in-2.ensures
 
 pub returns-in_default : goal.returns-in_default
-returns-in_default c = rw (no_ip _ c.args.s.now c.in-3.rest.0.0.1 c.in-3.rest.0.1 c.in-3.rest.1)
+returns-in_default c = rw (no_ip _ c.args.s.now c.in_default.in_default-own.rest.0.0.1 c.in_default.in_default-own.rest.0.1 c.in_default.in_default-own.rest.1)

@@ -11,14 +11,12 @@ returns-in_default c = rw (front_none _ (rw c.in_default.is at c.mpt_front.ensur
 
 pub returns-then-b-front : goal.returns-then-b-front
 returns-then-b-front c =
-    let front = c.front-1.given in
-    rw (count_none _ front.0.0 (rw front.1 at c.mpt_front.ensures) (omega arith))
+    rw (count_none _ c.in-At.front (rw c.in-At.is at c.mpt_front.ensures) (omega arith))
 
 pub loop-left-init : goal.loop-left-init
 loop-left-init c =
-    let front = c.front-1.given in
     let a = c.args in
-    let held = hold_start a.b.now front.0.0 (rw front.1 at c.mpt_front.ensures) (omega arith)
+    let held = hold_start a.b.now c.in-At.front (rw c.in-At.is at c.mpt_front.ensures) (omega arith)
     c.wide-left.result c.wide-left.ensures.0 c.wide-left.ensures.1 a.map_room.now a.base a.n (omega arith) in
     (held, record { met = refl })
 
@@ -73,7 +71,7 @@ pub returns : goal.returns
 returns c =
     let l = c.loop-left in
     let w = c.wide-left in
-    let front = c.front-1.given in (
+    (
       hold_end _ _ _ l.from l.left l.at l.rest l.invariant.0 (omega arith) ∙ eq-eqb l.rest 0 (omega arith),
-      met_mpt _ front.0.0 (rw front.1 at c.mpt_front.ensures) (omega arith) w.result w.ensures.0 w.ensures.1 _ l.from l.left l.news l.invariant.1 (omega arith),
+      met_mpt _ c.in-At.front (rw c.in-At.is at c.mpt_front.ensures) (omega arith) w.result w.ensures.0 w.ensures.1 _ l.from l.left l.news l.invariant.1 (omega arith),
     )

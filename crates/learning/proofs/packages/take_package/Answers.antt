@@ -12,9 +12,7 @@ returns-in_default-carrier c = (λ ps k. rw (c.in-Service.is, c.in_default-carri
 
 pub returns : goal.returns
 returns c =
-    let q = c.carrier-1.given in
-    let s = c.name-1.given in
-    let fits = c.known_told-in-By-1.given.0 in (
-      λ ps k. rw (s.1, q.1) (pairs_as (c.add_package.ensures.0 ps k) (unpacked _ _ c.packed.result ps (omega (arith, fits)) c.packed.ensures) refl refl),
+    (
+      λ ps k. rw (c.in-Service.is, c.in-By.is) (pairs_as (c.add_package.ensures.0 ps k) (unpacked _ _ c.packed.result ps (omega (arith, fits)) c.packed.ensures) refl refl),
       c.add_package.ensures.1,
     )

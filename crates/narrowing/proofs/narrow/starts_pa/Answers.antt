@@ -11,7 +11,7 @@ returns-then-payload-lt4 c = sym (start_short c.args.payload.now c.if-payload-lt
 pub returns-then-payload-ne0 : goal.returns-then-payload-ne0
 returns-then-payload-ne0 c =
     let s = c.args.payload.now in
-    sym (start_part s c.if-payload-lt4.false (first_part (get_or s 0 0) (omega (arith, c.shared_slice_known-2-1.given 0)) c.if-payload-ne0.true))
+    sym (start_part s c.if-payload-lt4.false (first_part (get_or s 0 0) (omega (arith, c.type_inv.payload 0)) c.if-payload-ne0.true))
 
 pub returns-then-payload-ne0-2 : goal.returns-then-payload-ne0-2
 returns-then-payload-ne0-2 c =

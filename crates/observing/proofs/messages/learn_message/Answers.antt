@@ -21,17 +21,15 @@ pub learn_pa-requires : goal.learn_pa-requires
 learn_pa-requires c =
     let a = c.args in
     let pre = c.requires in
-    let g = c.number-1.given.0 in
-    (part_few a.e.lost a.s.now g.1.0 g.1.1.0 pre.0, (a.data_set.now, pre.1))
+    (part_few a.e.lost a.s.now c.in-Message.start c.in-Message.end pre.0, (a.data_set.now, pre.1))
 
 pub returns-then-number-eq0 : goal.returns-then-number-eq0
 returns-then-number-eq0 c =
     let a = c.args in
-    let g = c.number-1.given.0 in
     let x = rw c.in-Message.is at c.message.ensures in (
       (λ k h. found_after a.id a.s.now k a.e _ a.data_set.now _ _ _ _ _ x.3
           (message_pa a.id _ k a.e a.data_set.now a.packages.now a.map_heads.now a.map_room.now h c.if-number-eq0.true _ _ _ _ (c.learn_pa.ensures.0 a.data_set.now k h))),
-      part_lost a.e.lost a.s.now g.1.0 g.1.1.0 _ c.learn_pa.ensures.1,
+      part_lost a.e.lost a.s.now c.in-Message.start c.in-Message.end _ c.learn_pa.ensures.1,
     )
 
 pub learn_data-requires : goal.learn_data-requires

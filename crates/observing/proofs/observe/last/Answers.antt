@@ -33,10 +33,9 @@ learn-known-requires c =
     let a = c.args in
     let x = c.requires.1 in
     let g = (rw c.in-At.is at c.grow.ensures).is (record { work = 0; total = x.0; most = a.most }) x.1.fragments refl x.2.fragments_kept in
-    let v = c.start-1.given.0 in
     let t : length a.bodies.now ≡ x.0 = x.2.fragments_kept.total in
     let pre : a.e.lost + x.0 ≤ 18446744073709551615 = omega (arith, c.requires.0, t) in
-    (part_within a.e.lost _ v.0 v.1.0 x.0 18446744073709551615 g.kept.total pre, (x.1, x.2.tables_kept))
+    (part_within a.e.lost _ c.in-At.start c.in-At.end x.0 18446744073709551615 g.kept.total pre, (x.1, x.2.tables_kept))
 
 pub give_back-requires : goal.give_back-requires
 give_back-requires c =
@@ -53,12 +52,11 @@ returns-in-At c =
     let a = c.args in
     let w = c.with_held.ensures in
     let y = c.learn-known.ensures in
-    let v = c.start-1.given.0 in
     let x = c.requires.1 in
     let u = rw c.in-At.is at c.grow.ensures in
     let g₀ = u.is (record { work = 0; total = x.0; most = a.most }) x.1.fragments refl x.2.fragments_kept in
     let t : length a.bodies.now ≡ x.0 = x.2.fragments_kept.total in
-    let l = lost_within a.e.lost _ _ v.0 v.1.0 x.0 g₀.kept.total y.1 in (
+    let l = lost_within a.e.lost _ _ c.in-At.start c.in-At.end x.0 g₀.kept.total y.1 in (
       (λ L k most h.
           rw w
           (last_grew L a.id a.body.now k a.e _ _ _ _ _ _ (u.is L k.fragments most h.fragments_kept) _ _ _ _ _ _ _

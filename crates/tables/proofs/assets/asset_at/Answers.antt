@@ -6,27 +6,27 @@ use Rattle.tables.proofs.assets.asset_at.Goals as goal
 pub returns-then-len-lt6 : goal.returns-then-len-lt6
 returns-then-len-lt6 c =
     let a = c.args in
-    entry_short a.s.now a.at (λ i. omega (arith, c.shared_slice_known-1.given i)) (omega arith)
+    entry_short a.s.now a.at (λ i. omega (arith, c.type_inv.s i)) (omega arith)
 
 pub returns-then-len-at : goal.returns-then-len-at
 returns-then-len-at c =
     let a = c.args in
-    entry_short a.s.now a.at (λ i. omega (arith, c.shared_slice_known-1.given i)) (omega arith)
+    entry_short a.s.now a.at (λ i. omega (arith, c.type_inv.s i)) (omega arith)
 
 pub returns-then-len-type_at : goal.returns-then-len-type_at
 returns-then-len-type_at c =
     let a = c.args in
-    entry_cut a.s.now a.at (λ i. omega (arith, c.shared_slice_known-2-1.given i)) _ c.wide.result (omega arith) c.wide.ensures.0 refl c.if-len-type_at.true
+    entry_cut a.s.now a.at (λ i. omega (arith, c.type_inv.s i)) _ c.wide.result (omega arith) c.wide.ensures.0 refl c.if-len-type_at.true
 
 pub returns-in_default : goal.returns-in_default
 returns-in_default c =
     let a = c.args in
-    entry_broken a.s.now a.at (λ i. omega (arith, c.shared_slice_known-2-1.given i)) _ c.wide.result (omega arith) c.wide.ensures.0 refl c.if-len-type_at.false
+    entry_broken a.s.now a.at (λ i. omega (arith, c.type_inv.s i)) _ c.wide.result (omega arith) c.wide.ensures.0 refl c.if-len-type_at.false
     (rw c.in_default.is at c.tail_at.ensures)
 
 pub returns : goal.returns
 returns c =
     let a = c.args in
     let t = rw c.in-To.is at c.tail_at.ensures in
-    entry_whole a.s.now a.at (λ i. omega (arith, c.shared_slice_known-2-1.given i)) _ c.wide.result (omega arith) c.wide.ensures.0 refl c.if-len-type_at.false
+    entry_whole a.s.now a.at (λ i. omega (arith, c.type_inv.s i)) _ c.wide.result (omega arith) c.wide.ensures.0 refl c.if-len-type_at.false
     _ _ _ t c.part_of.ensures

@@ -8,15 +8,15 @@ returns-then-flags-eq0 c = let a = c.args in clock_absent a.s.now a.at a.flags c
 pub returns-then-s-at-lt2 : goal.returns-then-s-at-lt2
 returns-then-s-at-lt2 c =
     let a = c.args in
-    clock_cut a.s.now a.at a.flags (omega arith) (λ i. omega (arith, c.shared_slice_known-1.given i)) (omega arith)
+    clock_cut a.s.now a.at a.flags (omega arith) (λ i. omega (arith, c.type_inv.s i)) (omega arith)
 
 pub returns-then-s-at-eq0 : goal.returns-then-s-at-eq0
 returns-then-s-at-eq0 c =
     let a = c.args in
-    clock_short a.s.now a.at a.flags (omega arith) (λ i. omega (arith, c.shared_slice_known-2-1.given i)) (omega arith) c.if-s-at-eq0.true
+    clock_short a.s.now a.at a.flags (omega arith) (λ i. omega (arith, c.type_inv.s i)) (omega arith) c.if-s-at-eq0.true
 
 pub returns : goal.returns
 returns c =
     let a = c.args in
-    rw (clock_long a.s.now a.at a.flags (omega arith) (λ i. omega (arith, c.shared_slice_known-2-1.given i)) (omega arith) (omega arith))
+    rw (clock_long a.s.now a.at a.flags (omega arith) (λ i. omega (arith, c.type_inv.s i)) (omega arith) (omega arith))
     c.bytes_end.ensures
