@@ -38,7 +38,7 @@ fn put_words(rt: HostRuntime, clause: usize) -> bool {
         10 => write_all(rt, b"M below 1"),
         11 => write_all(rt, b"M above T"),
         12 => write_all(rt, b"held bytes above P-1"),
-        13 => write_all(rt, b"held bytes in copy_all"),
+        13 => write_all(rt, b"held bytes in copy-all"),
         14 => write_all(rt, b"over 255 packages"),
         15 => write_all(rt, b"over 256 fragments"),
         16 => write_all(rt, b"over 64 maps"),
