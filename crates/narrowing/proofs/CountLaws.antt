@@ -100,7 +100,7 @@ pub below_counted : (o : Options) (rows : Rows) (ps : List Part) (n m : ℕ) →
 unfolding counted_in
 below_counted o rows [] n m h l = below_more rows n m h (omega arith)
 below_counted o rows (part ∷ ps) n m h l =
-    below_counted o _ ps (n + 1) m (below_bumped rows (row_number o part) (kind_number part) n (n + 1) h (omega arith)) (omega arith)
+    below_counted o (bumped rows (row_number o part) (kind_number part)) ps (n + 1) m (below_bumped rows (row_number o part) (kind_number part) n (n + 1) h (omega arith)) (omega arith)
 
 -- ---- the entries of an MPT
 

@@ -1,10 +1,10 @@
 use Prim.Native.Nat.{◌/◌, ◌<◌}
 use mathlib.Core.Path.{◌≡◌}
-use mathlib.Core.Logic.{inl, inr}
 use native.Mathlib.Omega.{arith}
 use lib.ListN.{get_or}
 use Rattle.learning.proofs.PairLaws.{pairs_length}
 use Rattle.learning.proofs.PackageLaws.{added_over, added_new}
+use Rattle.learning.proofs.packages.add_package.Goals.{then-at-n+else-fresh-at, else-at-n}
 use Rattle.learning.proofs.packages.add_package.Goals as goal
 
 pub slot_for-at-requires : goal.slot_for-at-requires
@@ -25,7 +25,7 @@ returns c =
     let p = c.slot_for-at in
     let other : p.result < a.n → get_or a.fresh.now p.result 0 / 65536 ≡ a.p / 65536 → ⊥ =
     elim c.if-at-n.branch [
-      | inl x ↦ λ h. x.2.left
-      | inr x ↦ λ h e. omega arith
+      | then-at-n+else-fresh-at x ↦ λ h. x.if-fresh-at.false
+      | else-at-n x ↦ λ h e. omega arith
     ] in
     (added_new 255 a.p a.n p.result a.fresh.now p.ensures.0 (omega arith) (omega arith) other c.open_slot.new.fresh c.open_slot.ensures, omega arith)

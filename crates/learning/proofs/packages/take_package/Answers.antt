@@ -13,6 +13,6 @@ returns-in_default-carrier c = (λ ps k. rw (c.in-Service.is, c.in_default-carri
 pub returns : goal.returns
 returns c =
     (
-      λ ps k. rw (c.in-Service.is, c.in-By.is) (pairs_as (c.add_package.ensures.0 ps k) (unpacked _ _ c.packed.result ps (omega (arith, fits)) c.packed.ensures) refl refl),
+      λ ps k. rw (c.in-Service.is, c.in-By.is) (pairs_as (c.add_package.ensures.0 ps k) (unpacked _ _ c.packed.result ps (omega arith) c.packed.ensures) refl refl),
       c.add_package.ensures.1,
     )

@@ -1,3 +1,4 @@
+use borrow.Enum.Refused.{opened}
 use native.Mathlib.Omega.{arith}
 use Prim.Native.Nat.{◌-◌}
 use Rattle.narrowing.proofs.CountLaws.{tally_start, tally_room, tally_turn, tallied}
@@ -13,7 +14,7 @@ returns-in_default c =
     let a = c.args in
     let l = c.loop-end in
     tallied a.s.now a.tables a.o l.t l.at l.invariant
-    (no_table a.s.now l.at c.table_at.result c.in_default.in_default-own.keys2 c.table_at.ensures)
+    (no_table a.s.now l.at c.table_at.result (opened c.in_default.in_default-own.keys2) c.table_at.ensures)
 
 pub slice_bounds-count_table-count : goal.slice_bounds-count_table-count
 slice_bounds-count_table-count c = let h = rw c.in-To.is at c.table_at.ensures in omega (arith, h.0)

@@ -27,7 +27,7 @@ pub overflow_add-size : goal.overflow_add-size
 overflow_add-size c =
     let l = c.loop-left in
     let k = rw c.in-Entry.is at c.asset_at.ensures in
-    omega (arith, k.0, k.1, l.invariant.fits, c.WELLFORMED)
+    omega (arith, k.0, k.1, l.invariant.fits)
 
 pub loop-left-preserved-then-wanted : goal.loop-left-preserved-then-wanted
 loop-left-preserved-then-wanted c =

@@ -1,3 +1,4 @@
+use borrow.Enum.Refused.{opened}
 use Prim.Native.Nat.{◌-◌}
 use mathlib.Core.Path.{refl}
 use lib.ListN.{length}
@@ -24,7 +25,7 @@ returns-in_default c =
     let f = not_refused (length a.t.now) (length a.out.now) r.result r.ensures (rw c.is_refused.ensures at c.if-is_refused.false) in
     let k = c.table_at in
     unchanged_answer (narrow_refusal (length a.t.now) (length a.out.now)) (change_table a.o a.t.now) a.out.now _ _ _ _ refl f.0
-    (no_table_stays a.o a.t.now (no_table a.t.now 0 k.result c.in_default.in_default-own.keys2 k.ensures)) c.without_counts-in_default.ensures
+    (no_table_stays a.o a.t.now (no_table a.t.now 0 k.result (opened c.in_default.in_default-own.keys2) k.ensures)) c.without_counts-in_default.ensures
 
 pub slice_bounds-change_of-count : goal.slice_bounds-change_of-count
 slice_bounds-change_of-count c = let h = rw c.in-To.is at c.table_at.ensures in omega (arith, h.0)

@@ -4,6 +4,8 @@ use mathlib.Core.Path.{◌∙◌}
 use mathlib.Core.Logic.{inl, inr}
 use Rattle.narrowing.proofs.WalkLaws.{heads_begin, heads_left, heads_room, heads_two, heads_next, heads_rest}
 use Rattle.tables.proofs.WalkLaws.{no_table}
+use borrow.Enum.Refused.{opened}
+use Rattle.narrowing.proofs.pa.heads_to.Goals.{else-loop-entry-test, then-loop-entry-test+in_default}
 use Rattle.narrowing.proofs.pa.heads_to.Goals as goal
 
 pub loop-entry-init : goal.loop-entry-init
@@ -84,6 +86,6 @@ returns c =
     let l = c.loop-entry in
     heads_rest a.o a.pid a.s.now a.tables a.out.now a.to l.out l.at l.entry l.put l.invariant
     (elim c.loop-entry-test.branch [
-      | inl w ↦ inl w.left
-      | inr w ↦ inr (no_table a.s.now l.at w.1.result w.2.keys2 w.1.ensures)
+      | else-loop-entry-test w ↦ inl w.loop-entry-test.false
+      | then-loop-entry-test+in_default w ↦ inr (no_table a.s.now l.at w.table_at.result (opened w.in_default.in_default-own.keys2) w.table_at.ensures)
     ]) c.copy.ensures

@@ -1,3 +1,4 @@
+use borrow.Enum.Refused.{opened}
 use native.Mathlib.Omega.{arith}
 use Prim.Native.Nat.{◌-◌}
 use Rattle.narrowing.proofs.WalkLaws.{own_change, tables_begin, tables_left, tables_room, tables_next, tables_done}
@@ -26,7 +27,7 @@ returns-in_default c =
     let l = c.loop-end in
     let t = c.table_at in
     tables_done a.o a.pid a.s.now a.tables a.out.now a.to l.out l.at l.put l.invariant
-    (no_table a.s.now l.at t.result c.in_default.in_default-own.keys2 t.ensures) c.copy.ensures
+    (no_table a.s.now l.at t.result (opened c.in_default.in_default-own.keys2) t.ensures) c.copy.ensures
 
 pub change_at-change-requires : goal.change_at-change-requires
 change_at-change-requires c = (rw c.in-To.is at c.table_at.ensures, c.requires.1)

@@ -4,16 +4,16 @@ use Rattle.narrowing.proofs.TableLaws.{as_mpt, mpt_length, as_plt, plt_length, a
 use Rattle.narrowing.proofs.table.length_after.Goals as goal
 
 pub overflow_add-result : goal.overflow_add-result
-overflow_add-result c = omega (arith, ((as_mpt c.requires.0 c.requires.1 c.args.b.now c.args.change c.requires.2 _ _ _ _ c.in-Mpt.is).1).ranges, ((as_mpt c.requires.0 c.requires.1 c.args.b.now c.args.change c.requires.2 _ _ _ _ c.in-Mpt.is).1).within)
+overflow_add-result c = omega (arith, ((as_mpt c.requires.0 c.requires.1 c.args.b.now c.args.change c.requires.2 _ _ _ _ c.in-Mpt.is).1).fits, ((as_mpt c.requires.0 c.requires.1 c.args.b.now c.args.change c.requires.2 _ _ _ _ c.in-Mpt.is).1).within)
 
 pub overflow_add-result-in-Mpt : goal.overflow_add-result-in-Mpt
-overflow_add-result-in-Mpt c = omega (arith, ((as_mpt c.requires.0 c.requires.1 c.args.b.now c.args.change c.requires.2 _ _ _ _ c.in-Mpt.is).1).ranges, ((as_mpt c.requires.0 c.requires.1 c.args.b.now c.args.change c.requires.2 _ _ _ _ c.in-Mpt.is).1).within)
+overflow_add-result-in-Mpt c = omega (arith, ((as_mpt c.requires.0 c.requires.1 c.args.b.now c.args.change c.requires.2 _ _ _ _ c.in-Mpt.is).1).fits, ((as_mpt c.requires.0 c.requires.1 c.args.b.now c.args.change c.requires.2 _ _ _ _ c.in-Mpt.is).1).within)
 
 pub overflow_sub-result : goal.overflow_sub-result
 overflow_sub-result c = ((as_mpt c.requires.0 c.requires.1 c.args.b.now c.args.change c.requires.2 _ _ _ _ c.in-Mpt.is).1).within
 
 pub overflow_add-result-in-Mpt-2 : goal.overflow_add-result-in-Mpt-2
-overflow_add-result-in-Mpt-2 c = omega (arith, ((as_mpt c.requires.0 c.requires.1 c.args.b.now c.args.change c.requires.2 _ _ _ _ c.in-Mpt.is).1).ranges, ((as_mpt c.requires.0 c.requires.1 c.args.b.now c.args.change c.requires.2 _ _ _ _ c.in-Mpt.is).1).within)
+overflow_add-result-in-Mpt-2 c = omega (arith, ((as_mpt c.requires.0 c.requires.1 c.args.b.now c.args.change c.requires.2 _ _ _ _ c.in-Mpt.is).1).fits, ((as_mpt c.requires.0 c.requires.1 c.args.b.now c.args.change c.requires.2 _ _ _ _ c.in-Mpt.is).1).within)
 
 pub overflow_sub-result-in-Plt : goal.overflow_sub-result-in-Plt
 overflow_sub-result-in-Plt c = ((as_plt c.requires.0 c.requires.1 c.args.b.now c.args.change c.requires.2 _ _ _ c.in-Plt.is).0).ends

@@ -1,3 +1,4 @@
+use borrow.Enum.Refused.{opened}
 use native.Mathlib.Omega.{arith}
 use Prim.Native.Nat.{◌-◌}
 use Rattle.tables.proofs.WalkLaws.{no_table}
@@ -25,7 +26,7 @@ returns-in_default-table_at c =
     let a = c.args in
     let l = c.loop-end in
     let x = rw c.in-At.is at c.pa_tables.ensures in
-    let stop = no_table a.s.now l.at c.table_at.result c.in_default-table_at.in_default-table_at-own.keys2 c.table_at.ensures in (
+    let stop = no_table a.s.now l.at c.table_at.result (opened c.in_default-table_at.in_default-table_at-own.keys2) c.table_at.ensures in (
       (λ data_set k h. rw (pa_found a.s.now _ x)
           (tables_done a.s.now a.id _ a.known a.packages.now a.map_heads.now a.map_room.now l.e l.at l.packages l.map_heads l.map_room l.invariant stop data_set k h)),
       omega (arith, l.invariant.countable),
