@@ -176,11 +176,13 @@ fn store_output(rt: HostRuntime) -> Result<()> {
     }
 }
 
-// Closes the output: some file systems tell only then that what they took is lost. What a close says is not told in Rattle, so that a
-// file is stored before it, which says the same.
+// Closes the output: some file systems tell only then that what they took is lost. What a close says cannot be had from `std`, so that a
+// file is stored instead, which says the same; the system closes it at the program's end. One that cannot be stored is none that loses.
 pub fn close_output(rt: HostRuntime) {
     if let Err(why) = store_output(rt) {
-        write_failed(rt, why);
+        if why.kind() != ErrorKind::InvalidInput {
+            write_failed(rt, why);
+        }
     }
 }
 
