@@ -1,12 +1,12 @@
 use mathlib.Core.Path.{◌≡◌, sym, ap, ◌∙◌}
 use mathlib.Core.Option.{none, some}
-use mathlib.Core.Logic.{inl, inr}
 use native.Mathlib.Omega.{arith}
 use lib.ListN.{length}
 use Rattle.meaning.specs.Narrow.{packet_for}
 use Rattle.narrowing.specs.Answers.{signal_of}
 use Rattle.passing.proofs.SignalLaws.{sent_plain, sent_narrowed}
 use Rattle.passing.proofs.SparingLaws.{packet_spared}
+use Rattle.passing.proofs.narrowed.Goals.{then-cuts+in_default, else-cuts}
 use Rattle.passing.proofs.narrowed.Goals as goal
 
 pub returns-in-At : goal.returns-in-At
@@ -19,8 +19,8 @@ pub copy-requires : goal.copy-requires
 copy-requires c =
     let same : c.if-cuts.out ≡ c.args.out.now =
     elim c.if-cuts.branch [
-      | inl x ↦ let h = rw x.6.given.1 at x.2.ensures in x.7 ∙ h.1
-      | inr x ↦ x.1
+      | then-cuts+in_default x ↦ let h = rw x.in_default.is at x.rewrite.ensures in x.out-is ∙ h.1
+      | else-cuts x ↦ x.out-is
     ] in
     omega (arith, c.requires.2, ap length same)
 
@@ -28,8 +28,8 @@ pub shape_of-out : goal.shape_of-out
 shape_of-out c =
     let same : c.if-cuts.out ≡ c.args.out.now =
     elim c.if-cuts.branch [
-      | inl x ↦ let h = rw x.6.given.1 at x.2.ensures in x.7 ∙ h.1
-      | inr x ↦ x.1
+      | then-cuts+in_default x ↦ let h = rw x.in_default.is at x.rewrite.ensures in x.out-is ∙ h.1
+      | else-cuts x ↦ x.out-is
     ] in
     c.copy.auto.out ∙ ap length same
 
@@ -38,7 +38,7 @@ returns c =
     let a = c.args in
     let stays : (packet_for a.modes a.o a.p.now (some (signal_of a.s.id a.s.rewritable a.payload.now)) ≡ none) × (c.if-cuts.out ≡ a.out.now) =
     elim c.if-cuts.branch [
-      | inl x ↦ let h = rw x.6.given.1 at x.2.ensures in (h.0, x.7 ∙ h.1)
-      | inr x ↦ (packet_spared a.modes a.o a.p.now (signal_of a.s.id a.s.rewritable a.payload.now) (c.requires.1 (sym c.cuts.ensures ∙ x.0.left)), x.1)
+      | then-cuts+in_default x ↦ let h = rw x.in_default.is at x.rewrite.ensures in (h.0, x.out-is ∙ h.1)
+      | else-cuts x ↦ (packet_spared a.modes a.o a.p.now (signal_of a.s.id a.s.rewritable a.payload.now) (c.requires.1 (sym c.cuts.ensures ∙ x.if-cuts.false)), x.out-is)
     ] in
     sent_plain _ a.p.now a.c _ _ _ _ stays.0 (rw stays.1 at c.copy.ensures) c.sent-2.ensures

@@ -52,5 +52,5 @@ returns c =
       (λ L k leading d ps n most f.
           signalled L a.t.modes a.t.options k leading d ps n a.s _ c.requires.0.1 f
           (y.0 L (pass L a.t.modes a.t.options k ps).known most (holding_anew f.holding)) c.refreshed-is_ready.ensures c.emit-d.ensures),
-      (λ m f. fits_after a.t.modes a.t.options c.requires.0.1 a.s _ _ a.out.now _ (length a.bodies.now) c.emit-d.ensures y.1 (rw h.total h.total_few) (same-length-3 c) m f),
+      (λ m f. fits_after a.t.modes a.t.options c.requires.0.1 a.s _ _ a.out.now _ (length a.bodies.now) c.emit-d.ensures y.1 (rw h.total h.total_few) c.emit-d.auto.out m f),
     )

@@ -9,7 +9,7 @@ returns-in_default c = unread_passes _ _ _ (rw c.in_default.is at c.mmtp_of.ensu
 pub returns-then-payload_type-eq2 : goal.returns-then-payload_type-eq2
 returns-then-payload_type-eq2 c =
     let m = rw c.in-Read.is at c.mmtp_of.ensures in
-    signals_read _ _ _ _ (omega (arith, c.known_told-1.given.0)) c.if-payload_type-eq2.true m
+    signals_read _ _ _ _ (omega arith) c.if-payload_type-eq2.true m
 
 pub returns-then-not-is_ready : goal.returns-then-not-is_ready
 returns-then-not-is_ready c =

@@ -7,10 +7,8 @@ use native.Mathlib.Omega.{arith}
 use mathlib.Core.Bool.{Bool, true, false}
 use mathlib.Core.Path.{sym, ap, ◌∙◌}
 use Prim.Native.Nat.{ℕ, ◌-◌}
+use Rattle.soundness.proofs.counts_few.Invariants.{few}
 use Rattle.soundness.proofs.counts_few.Goals as goal
-
-abbrev few : ℕ → Bool
-few x = leb (lower x) 255
 
 pub loop-i-init : goal.loop-i-init
 loop-i-init c = (omega arith, ap (all few) (sym (rest_all c.args.n c.args.map_heads.now)))

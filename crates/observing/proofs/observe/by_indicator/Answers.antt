@@ -36,4 +36,4 @@ returns-in_default c =
     let a = c.args in
     let y = c.last.ensures in
     let n = c.in_default.in_default-own.rest in
-    ((λ L k most h. by_last L a.p.id a.p.flags _ k a.e _ _ _ _ _ _ _ (top_three a.p.flags (omega (arith, c.WELLFORMED.1.1.0.1.1.0)) n.0.0.1 n.0.1 n.1) (y.0 L k most h)), omega (arith, y.1), y.2)
+    ((λ L k most h. by_last L a.p.id a.p.flags _ k a.e _ _ _ _ _ _ _ (top_three a.p.flags (omega arith) n.0.0.1 n.0.1 n.1) (y.0 L k most h)), omega (arith, y.1), y.2)
