@@ -7,7 +7,6 @@ use mathlib.Core.List.{List, [], map, flatten}
 use native.Mathlib.Omega.{arith}
 use lib.ListN.{length, take}
 use lib.Dec.{leb, eqb}
-use borrow.Author.Rules.{length_unmapped}
 use borrow.Author.Tests.{leb-true, eqb-true}
 use Rattle.meaning.specs.Bytes.{Bytes}
 use Rattle.meaning.specs.Wishes.{copies_all}
@@ -55,16 +54,11 @@ accepted r W T M n x e = go (sound r W T M) refl (leb n (W - packet_limit W)) re
 
 -- ---- a push on a record
 
--- All slots of the struct's arrays are there: each is told as the mapped list that the struct's relation has.
-pub whole_record : (f : Filter) → length (map (λ (v : ℕ). v) f.data_set) ≡ 1024 → length (map (λ (v : ℕ). v) f.packages) ≡ 255
-    → length (map (λ (v : ℕ). v) f.map_heads) ≡ 64 → length (map (λ (v : ℕ). v) f.fragment_heads) ≡ 256 → Whole (record_in f)
+-- All slots of the struct's arrays are there, by their types.
+pub whole_record : (f : Filter) → length f.data_set ≡ 1024 → length f.packages ≡ 255 → length f.map_heads ≡ 64 → length f.fragment_heads ≡ 256
+    → Whole (record_in f)
 unfolding record_in
-whole_record f c p m h = record {
-  data_set_all = length_unmapped ℕ f.data_set 1024 c;
-  packages_all = length_unmapped ℕ f.packages 255 p;
-  map_heads_all = length_unmapped ℕ f.map_heads 64 m;
-  fragments_all = length_unmapped ℕ f.fragment_heads 256 h;
-}
+whole_record f c p m h = record { data_set_all = c; packages_all = p; map_heads_all = m; fragments_all = h }
 
 module _ (f : Filter) (work bodies : Bytes) (map_room : List ℕ) (chunk out : Bytes) (a : Answer)
     (told : answer_number a ≡ cond (parts_sound (limits_of f.work f.total f.most) f.options f.held_count (extent_of f) f.packages f.map_heads f.fragment_heads (length work) (length bodies) (length map_room)) (length_refusal (length work) f.held_count (length chunk) (length out)) 4) where

@@ -14,7 +14,7 @@ unfolding record_in
 dropped-requires c =
     let a = c.args in
     let s = sym c.is_sound.ensures ∙ not-false _ c.if-not-is_sound.false-raw in
-    let g = c.WELLFORMED.0.1.1.1.1.1.1.1.1.1.1.1.1.1 in
+    let g = c.well_formed.0.1.1.1.1.1.1.1.1.1.1.1.1.1 in
     let all = whole_record a.self g.0.1.0.1 g.1.0.1.0.1 g.1.1.0.1.0.1 g.1.1.1.0.1.0.1 in
     let h = (state_held (record_in a.self) a.work.now a.bodies.now a.map_room.now (extent_of a.self) s all (record { seen_is = refl; packages_are = refl; map_heads_are = refl; fragments_are = refl; leading_is = refl })).tables_kept in
     ((state_of (record_in a.self) a.work.now a.bodies.now a.map_room.now).known, rw (c.clear32.ensures, c.clear32-2.ensures, c.extent_of-e.ensures) h)
@@ -24,7 +24,7 @@ unfolding record_in
 returns c =
     let a = c.args in
     let s = sym c.is_sound.ensures ∙ not-false _ c.if-not-is_sound.false-raw in
-    let g = c.WELLFORMED.0.1.1.1.1.1.1.1.1.1.1.1.1.1 in
+    let g = c.well_formed.0.1.1.1.1.1.1.1.1.1.1.1.1.1 in
     let all = whole_record a.self g.0.1.0.1 g.1.0.1.0.1 g.1.1.0.1.0.1 g.1.1.1.0.1.0.1 in
     let h = (state_held (record_in a.self) a.work.now a.bodies.now a.map_room.now (extent_of a.self) s all (record { seen_is = refl; packages_are = refl; map_heads_are = refl; fragments_are = refl; leading_is = refl })).tables_kept in
     counted_as a.self a.work.now a.bodies.now a.map_room.now _ s

@@ -8,7 +8,7 @@ use Rattle.recorder.proofs.Filter.push.Goals as goal
 pub call_answer-a-requires : goal.call_answer-a-requires
 unfolding record_in
 call_answer-a-requires c =
-    let g = c.WELLFORMED.0.1.1.1.1.1.1.1.1.1.1.1.1.1 in
+    let g = c.well_formed.0.1.1.1.1.1.1.1.1.1.1.1.1.1 in
     let all = whole_record c.args.self g.0.1.0.1 g.1.0.1.0.1 g.1.1.0.1.0.1 g.1.1.1.0.1.0.1 in
     (all.packages_all, all.map_heads_all, all.fragments_all)
 
@@ -22,7 +22,7 @@ returns-then-not-is_done c =
 pub carry_out-r-requires : goal.carry_out-r-requires
 carry_out-r-requires c =
     let a = c.args in
-    let g = c.WELLFORMED.0.1.1.1.1.1.1.1.1.1.1.1.1.1 in
+    let g = c.well_formed.0.1.1.1.1.1.1.1.1.1.1.1.1.1 in
     let all = whole_record a.self g.0.1.0.1 g.1.0.1.0.1 g.1.1.0.1.0.1 g.1.1.1.0.1.0.1 in
     let b = c.begun-b.ensures in
     let u = c.clear_unused.ensures in
@@ -33,7 +33,7 @@ carry_out-r-requires c =
 pub returns : goal.returns
 returns c =
     let a = c.args in
-    let g = c.WELLFORMED.0.1.1.1.1.1.1.1.1.1.1.1.1.1 in
+    let g = c.well_formed.0.1.1.1.1.1.1.1.1.1.1.1.1.1 in
     let all = whole_record a.self g.0.1.0.1 g.1.0.1.0.1 g.1.1.0.1.0.1 g.1.1.1.0.1.0.1 in
     let b = c.begun-b.ensures in
     let u = c.clear_unused.ensures in
