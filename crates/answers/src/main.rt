@@ -2,7 +2,8 @@
 #![tactic(auto)]
 
 use cases::answer_all;
+use std::rt::HostRuntime;
 
-fn main() {
-    answer_all();
+fn main(rt: HostRuntime) {
+    answer_all(rt);
 }

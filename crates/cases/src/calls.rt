@@ -10,6 +10,7 @@ use octets::{be16, be32, put8, put32};
 use programs::asked::answer_number;
 use programs::pipe::{fill_all, write_all};
 use recorder::{Filter, start};
+use std::rt::HostRuntime;
 
 // The lengths of the output and of the chunk of a push.
 #[derive(Clone, Copy)]
@@ -38,11 +39,11 @@ fn lengths_of(s: &[u8; 8]) -> Lengths
 }
 
 // A push, with an output of at most `most` bytes.
-fn read_push(chunk: &mut [u8], most: usize) -> Next
+fn read_push(rt: HostRuntime, chunk: &mut [u8], most: usize) -> Next
     ensures { NextFits result most (length chunk.old) }
 {
     let mut lengths = [0u8; 8];
-    if !fill_all(&mut lengths) {
+    if !fill_all(rt, &mut lengths) {
         return Next::Unread;
     }
     let l = lengths_of(&lengths);
@@ -52,21 +53,21 @@ fn read_push(chunk: &mut [u8], most: usize) -> Next
     if chunk.len() < l.chunk {
         return Next::Unread;
     }
-    if !read_front(chunk, l.chunk) {
+    if !read_front(rt, chunk, l.chunk) {
         return Next::Unread;
     }
     Next::Push(l)
 }
 
-fn read_next(chunk: &mut [u8], most: usize) -> Next
+fn read_next(rt: HostRuntime, chunk: &mut [u8], most: usize) -> Next
     ensures { NextFits result most (length chunk.old) }
 {
     let mut operation = [0u8; 1];
-    if !fill_all(&mut operation) {
+    if !fill_all(rt, &mut operation) {
         return Next::Unread;
     }
     match operation[0] {
-        0 => read_push(chunk, most),
+        0 => read_push(rt, chunk, most),
         1 => Next::Dropped,
         _ => Next::Unread,
     }
@@ -82,16 +83,17 @@ fn put_dropped(out: &mut [u8], number: u8, count: usize) -> usize
 }
 
 // How many identifiers are dropped now; answers whether that was taken.
-fn tell_dropped(f: Filter, work: &[u8], bodies: &[u8], map_room: &[u16]) -> bool {
+fn tell_dropped(rt: HostRuntime, f: Filter, work: &[u8], bodies: &[u8], map_room: &[u16]) -> bool {
     let d = f.dropped(work, bodies, map_room);
     let a = d.answer;
     let mut told = [0u8; 5];
     put_dropped(&mut told, answer_number(a), d.count as usize);
-    write_all(&told)
+    write_all(rt, &told)
 }
 
 // One operation and its answer; hands back the record for the next.
 fn one_operation(
+    rt: HostRuntime,
     f: Filter,
     next: Next,
     chunk: &[u8],
@@ -106,10 +108,18 @@ fn one_operation(
         Next::Push(l) => {
             let n = l.out;
             let len = l.chunk;
-            one_call(f, &chunk[0..len], work, bodies, map_room, &mut out[0..n])
+            one_call(
+                rt,
+                f,
+                &chunk[0..len],
+                work,
+                bodies,
+                map_room,
+                &mut out[0..n],
+            )
         }
         Next::Dropped => {
-            let goes_on = tell_dropped(f, work, bodies, map_room);
+            let goes_on = tell_dropped(rt, f, work, bodies, map_room);
             Handed { goes_on, filter: f }
         }
         Next::Unread => Handed {
@@ -121,6 +131,7 @@ fn one_operation(
 
 // The next operation, read and answered.
 fn next_operation(
+    rt: HostRuntime,
     f: Filter,
     chunk: &mut [u8],
     work: &mut [u8],
@@ -128,12 +139,13 @@ fn next_operation(
     map_room: &mut [u16],
     out: &mut [u8],
 ) -> Handed {
-    let next = read_next(chunk, out.len());
-    one_operation(f, next, chunk, work, bodies, map_room, out)
+    let next = read_next(rt, chunk, out.len());
+    one_operation(rt, f, next, chunk, work, bodies, map_room, out)
 }
 
 // The operations in turn; answers whether all could be read and all answers were taken.
 fn operations(
+    rt: HostRuntime,
     first: Filter,
     n: usize,
     chunk: &mut [u8],
@@ -149,7 +161,7 @@ fn operations(
     let mut i: usize = 0;
     while i < n {
         let f = x.filter;
-        x = next_operation(f, chunk, work, bodies, map_room, out);
+        x = next_operation(rt, f, chunk, work, bodies, map_room, out);
         if !x.goes_on {
             return false;
         }
@@ -170,10 +182,10 @@ fn was_read(next: Next) -> bool
 }
 
 // Reads past the operations of a run whose start was refused; answers whether all could be read.
-fn read_past(n: usize, chunk: &mut [u8], most: usize) -> bool {
+fn read_past(rt: HostRuntime, n: usize, chunk: &mut [u8], most: usize) -> bool {
     let mut i: usize = 0;
     while i < n {
-        if !was_read(read_next(chunk, most)) {
+        if !was_read(read_next(rt, chunk, most)) {
             return false;
         }
         i += 1;
@@ -183,6 +195,7 @@ fn read_past(n: usize, chunk: &mut [u8], most: usize) -> bool {
 
 // The start and its answer, then the operations.
 fn started(
+    rt: HostRuntime,
     h: Asked,
     chunk: &mut [u8],
     work: &mut [u8],
@@ -194,18 +207,19 @@ fn started(
     let s = start(work, bodies, map_room, h.most, o, h.modes);
     let a = s.answer;
     let number = [answer_number(a); 1];
-    if !write_all(&number) {
+    if !write_all(rt, &number) {
         return false;
     }
     if number[0] != 0 {
-        return read_past(h.calls, chunk, out.len());
+        return read_past(rt, h.calls, chunk, out.len());
     }
     let f = s.filter;
-    operations(f, h.calls, chunk, work, bodies, map_room, out)
+    operations(rt, f, h.calls, chunk, work, bodies, map_room, out)
 }
 
 // One case of case kind 4, within the rooms that are lent; answers whether another may follow.
 fn one_run(
+    rt: HostRuntime,
     chunk: &mut [u8],
     work: &mut [u8],
     bodies: &mut [u8],
@@ -213,7 +227,7 @@ fn one_run(
     out: &mut [u8],
 ) -> bool {
     let mut head = [0u8; 22];
-    if !fill_all(&mut head) {
+    if !fill_all(rt, &mut head) {
         return false;
     }
     if 31 < head[0] {
@@ -231,6 +245,7 @@ fn one_run(
     let t = h.total;
     let m = h.map_room;
     started(
+        rt,
         h,
         chunk,
         &mut work[0..w],
@@ -242,11 +257,12 @@ fn one_run(
 
 // One case of case kind 4 in the program's rooms.
 pub fn calls(
+    rt: HostRuntime,
     chunk: &mut [u8; INPUT],
     work: &mut [u8; WORK],
     bodies: &mut [u8; BODIES],
     map_room: &mut [u16; MAP_ROOM],
     out: &mut [u8; OUTPUT],
 ) -> bool {
-    one_run(chunk, work, bodies, map_room, out)
+    one_run(rt, chunk, work, bodies, map_room, out)
 }

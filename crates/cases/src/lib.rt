@@ -21,6 +21,7 @@ use narrowing::narrow::{Narrowed, narrow_packet, narrow_payload, narrow_table};
 use octets::{be32, id16, put8, put32};
 use programs::asked::{number_of, options_of};
 use programs::pipe::{fill_all, write_all};
+use std::rt::HostRuntime;
 
 // The rooms: the longest chunk or narrowing input, the longest output, and the longest rooms of a stream's filter.
 pub const INPUT: usize = 131200;
@@ -105,17 +106,17 @@ fn put_head(out: &mut [u8], r: Narrowed) -> usize
 }
 
 // The head of an answer, and the bytes that were written; answers whether both were taken.
-fn tell(r: Narrowed, out: &[u8]) -> bool
+fn tell(rt: HostRuntime, r: Narrowed, out: &[u8]) -> bool
     requires { narrowing_length r.narrowing ≤ length out.now }
 {
     let mut head = [0u8; 30];
     put_head(&mut head, r);
-    if !write_all(&head) {
+    if !write_all(rt, &head) {
         return false;
     }
     let n = r.narrowing;
     let len = changed_length(n);
-    write_all(&out[0..len])
+    write_all(rt, &out[0..len])
 }
 
 // The answer to a case of case kind 1 to 3, or to one of 7 to 9 that is the same with modes.
@@ -140,6 +141,7 @@ fn narrow(
 
 // The input of a case, its narrowing and the answer; answers whether another may follow.
 fn answer_case(
+    rt: HostRuntime,
     case_kind: u8,
     o: Options,
     modes: Modes,
@@ -147,11 +149,11 @@ fn answer_case(
     input: &mut [u8],
     out: &mut [u8],
 ) -> bool {
-    if !fill_all(input) {
+    if !fill_all(rt, input) {
         return false;
     }
     let r = narrow(case_kind, o, modes, id, input, out);
-    tell(r, out)
+    tell(rt, r, out)
 }
 
 // The modes of a byte, one bit each.
@@ -188,7 +190,13 @@ fn head_at(head: &[u8], at: usize, modes: u8) -> Head
 }
 
 // One narrowing, within the rooms that are lent; answers whether another case may follow.
-fn one_narrowing(case_kind: u8, h: Head, input: &mut [u8], out: &mut [u8]) -> bool {
+fn one_narrowing(
+    rt: HostRuntime,
+    case_kind: u8,
+    h: Head,
+    input: &mut [u8],
+    out: &mut [u8],
+) -> bool {
     let n = h.out;
     let len = h.input;
     if out.len() < n {
@@ -199,25 +207,43 @@ fn one_narrowing(case_kind: u8, h: Head, input: &mut [u8], out: &mut [u8]) -> bo
     }
     let o = h.options;
     let m = h.modes;
-    answer_case(case_kind, o, m, h.id, &mut input[0..len], &mut out[0..n])
+    answer_case(
+        rt,
+        case_kind,
+        o,
+        m,
+        h.id,
+        &mut input[0..len],
+        &mut out[0..n],
+    )
 }
 
 // One case of case kind 1 to 3.
-fn plain_case(case_kind: u8, input: &mut [u8; INPUT], out: &mut [u8; OUTPUT]) -> bool {
+fn plain_case(
+    rt: HostRuntime,
+    case_kind: u8,
+    input: &mut [u8; INPUT],
+    out: &mut [u8; OUTPUT],
+) -> bool {
     let mut head = [0u8; 13];
-    if !fill_all(&mut head) {
+    if !fill_all(rt, &mut head) {
         return false;
     }
     if 15 < head[0] {
         return false;
     }
-    one_narrowing(case_kind, head_at(&head, 1, 0), input, out)
+    one_narrowing(rt, case_kind, head_at(&head, 1, 0), input, out)
 }
 
 // One case of case kind 7 to 9, which are 1 to 3 with the wishes of case kind 4 and a byte of modes, of which bit 0 has a meaning.
-fn case_with_modes(case_kind: u8, input: &mut [u8; INPUT], out: &mut [u8; OUTPUT]) -> bool {
+fn case_with_modes(
+    rt: HostRuntime,
+    case_kind: u8,
+    input: &mut [u8; INPUT],
+    out: &mut [u8; OUTPUT],
+) -> bool {
     let mut head = [0u8; 14];
-    if !fill_all(&mut head) {
+    if !fill_all(rt, &mut head) {
         return false;
     }
     if 31 < head[0] {
@@ -227,11 +253,12 @@ fn case_with_modes(case_kind: u8, input: &mut [u8; INPUT], out: &mut [u8; OUTPUT
     if 1 < modes {
         return false;
     }
-    one_narrowing(case_kind % 6, head_at(&head, 2, modes), input, out)
+    one_narrowing(rt, case_kind % 6, head_at(&head, 2, modes), input, out)
 }
 
 // One case after its case kind; answers whether another may follow.
 fn one_case(
+    rt: HostRuntime,
     case_kind: u8,
     input: &mut [u8; INPUT],
     work: &mut [u8; WORK],
@@ -240,16 +267,17 @@ fn one_case(
     out: &mut [u8; OUTPUT],
 ) -> bool {
     match case_kind {
-        0 => stream(input, work, bodies, map_room, out),
-        1 | 2 | 3 => plain_case(case_kind, input, out),
-        4 => calls(input, work, bodies, map_room, out),
-        7 | 8 | 9 => case_with_modes(case_kind, input, out),
+        0 => stream(rt, input, work, bodies, map_room, out),
+        1 | 2 | 3 => plain_case(rt, case_kind, input, out),
+        4 => calls(rt, input, work, bodies, map_room, out),
+        7 | 8 | 9 => case_with_modes(rt, case_kind, input, out),
         _ => false,
     }
 }
 
 // The cases in turn, in rooms that the caller lends: a loop beside large arrays of its own takes long to prove.
 fn in_turn(
+    rt: HostRuntime,
     input: &mut [u8; INPUT],
     work: &mut [u8; WORK],
     bodies: &mut [u8; BODIES],
@@ -260,21 +288,28 @@ fn in_turn(
     let mut turns = u64::MAX;
     while 0 < turns {
         turns -= 1;
-        if !fill_all(&mut case_kind) {
+        if !fill_all(rt, &mut case_kind) {
             return;
         }
-        if !one_case(case_kind[0], input, work, bodies, map_room, out) {
+        if !one_case(rt, case_kind[0], input, work, bodies, map_room, out) {
             return;
         }
     }
 }
 
 // Answers to all cases of the input.
-pub fn answer_all() {
+pub fn answer_all(rt: HostRuntime) {
     let mut input = [0u8; INPUT];
     let mut work = [0u8; WORK];
     let mut bodies = [0u8; BODIES];
     let mut map_room = [0u16; MAP_ROOM];
     let mut out = [0u8; OUTPUT];
-    in_turn(&mut input, &mut work, &mut bodies, &mut map_room, &mut out);
+    in_turn(
+        rt,
+        &mut input,
+        &mut work,
+        &mut bodies,
+        &mut map_room,
+        &mut out,
+    );
 }

@@ -11,6 +11,7 @@ use octets::{be16, be32, id16, put8, put32};
 use programs::asked::{answer_number, options_of};
 use programs::pipe::{fill_all, write_all};
 use recorder::{Filter, Pushed, start};
+use std::rt::HostRuntime;
 
 // The most calls of a case.
 const CALLS: usize = 1024;
@@ -73,10 +74,10 @@ pub fn head_fits(h: Asked, work: usize, total: usize, map_room: usize, out: usiz
 }
 
 // The next bytes of the input, to the front of a room; answers whether there were so many.
-pub fn read_front(room: &mut [u8], len: usize) -> bool
+pub fn read_front(rt: HostRuntime, room: &mut [u8], len: usize) -> bool
     requires { len ≤ length room.old }
 {
-    fill_all(&mut room[0..len])
+    fill_all(rt, &mut room[0..len])
 }
 
 // Whether each of the first `n` lengths is at most `most`.
@@ -106,7 +107,7 @@ fn put_call(out: &mut [u8], number: u8, c: Counts, held_count: usize) -> usize
 }
 
 // The answer to a call, and the bytes that it wrote; answers whether both were taken.
-fn tell(p: Pushed, out: &[u8]) -> bool
+fn tell(rt: HostRuntime, p: Pushed, out: &[u8]) -> bool
     requires { p.counts.bytes ≤ length out.now }
 {
     let mut head = [0u8; 29];
@@ -114,15 +115,16 @@ fn tell(p: Pushed, out: &[u8]) -> bool
     let c = p.counts;
     let f = p.filter;
     put_call(&mut head, answer_number(a), c, f.held_count);
-    if !write_all(&head) {
+    if !write_all(rt, &head) {
         return false;
     }
     let n = c.bytes;
-    write_all(&out[0..n])
+    write_all(rt, &out[0..n])
 }
 
 // One call and its answer; hands back the record for the next. The program goes on where the answer was taken.
 pub fn one_call(
+    rt: HostRuntime,
     f: Filter,
     chunk: &[u8],
     work: &mut [u8],
@@ -133,13 +135,14 @@ pub fn one_call(
     ensures { CallAs (record_in f) work.old bodies.old map_room.old chunk.now out.old result.filter work.new bodies.new map_room.new out.new }
 {
     let p = f.push(chunk, work, bodies, map_room, out);
-    let goes_on = tell(p, out);
+    let goes_on = tell(rt, p, out);
     let filter = p.filter;
     Handed { goes_on, filter }
 }
 
 // The next chunk, its call and the answer. The program ends where the chunk is cut short.
 fn next_call(
+    rt: HostRuntime,
     f: Filter,
     len: usize,
     chunk: &mut [u8],
@@ -150,25 +153,26 @@ fn next_call(
 ) -> Handed
     requires { len ≤ length chunk.old }
 {
-    if !read_front(chunk, len) {
+    if !read_front(rt, chunk, len) {
         return Handed {
             goes_on: false,
             filter: f,
         };
     }
-    one_call(f, &chunk[0..len], work, bodies, map_room, out)
+    one_call(rt, f, &chunk[0..len], work, bodies, map_room, out)
 }
 
 // How many identifiers are dropped after the last call; answers whether that was taken.
-fn tell_dropped(f: Filter, work: &[u8], bodies: &[u8], map_room: &[u16]) -> bool {
+fn tell_dropped(rt: HostRuntime, f: Filter, work: &[u8], bodies: &[u8], map_room: &[u16]) -> bool {
     let d = f.dropped(work, bodies, map_room);
     let mut last = [0u8; 4];
     put32(&mut last, 0, d.count as usize);
-    write_all(&last)
+    write_all(rt, &last)
 }
 
 // The calls in turn, each with the record that the one before handed back; answers whether all chunks were there and all answers taken.
 fn calls(
+    rt: HostRuntime,
     first: Filter,
     lengths: &[u8],
     n: usize,
@@ -188,24 +192,24 @@ fn calls(
     while i < n {
         let len = be32(lengths, 4 * i);
         let f = x.filter;
-        x = next_call(f, len, chunk, work, bodies, map_room, out);
+        x = next_call(rt, f, len, chunk, work, bodies, map_room, out);
         if !x.goes_on {
             return false;
         }
         i += 1;
     }
     let f = x.filter;
-    tell_dropped(f, work, bodies, map_room)
+    tell_dropped(rt, f, work, bodies, map_room)
 }
 
 // Reads past the chunks of a stream whose start was refused; answers whether they were all there.
-fn read_past(lengths: &[u8], n: usize, chunk: &mut [u8]) -> bool
+fn read_past(rt: HostRuntime, lengths: &[u8], n: usize, chunk: &mut [u8]) -> bool
     requires { (4 * n ≤ length lengths.now) × LengthsFit lengths.now n (length chunk.old) }
 {
     let mut i: usize = 0;
     while i < n {
         let len = be32(lengths, 4 * i);
-        if !read_front(chunk, len) {
+        if !read_front(rt, chunk, len) {
             return false;
         }
         i += 1;
@@ -215,6 +219,7 @@ fn read_past(lengths: &[u8], n: usize, chunk: &mut [u8]) -> bool
 
 // The start and its answer, then the calls.
 fn started(
+    rt: HostRuntime,
     h: Asked,
     lengths: &[u8],
     chunk: &mut [u8],
@@ -229,18 +234,19 @@ fn started(
     let s = start(work, bodies, map_room, h.most, o, h.modes);
     let a = s.answer;
     let number = [answer_number(a); 1];
-    if !write_all(&number) {
+    if !write_all(rt, &number) {
         return false;
     }
     if number[0] != 0 {
-        return read_past(lengths, h.calls, chunk);
+        return read_past(rt, lengths, h.calls, chunk);
     }
     let f = s.filter;
-    calls(f, lengths, h.calls, chunk, work, bodies, map_room, out)
+    calls(rt, f, lengths, h.calls, chunk, work, bodies, map_room, out)
 }
 
 // A stream in rooms of the lengths that are asked for.
 fn in_lent(
+    rt: HostRuntime,
     h: Asked,
     chunk: &mut [u8],
     work: &mut [u8],
@@ -252,17 +258,18 @@ fn in_lent(
 {
     let mut lengths = [0u8; 4 * CALLS];
     let n = h.calls;
-    if !read_front(&mut lengths, 4 * n) {
+    if !read_front(rt, &mut lengths, 4 * n) {
         return false;
     }
     if !lengths_fit(&lengths, n, chunk.len()) {
         return false;
     }
-    started(h, &lengths, chunk, work, bodies, map_room, out)
+    started(rt, h, &lengths, chunk, work, bodies, map_room, out)
 }
 
 // One case of case kind 0, within the rooms that are lent; answers whether another may follow.
 fn one_stream(
+    rt: HostRuntime,
     chunk: &mut [u8],
     work: &mut [u8],
     bodies: &mut [u8],
@@ -270,7 +277,7 @@ fn one_stream(
     out: &mut [u8],
 ) -> bool {
     let mut head = [0u8; 25];
-    if !fill_all(&mut head) {
+    if !fill_all(rt, &mut head) {
         return false;
     }
     if 15 < head[0] {
@@ -285,6 +292,7 @@ fn one_stream(
     let m = h.map_room;
     let x = h.out;
     in_lent(
+        rt,
         h,
         chunk,
         &mut work[0..w],
@@ -296,11 +304,12 @@ fn one_stream(
 
 // One case of case kind 0 in the program's rooms.
 pub fn stream(
+    rt: HostRuntime,
     chunk: &mut [u8; INPUT],
     work: &mut [u8; WORK],
     bodies: &mut [u8; BODIES],
     map_room: &mut [u16; MAP_ROOM],
     out: &mut [u8; OUTPUT],
 ) -> bool {
-    one_stream(chunk, work, bodies, map_room, out)
+    one_stream(rt, chunk, work, bodies, map_room, out)
 }

@@ -237,9 +237,9 @@ refused_empty : input_refusal [] ≡ number_of Input
 unfolding input_refusal input_refused number_of
 refused_empty = refl
 
-held_by : (M : Modes) (o : Options) (leading : ℕ) (st : State) (x : Standing) → record_in x.filter ≡ record_of program_limits M o leading st → x.filter.held_count ≡ length st.held
+held_by : (M : Modes) (o : Options) (leading : ℕ) (s : State) (x : Standing) → record_in x.filter ≡ record_of program_limits M o leading s → x.filter.held_count ≡ length s.held
 unfolding record_in record_of
-held_by M o leading st x e = ap (λ (r : Record). r.held_count) e
+held_by M o leading s x e = ap (λ (r : Record). r.held_count) e
 
 module _ (head : Bytes) {work bodies : Bytes} {map_room : List ℕ} where
   ran_unasked : (failed : Bool) (r : Refusal) → input_refusal head ≡ number_of r → length head ≤ 3 → Ran head [] work bodies map_room (unasked_as failed r) work bodies map_room

@@ -15,6 +15,7 @@ use crate::lines::{Ending, put_last};
 use crate::pipe::{Filled, bytes_of, fill, write_all, write_last};
 use meaning::{Answer, Counts, Modes, Options, Refusal};
 use recorder::{Filter, Started, start};
+use std::rt::HostRuntime;
 use tally::{sum_of, tally_answer};
 
 // The chunks, and the lengths of the rooms: W, T and M alike.
@@ -76,13 +77,13 @@ fn take_in(
 }
 
 // Writes the bytes where that is asked for; answers whether a write failed.
-fn unwritten(writes: bool, bytes: &[u8]) -> bool
+fn unwritten(rt: HostRuntime, writes: bool, bytes: &[u8]) -> bool
     ensures { to_write writes (length bytes.now) ≡ 0 → result ≡ false }
 {
     if !writes {
         return false;
     }
-    !write_all(bytes)
+    !write_all(rt, bytes)
 }
 
 // With what is told of a read or a write.
@@ -96,6 +97,7 @@ fn with_failed(x: Standing, failed: bool) -> Standing
 
 // One chunk; what goes on is written where that is asked for.
 fn one_chunk(
+    rt: HostRuntime,
     f: Filter,
     sums: Counts,
     writes: bool,
@@ -109,7 +111,7 @@ fn one_chunk(
 {
     let x = take_in(f, sums, chunk, work, bodies, map_room, out);
     let n = x.bytes;
-    let failed = unwritten(writes, &out[0..n]);
+    let failed = unwritten(rt, writes, &out[0..n]);
     with_failed(x, failed)
 }
 
@@ -127,6 +129,7 @@ fn ended(x: Standing, came: Filled) -> Standing
 
 // A stream by what was read: the bytes that came are the next chunk, and where none came it has ended.
 fn next(
+    rt: HostRuntime,
     x: Standing,
     came: Filled,
     writes: bool,
@@ -145,7 +148,17 @@ fn next(
     }
     let f = x.filter;
     let sums = x.sums;
-    one_chunk(f, sums, writes, &chunk[0..n], work, bodies, map_room, out)
+    one_chunk(
+        rt,
+        f,
+        sums,
+        writes,
+        &chunk[0..n],
+        work,
+        bodies,
+        map_room,
+        out,
+    )
 }
 
 // Whether bytes came, nothing was refused and nothing failed.
@@ -164,6 +177,7 @@ fn goes_on(x: Standing, came: Filled) -> bool
 
 // All chunks in turn, each with the record that the one before handed back. A refusal ends the program, and so does a failure.
 fn pass(
+    rt: HostRuntime,
     first: Standing,
     writes: bool,
     chunk: &mut [u8; CHUNK],
@@ -179,8 +193,8 @@ fn pass(
     let mut turns = u64::MAX;
     while 0 < turns {
         turns -= 1;
-        let came = fill(chunk);
-        x = next(x, came, writes, chunk, work, bodies, map_room, out);
+        let came = fill(rt, chunk);
+        x = next(rt, x, came, writes, chunk, work, bodies, map_room, out);
         if !goes_on(x, came) {
             return x;
         }
@@ -218,6 +232,7 @@ fn begun(s: Started) -> Standing
 
 // A start, which these rooms and wishes allow, then all chunks.
 fn started(
+    rt: HostRuntime,
     o: Options,
     modes: Modes,
     writes: bool,
@@ -231,7 +246,7 @@ fn started(
     ensures { (cs : List Bytes) × Come modes o cs result work.new bodies.new map_room.new }
 {
     let s = start(work, bodies, map_room, ROOM, o, modes);
-    pass(begun(s), writes, chunk, work, bodies, map_room, out)
+    pass(rt, begun(s), writes, chunk, work, bodies, map_room, out)
 }
 
 // ---- an input
@@ -265,6 +280,7 @@ fn unasked(failed: bool, refusal: Refusal) -> Ending
 
 // An input by what was read of its head, then its stream.
 fn by_head(
+    rt: HostRuntime,
     came: Filled,
     head: &[u8],
     writes: bool,
@@ -285,7 +301,7 @@ fn by_head(
         Asked::For(o) => {
             // No flag of an input turns a mode on.
             let modes = Modes { plain_ip: false };
-            let x = started(o, modes, writes, chunk, work, bodies, map_room, out);
+            let x = started(rt, o, modes, writes, chunk, work, bodies, map_room, out);
             ending(x)
         }
     }
@@ -293,6 +309,7 @@ fn by_head(
 
 // An input, head and stream.
 fn run(
+    rt: HostRuntime,
     writes: bool,
     chunk: &mut [u8; CHUNK],
     work: &mut [u8; ROOM],
@@ -304,8 +321,8 @@ fn run(
     ensures { (head : Bytes) × (cs : List Bytes) × Ran head cs work.old bodies.old map_room.old result work.new bodies.new map_room.new }
 {
     let mut head = [0u8; 3];
-    let came = fill(&mut head);
-    by_head(came, &head, writes, chunk, work, bodies, map_room, out)
+    let came = fill(rt, &mut head);
+    by_head(rt, came, &head, writes, chunk, work, bodies, map_room, out)
 }
 
 // What is left to be done for an input: nothing where a read or a write failed, else a line of so many bytes is to be written.
@@ -317,6 +334,7 @@ pub struct Last {
 
 // An input, and its last line.
 fn told(
+    rt: HostRuntime,
     writes: bool,
     chunk: &mut [u8; CHUNK],
     work: &mut [u8; ROOM],
@@ -328,7 +346,7 @@ fn told(
     requires { Rooms chunk.old work.old bodies.old map_room.old out.old × (length line.old ≡ 170) }
     ensures { Told writes work.old bodies.old map_room.old line.old result work.new bodies.new map_room.new line.new }
 {
-    let e = run(writes, chunk, work, bodies, map_room, out);
+    let e = run(rt, writes, chunk, work, bodies, map_room, out);
     Last {
         failed: e.failed,
         bytes: put_last(e, writes, line),
@@ -336,7 +354,7 @@ fn told(
 }
 
 // A stream through a filter: it writes the filtered stream, or else a line of sums.
-pub fn stream(writes: bool) {
+pub fn stream(rt: HostRuntime, writes: bool) {
     let mut chunk = [0u8; CHUNK];
     let mut work = [0u8; ROOM];
     let mut bodies = [0u8; ROOM];
@@ -344,6 +362,7 @@ pub fn stream(writes: bool) {
     let mut out = [0u8; ROOM];
     let mut line = [0u8; LINE];
     let last = told(
+        rt,
         writes,
         &mut chunk,
         &mut work,
@@ -356,5 +375,5 @@ pub fn stream(writes: bool) {
         return;
     }
     let n = last.bytes;
-    write_last(&line[0..n]);
+    write_last(rt, &line[0..n]);
 }

@@ -2,7 +2,8 @@
 #![tactic(auto)]
 
 use programs::stream::stream;
+use std::rt::HostRuntime;
 
-fn main() {
-    stream(false);
+fn main(rt: HostRuntime) {
+    stream(rt, false);
 }

@@ -27,11 +27,11 @@ pub loop-i-preserved : goal.loop-i-preserved
 loop-i-preserved c =
     let l = c.loop-i.invariant in
     let k = c.next_operation-x.auto in (
-      omega (arith, l.0, k.1.0),
-      omega (arith, l.1, k.1.1.0),
-      omega (arith, l.2, k.1.1.1.0),
-      omega (arith, l.3, k.1.1.1.1.0),
-      omega (arith, l.4, k.1.1.1.1.1.0),
+      omega (arith, l.0, k.chunk),
+      omega (arith, l.1, k.work),
+      omega (arith, l.2, k.bodies),
+      omega (arith, l.3, k.map_room),
+      omega (arith, l.4, k.out),
     )
 
 pub shape_of-chunk : goal.shape_of-chunk

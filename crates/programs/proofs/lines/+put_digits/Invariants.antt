@@ -1,0 +1,5 @@
+-- By the most digits that may come.
+use Rattle.programs.proofs.lines.+put_digits.Given as goal
+
+abbrev pub decreases-put_digits : goal.decreases-put_digits
+decreases-put_digits l = l.most
