@@ -1,4 +1,3 @@
-use Prim.Native.Nat.{◌-◌}
 use native.Mathlib.Omega.{arith}
 use Rattle.cases.proofs.StreamLaws.{fit_none, fit_next, fit_all, not_fit}
 use Rattle.cases.proofs.streams.lengths_fit.Goals as goal

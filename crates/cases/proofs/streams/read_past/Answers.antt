@@ -1,4 +1,3 @@
-use Prim.Native.Nat.{◌-◌}
 use native.Mathlib.Omega.{arith}
 use Rattle.cases.proofs.StreamLaws.{fit_one}
 use Rattle.cases.proofs.streams.read_past.Goals as goal
