@@ -27,7 +27,6 @@ use Rattle.meaning.proofs.LayoutLaws.{packed_bodies, apart}
 use Rattle.recorder.specs.Filter.{record_in}
 use Rattle.recorder.specs.Calls.{RoomsAfter}
 use Rattle.recorder.specs.declared.Filter.{Filter}
-use Rattle.recorder.specs.declared.Started as started
 use Rattle.recorder.specs.declared.Pushed as pushed
 use Rattle.recorder.specs.declared.Dropped as asked
 use Rattle.demands.specs.Demands.{Recorder, Call, Push, Ask, Result, Pushed, Asked, Allows, Series, heads_in, leading_in, others_in, bodies_in, Same, Unique}

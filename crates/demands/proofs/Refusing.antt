@@ -26,9 +26,7 @@ use Rattle.meaning.specs.declared.Counts.{Counts}
 use Rattle.meaning.proofs.SoundnessLaws.{blank_unsound}
 use Rattle.recorder.specs.Filter.{record_in}
 use Rattle.recorder.specs.Calls.{PushedAs, RoomsAfter}
-use Rattle.recorder.specs.declared.Started as started'
 use Rattle.recorder.specs.declared.Pushed as pushed
-use Rattle.recorder.specs.declared.Dropped as dropped'
 use Rattle.demands.specs.Demands.{Recorder, Push, Pushed, Allows, lowest, Refusing}
 use Rattle.demands.proofs.Tests.{below_is, unwritten}
 use Rattle.demands.proofs.Between.{asked_stays}

@@ -4,12 +4,12 @@ use mathlib.Core.Path.{◌≡◌, refl}
 use mathlib.Core.Bool.{true, false}
 use mathlib.Core.List.{List, [], ◌∷◌, ◌++◌}
 use mathlib.Core.Option.{none, some}
-use lib.ListN.{length, replicate, drop}
+use lib.ListN.{length}
 use Rattle.meaning.specs.Bytes.{Bytes}
 use Rattle.meaning.specs.Learn.{Fragment, Known, Learnt, is_of, without, fragment_bytes, fragment_of, grow_in, hold_first, fits, middle, joined, last, observe, learn}
 use Rattle.meaning.specs.declared.Limits.{Limits}
-use Rattle.meaning.proofs.Examples.{M, M₁}
-use Rattle.meaning.proofs.CasesOfLearning.{knowing, was, in_second}
+use Rattle.meaning.proofs.Examples.{M}
+use Rattle.meaning.proofs.CasesOfLearning.{was, in_second}
 
 abbrev piece : ℕ → Bytes → Fragment
 piece p b = record { identifier = p; flags = 3; body = b }

@@ -11,7 +11,7 @@ use Rattle.meaning.specs.Messages.{Message}
 use Rattle.meaning.specs.Tables.{Table, kind_number, kind_of}
 use Rattle.meaning.specs.Learn.{Fragment, Known, Learnt, assets_in, asset_numbers, lists, over, place_for, listed, learn_mpt, insert_package, learn_plt, learn_table, learn_tables, learn_message, learn_messages}
 use Rattle.meaning.specs.declared.Part.TheVariants.{Caption, Carousel, Other}
-use Rattle.meaning.proofs.Examples.{hvc1, stpp, E, M, M₁, plt_with}
+use Rattle.meaning.proofs.Examples.{M, M₁, plt_with}
 
 -- ---- the map room: place i is its numbers 512 i to 512 i + 511, an asset an identifier and a kind, 0 caption, 1 carousel, else other
 

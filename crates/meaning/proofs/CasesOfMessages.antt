@@ -1,8 +1,7 @@
 -- Small cases of a payload's first byte and of the messages in it: 01, "What is learned".
-use Prim.Native.Nat.{ℕ}
 use mathlib.Core.Path.{◌≡◌, refl}
 use mathlib.Core.Bool.{true, false}
-use mathlib.Core.List.{List, [], ◌∷◌, ◌++◌}
+use mathlib.Core.List.{[], ◌∷◌, ◌++◌}
 use mathlib.Core.Option.{none, some}
 use Rattle.meaning.specs.Bytes.{Bytes}
 use Rattle.meaning.specs.Messages.{indicator, aggregated, long_lengths, is_long, message_body, Message, message, read_each, in_body, messages}

@@ -1,13 +1,13 @@
 -- Small cases of what stands at the front of a run, of a packet's way to its payload, and of the messages in it.
 use Prim.Native.Nat.{ℕ}
 use mathlib.Core.Path.{◌≡◌, refl}
-use mathlib.Core.Bool.{Bool, true, false}
-use mathlib.Core.List.{List, [], ◌∷◌, ◌++◌}
+use mathlib.Core.Bool.{true, false}
+use mathlib.Core.List.{[], ◌∷◌, ◌++◌}
 use mathlib.Core.Option.{Option, none, some}
 use lib.ListN.{replicate}
 use Rattle.meaning.specs.Bytes.{Bytes}
 use Rattle.meaning.specs.Packets.{size_of, is_type, candidate, followed, step_of, cut, cut_past}
-use Rattle.meaning.specs.Mmtp.{Offset, by_header_type, compressed, offset_of, extension, MmtpHeader, mmtp_header, Mmtp, mmtp_of, is_signalling}
+use Rattle.meaning.specs.Mmtp.{by_header_type, compressed, offset_of, extension, MmtpHeader, mmtp_header, Mmtp, mmtp_of, is_signalling}
 use Rattle.meaning.specs.declared.Step.TheVariants.{Packet, Skip, Keep}
 
 -- ---- 01, "Finding packets": a packet of five bytes

@@ -9,7 +9,7 @@ use Rattle.meaning.specs.Bytes.{Bytes, be16, be16_at, be32_at, put16, put32}
 use Rattle.meaning.specs.Writing.{Wrote}
 use Rattle.meaning.specs.Sets.{Words, in_set, with_id, without_id, how_many}
 use Rattle.meaning.specs.Lists.{keep, all, any, count, sum}
-use Rattle.meaning.specs.Readers.{Reader, ◌>>=◌, give, refuse, byte, u8, u16, u32, bytes, counted8, counted16, counted32, announced, many, raw, walk, walk_past}
+use Rattle.meaning.specs.Readers.{Reader, ◌>>=◌, give, byte, u8, u16, u32, bytes, counted8, counted16, counted32, announced, many, raw, walk, walk_past}
 
 abbrev three : Bytes
 three = 7 ∷ 8 ∷ 9 ∷ []

@@ -1,5 +1,4 @@
 -- 01's refusal numbers and each boundary of a room: 01, "Refusal numbers" and "Rooms and their ends".
-use Prim.Native.Nat.{ℕ}
 use mathlib.Core.Path.{◌≡◌, refl}
 use mathlib.Core.Bool.{Bool, true, false}
 use Rattle.meaning.specs.Wishes.{wants_assets}

@@ -1,13 +1,11 @@
 -- Small cases of the relations that laws speak of: fewer wishes, thinned lists, and what a sound state holds to, at its limits.
-use Prim.Native.Nat.{ℕ, ◌+◌, ◌≤◌, ◌<◌}
+use Prim.Native.Nat.{ℕ, ◌+◌}
 use mathlib.Core.Path.{◌≡◌, refl}
 use mathlib.Core.Bool.{true, false}
 use mathlib.Core.List.Sublistᴰ
 use mathlib.Core.List.{List, [], ◌∷◌}
 use native.Mathlib.Omega.{arith}
 use lib.ListN.{length, drop, replicate, length-replicate}
-use Rattle.meaning.specs.Bytes.{Bytes}
-use Rattle.meaning.specs.Lists.{any, sum}
 use Rattle.meaning.specs.Learn.{Fragment, Known, fragment_bytes}
 use Rattle.meaning.specs.Soundness.{rising, distinct, HoldsPackages, HoldsMaps, HoldsFragments, Holds}
 use Rattle.meaning.specs.Less.{Fewer, Thinned}

@@ -1,8 +1,7 @@
 -- Small cases of a PA message's tables and of what stands in them: 01, "What is learned".
-use Prim.Native.Nat.{ℕ}
 use mathlib.Core.Path.{◌≡◌, refl}
 use mathlib.Core.Bool.{true, false}
-use mathlib.Core.List.{List, [], ◌∷◌, ◌++◌}
+use mathlib.Core.List.{[], ◌∷◌, ◌++◌}
 use mathlib.Core.Option.{none, some}
 use lib.ListN.{replicate}
 use Rattle.meaning.specs.Bytes.{Bytes}

@@ -1,6 +1,6 @@
 -- Narrowed payloads and packets: read again as what they were with the narrowed message, never longer than before, and narrowing by
 -- more wishes and then by fewer is narrowing by the fewer. Then what is public of it. Rests on PaLaws and PacketLaws.
-use Prim.Native.Nat.{ℕ, ◌+◌, ◌-◌, ◌*◌, ◌/◌, ◌%◌, ◌≤◌, ◌<◌}
+use Prim.Native.Nat.{ℕ, ◌+◌, ◌*◌, ◌/◌, ◌%◌, ◌≤◌, ◌<◌}
 use mathlib.Core.Path.{◌≡◌, refl, sym, ap, ◌∙◌, subst}
 use mathlib.Core.Bool.{Bool, true, false, cond, ◌&&◌}
 use mathlib.Core.List.{[], ◌∷◌, ◌++◌, append-nil}

@@ -2,7 +2,6 @@
 use Rattle.std.specs.Prelude.{ℕ, ◌%◌, zero, suc, Bool, cond, true, false, ◌&&◌, List, [], ◌∷◌, eqb, leb}
 use Rattle.std.proofs.Math.Option.{Option, none, some}
 use Rattle.meaning.specs.Bytes.{Bytes, be16}
-use Rattle.meaning.specs.Lists.{count}
 use Rattle.meaning.specs.Readers.{Out, Reader, ◌>>=◌, give, refuse, byte, u8, u16, bytes, counted8, counted16, announced, many, raw, Walk, walk}
 use Rattle.meaning.specs.declared.Part.{Part}
 use Rattle.meaning.specs.declared.Part.TheVariants.{Caption, Carousel, Other}

@@ -1,6 +1,6 @@
 -- Laws on a signalling packet: what becomes of it, what is known, dropped and ready after it, and that what comes next has room still.
 -- Rests on PassLaws, on meaning's Statements and on learning's NewsLaws.
-use Prim.Native.Nat.{ℕ, ◌+◌, ◌-◌, ◌*◌, ◌≤◌}
+use Prim.Native.Nat.{ℕ, ◌+◌, ◌*◌, ◌≤◌}
 use mathlib.Core.Path.{◌≡◌, refl, sym, ap, ◌∙◌}
 use mathlib.Core.Bool.{Bool, true, false, cond}
 use mathlib.Core.List.{List, [], ◌∷◌, ◌++◌, flatten, append-nil}

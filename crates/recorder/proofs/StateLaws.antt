@@ -1,6 +1,6 @@
 -- From a sound record to arrays that hold its state, once unused slots are zero, and from arrays that hold a state to its record and back
 -- to the state. Rests on SoundnessLaws of `meaning`, on Kept and Observed of `learning` and on PartLaws of `soundness`.
-use Prim.Native.Nat.{ℕ, ◌+◌, ◌-◌, ◌≤◌}
+use Prim.Native.Nat.{ℕ, ◌-◌, ◌≤◌}
 use mathlib.Core.Path.{◌≡◌, refl, sym, ap, ap₂, ◌∙◌, subst}
 use mathlib.Core.Bool.{Bool, true, ◌&&◌}
 use mathlib.Core.List.{List, [], ◌∷◌, ◌++◌, map}

@@ -7,7 +7,6 @@ use Rattle.meaning.specs.Readers.{◌>>=◌, Out, Reader, give, u8, counted16, a
 use Rattle.meaning.specs.Messages as messages
 use Rattle.meaning.specs.Tables as meant
 use Rattle.tables.specs.declared.fields.End.{End}
-use Rattle.tables.specs.declared.fields.End.TheVariants.{Nothing}
 use Rattle.tables.specs.declared.locations.Carrier.{Carrier}
 use Rattle.tables.specs.declared.locations.Carrier.TheVariants.{By, Nowhere}
 use Rattle.tables.specs.declared.locations.Located.{Located}

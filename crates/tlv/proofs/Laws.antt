@@ -22,7 +22,6 @@ use Rattle.tlv.specs.Answers.{as_offset, header_to, extended_to, HeaderIs, Behin
 use Rattle.tlv.specs.declared.Header.{Header}
 use Rattle.tlv.specs.declared.Header.TheVariants.{Cut}
 use Rattle.tlv.specs.declared.Mmtp as read
-use Rattle.tlv.specs.declared.Offset.{Offset}
 use Rattle.tlv.specs.declared.Offset.TheVariants.{Unread, At}
 
 -- ---- finding packets: the fields at an offset of the run

@@ -1,7 +1,7 @@
 use Rattle.meaning.proofs.Writes.{wrote_none, move_turn}
 use Rattle.fragments.proofs.BlockLaws.{close_done}
 use lib.ListN.{length-set}
-use Prim.Native.Nat.{◌+◌, ◌-◌}
+use Prim.Native.Nat.{◌+◌}
 use mathlib.Core.Path.{refl}
 use native.Mathlib.Nat.{add-zero}
 use native.Mathlib.Omega.{arith}

@@ -2,7 +2,7 @@ use Rattle.fragments.proofs.FragmentLaws.{index_here, index_next, index_end}
 use Rattle.fragments.specs.Fragments.{index_in}
 use Rattle.meaning.specs.Record.{fragment_identifier}
 use lib.ListN.{take, drop}
-use Prim.Native.Nat.{ℕ, ◌-◌}
+use Prim.Native.Nat.{ℕ}
 use mathlib.Core.Path.{◌≡◌, ap, ◌∙◌}
 use native.Mathlib.Nat.{zero-add}
 use native.Mathlib.Omega.{arith}

@@ -1,7 +1,7 @@
 use Rattle.fragments.proofs.FragmentLaws.{lens_turn}
 use Rattle.meaning.specs.Record.{lens}
 use lib.ListN.{take}
-use Prim.Native.Nat.{ℕ, ◌-◌}
+use Prim.Native.Nat.{ℕ}
 use mathlib.Core.Path.{◌≡◌, refl, ap, ◌∙◌}
 use native.Mathlib.Omega.{arith}
 use Rattle.fragments.proofs.fragment_bytes.Goals as goal

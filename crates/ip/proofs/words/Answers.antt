@@ -1,4 +1,4 @@
-use Prim.Native.Nat.{◌+◌, ◌-◌}
+use Prim.Native.Nat.{◌+◌}
 use native.Mathlib.Omega.{arith}
 use Rattle.meaning.proofs.ChecksumLaws.{words_le}
 use Rattle.ip.proofs.CodeLaws.{words_two, words_one, words_none}

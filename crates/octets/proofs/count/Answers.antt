@@ -3,7 +3,7 @@ use Rattle.meaning.specs.Sets.{in_set, how_many}
 use native.Mathlib.Omega.{arith}
 use native.Mathlib.Nat.{mod-eq_of_lt}
 use mathlib.Core.Path.{◌≡◌, refl, ap, ◌∙◌}
-use Prim.Native.Nat.{◌-◌, ◌*◌}
+use Prim.Native.Nat.{◌*◌}
 use Rattle.octets.proofs.count.Goals as goal
 
 pub loop-i-init : goal.loop-i-init

@@ -2,7 +2,6 @@ use Rattle.passing.proofs.StepLaws.{going_along, signal_room, going_signal}
 use Rattle.passing.proofs.RunLaws.{going_begin, going_some, going_done}
 use native.Mathlib.Omega.{arith}
 use mathlib.Core.Path.{◌∙◌}
-use Prim.Native.Nat.{◌-◌}
 use Rattle.passing.proofs.packets.Goals as goal
 
 pub loop-here-init : goal.loop-here-init

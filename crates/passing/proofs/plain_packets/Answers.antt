@@ -1,10 +1,7 @@
 use Rattle.passing.proofs.StepLaws.{packet_length, gap_forth, along_begin, along_row, along_gap, along_withheld}
-use Rattle.passing.specs.Passing.{Along}
 use Rattle.passing.specs.declared.Progress.{Progress}
-use lib.ListN.{length}
 use native.Mathlib.Omega.{arith}
-use mathlib.Core.Path.{◌≡◌, refl, ap, ◌∙◌}
-use Prim.Native.Nat.{◌-◌}
+use mathlib.Core.Path.{refl, ap, ◌∙◌}
 use Rattle.passing.proofs.plain_packets.Goals as goal
 
 pub loop-at-init : goal.loop-at-init

@@ -1,9 +1,7 @@
 use Rattle.passing.proofs.RowLaws.{packet_to, row_begin, row_next, row_stops}
 use Rattle.passing.specs.declared.Stop.{Stop}
-use Rattle.passing.specs.Verdicts.{PacketTo}
 use native.Mathlib.Omega.{arith}
 use mathlib.Core.Path.{sym, ◌∙◌}
-use Prim.Native.Nat.{◌+◌, ◌-◌}
 use Rattle.passing.proofs.row_at.Goals as goal
 
 pub loop-at-init : goal.loop-at-init

@@ -7,8 +7,7 @@ use Rattle.rules.specs.Changes.{has_list}
 use Rattle.rules.proofs.ReadyRules.{all_begin, all_next, all_fails}
 use native.Mathlib.Omega.{arith}
 use mathlib.Core.Path.{◌≡◌, sym}
-use mathlib.Core.Bool.{true}
-use Prim.Native.Nat.{◌-◌, ◌%◌, ◌≤◌, ◌<◌}
+use Prim.Native.Nat.{◌%◌, ◌≤◌, ◌<◌}
 use Rattle.rules.proofs.all_listed.Goals as goal
 
 pub loop-i-init : goal.loop-i-init

@@ -1,9 +1,4 @@
-use mathlib.Core.Bool.{◌&&◌, not}
-use Rattle.meaning.specs.Sets.{Words, in_set}
-use Rattle.meaning.specs.Learn.{Known}
-use Rattle.meaning.specs.Rules.{in_drop_set}
-use Rattle.learning.specs.Kept.{Keeps}
-use Rattle.rules.specs.Changes.{SetIs, Removes}
+use Rattle.rules.specs.Changes.{Removes}
 use Rattle.rules.proofs.MemberLaws.{inserts_one, removes_one}
 use Rattle.rules.proofs.KnownRules.{packages_there, map_lists_there, decided, eit_kept, eit_dropped}
 use borrow.Author.Tests.{not-true, not-false}
@@ -24,7 +19,7 @@ keep_packages-requires c =
 pub returns-then-not-o : goal.returns-then-not-o
 returns-then-not-o c =
     let o = c.args.o in
-    λ k ds h f. let z : Removes (eqb 0) c.keep_packages.new.set c.remove.new.words = rw c.remove.ensures (removes_one c.keep_packages.new.set 0 c.keep_packages.ensures.all_words (omega arith)) in 
+    λ k ds h f. let z : Removes (eqb 0) c.keep_packages.new.set c.remove.new.words = rw c.remove.ensures (removes_one c.keep_packages.new.set 0 c.keep_packages.ensures.all_words (omega arith)) in
     let s = decided h c.args.o f c.drop_packages.ensures c.keep_packages.ensures z in
     eit_dropped h o (not-true _ c.if-not-o.true) s (rw c.insert.ensures (inserts_one c.remove.new.words 0x8000 s.all_words (omega arith)))
 

@@ -1,7 +1,6 @@
 use Rattle.rules.proofs.AssetRules.{assets_begin, assets_next, assets_pass, assets_end}
 use Rattle.rules.proofs.MemberLaws.{inserting}
 use native.Mathlib.Omega.{arith}
-use Prim.Native.Nat.{◌-◌}
 use Rattle.rules.proofs.drop_assets.Goals as goal
 
 pub loop-i-init : goal.loop-i-init

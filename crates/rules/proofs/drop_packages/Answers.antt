@@ -1,7 +1,6 @@
 use Rattle.rules.proofs.PackageRules.{packages_begin, packages_next, packages_end}
 use Rattle.rules.proofs.MemberLaws.{inserting}
 use native.Mathlib.Omega.{arith}
-use Prim.Native.Nat.{◌-◌}
 use Rattle.rules.proofs.drop_packages.Goals as goal
 
 pub loop-i-init : goal.loop-i-init

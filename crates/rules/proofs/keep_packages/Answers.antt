@@ -1,7 +1,6 @@
 use Rattle.rules.proofs.PackageRules.{packages_begin, packages_next, packages_end}
 use Rattle.rules.proofs.MemberLaws.{removing}
 use native.Mathlib.Omega.{arith}
-use Prim.Native.Nat.{◌-◌}
 use Rattle.rules.proofs.keep_packages.Goals as goal
 
 pub loop-i-init : goal.loop-i-init

@@ -3,8 +3,6 @@ use Rattle.rules.specs.Changes.{has_list}
 use Rattle.rules.proofs.ReadyRules.{service_begin, service_next, service_here}
 use native.Mathlib.Omega.{arith}
 use mathlib.Core.Path.{◌≡◌, sym}
-use mathlib.Core.Bool.{false}
-use Prim.Native.Nat.{◌-◌}
 use Rattle.rules.proofs.service_listed.Goals as goal
 
 pub loop-i-init : goal.loop-i-init

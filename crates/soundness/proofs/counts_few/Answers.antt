@@ -1,12 +1,10 @@
-use Rattle.soundness.proofs.SoundnessLaws.{rest_all, rest_none, lower, all_turn}
+use Rattle.soundness.proofs.SoundnessLaws.{rest_all, rest_none, all_turn}
 use Rattle.meaning.specs.Lists.{all}
 use Rattle.meaning.specs.Record.{pair_of}
 use borrow.Author.Tests.{le-leb, lt-leb}
-use lib.Dec.{leb}
 use native.Mathlib.Omega.{arith}
-use mathlib.Core.Bool.{Bool, true, false}
+use mathlib.Core.Bool.{true, false}
 use mathlib.Core.Path.{sym, ap, ◌∙◌}
-use Prim.Native.Nat.{ℕ, ◌-◌}
 use Rattle.soundness.proofs.counts_few.Invariants.{few}
 use Rattle.soundness.proofs.counts_few.Goals as goal
 

@@ -1,6 +1,5 @@
 use Rattle.soundness.proofs.SoundnessLaws.{apart_begin, pairs}
 use native.Mathlib.Omega.{arith}
-use Prim.Native.Nat.{◌-◌}
 use Rattle.soundness.proofs.few_maps_distinct.Goals as goal
 
 pub loop-i-init : goal.loop-i-init

@@ -2,7 +2,7 @@ use Rattle.soundness.proofs.SoundnessLaws.{summed_begin, summed_next, summed_don
 use Rattle.meaning.specs.Record.{fragment_length}
 use lib.ListN.{get_or}
 use native.Mathlib.Omega.{arith}
-use Prim.Native.Nat.{◌-◌, ◌%◌, ◌<◌}
+use Prim.Native.Nat.{◌%◌, ◌<◌}
 use Rattle.soundness.proofs.lengths.Goals as goal
 
 pub loop-i-init : goal.loop-i-init

@@ -1,6 +1,5 @@
 use Rattle.soundness.proofs.SoundnessLaws.{once_begin, passed}
 use native.Mathlib.Omega.{arith}
-use Prim.Native.Nat.{◌-◌}
 use Rattle.soundness.proofs.many_maps_distinct.Goals as goal
 
 pub loop-i-init : goal.loop-i-init

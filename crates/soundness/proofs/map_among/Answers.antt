@@ -1,6 +1,5 @@
 use Rattle.soundness.proofs.SoundnessLaws.{among_begin, pairs}
 use native.Mathlib.Omega.{arith}
-use Prim.Native.Nat.{◌-◌}
 use Rattle.soundness.proofs.map_among.Goals as goal
 
 pub loop-k-init : goal.loop-k-init

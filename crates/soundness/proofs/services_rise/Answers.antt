@@ -2,7 +2,6 @@ use Rattle.soundness.proofs.SoundnessLaws.{upper, rises_begin, rises_next, rises
 use Rattle.meaning.specs.Record.{pair_of}
 use native.Mathlib.Omega.{arith}
 use mathlib.Core.Path.{sym}
-use Prim.Native.Nat.{◌-◌}
 use Rattle.soundness.proofs.services_rise.Goals as goal
 
 pub loop-i-init : goal.loop-i-init

@@ -2,7 +2,7 @@ use Rattle.tlv.proofs.GapLaws.{looked_begin, counted_next, weight_is, weight_few
 use Rattle.tlv.specs.Gaps.{may_start}
 use native.Mathlib.Omega.{arith}
 use mathlib.Core.Path.{◌≡◌}
-use Prim.Native.Nat.{◌+◌, ◌-◌, ◌*◌, ◌≤◌}
+use Prim.Native.Nat.{◌+◌, ◌*◌, ◌≤◌}
 use Rattle.tlv.proofs.barren.Goals as goal
 
 pub loop-i-init : goal.loop-i-init

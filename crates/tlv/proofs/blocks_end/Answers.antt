@@ -1,7 +1,6 @@
 use Rattle.tlv.proofs.GapLaws.{none_begin, none_next}
 use borrow.Author.Tests.{not-false}
 use native.Mathlib.Omega.{arith}
-use Prim.Native.Nat.{◌-◌}
 use Rattle.tlv.proofs.blocks_end.Goals as goal
 
 pub loop-to-init : goal.loop-to-init

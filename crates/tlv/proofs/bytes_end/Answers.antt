@@ -2,7 +2,6 @@ use borrow.Author.Rules.{rules}
 use Rattle.tlv.proofs.GapLaws.{not_skip, gap_begin, gap_next}
 use native.Mathlib.Omega.{arith}
 use mathlib.Core.Path.{sym, ◌∙◌}
-use Prim.Native.Nat.{◌-◌}
 use Rattle.tlv.proofs.bytes_end.Goals as goal
 
 pub loop-to-init : goal.loop-to-init

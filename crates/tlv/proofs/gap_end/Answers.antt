@@ -1,7 +1,7 @@
 use Rattle.tlv.proofs.GapLaws.{none_short, gap_begin, gap_past, gap_then, gap_stops, run_ends}
 use lib.ListN.{length}
 use native.Mathlib.Omega.{arith}
-use Prim.Native.Nat.{◌-◌, ◌<◌}
+use Prim.Native.Nat.{◌<◌}
 use Rattle.tlv.proofs.gap_end.Goals as goal
 
 pub loop-to-init : goal.loop-to-init

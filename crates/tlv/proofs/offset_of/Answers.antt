@@ -1,4 +1,3 @@
-use borrow.Author.Rules.{rules}
 use Rattle.tlv.proofs.Laws.{no_ip}
 use Rattle.meaning.specs.Mmtp.{offset_of}
 use Rattle.tlv.proofs.offset_of.Goals as goal

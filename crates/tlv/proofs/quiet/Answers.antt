@@ -3,7 +3,6 @@ use Rattle.tlv.specs.Gaps.{is_mark}
 use native.Mathlib.Omega.{arith}
 use borrow.Author.Tests.{eq-eqb, ne_eqb}
 use mathlib.Core.Path.{◌≡◌}
-use Prim.Native.Nat.{◌-◌}
 use Rattle.tlv.proofs.quiet.Goals.{then-run-at-eq127, else-run-at-eq127}
 use Rattle.tlv.proofs.quiet.Goals as goal
 

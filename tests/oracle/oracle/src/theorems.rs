@@ -184,26 +184,26 @@ fn list<T: ToString>(members: impl IntoIterator<Item = T>) -> String {
 /// The answers by the definitions, as `answers::numbers` tells those of a filter.
 const DEFINITIONS: &str = "\
 -- The oracle's answers, each a theorem that holds by computing the definitions.
-use Prim.Native.Nat.{ℕ, zero, suc, _%_}
-use mathlib.Core.Path.{_≡_, refl}
-use mathlib.Core.List.{List, [], _∷_, _++_, flatten}
+use Prim.Native.Nat.{ℕ, zero, suc, ◌%◌}
+use mathlib.Core.Path.{◌≡◌, refl}
+use mathlib.Core.List.{List, [], ◌∷◌, ◌++◌, flatten}
 use mathlib.Core.Option.{Option, none, some}
 use lib.ListN.{length, replicate}
 use lib.Dec.{eqb}
-use Rattle·meaning.specs.Bytes.{Bytes}
-use Rattle·meaning.specs.Narrow.{Change, changeTable, changePayload, changePacket, narrowRefusal}
-use Rattle·meaning.specs.Record.{State}
-use Rattle·meaning.specs.Start.{startRefusal, fresh}
-use Rattle·meaning.specs.Push.{Outcome, push}
-use Rattle·meaning.specs.Series.{callRefusal}
-use Rattle·meaning.specs.Programs.{optionsOf}
-use Rattle·meaning.specs.declared.Limits.{Limits}
-use Rattle·meaning.specs.declared.Options.{Options}
-use Rattle·meaning.specs.declared.Modes.{Modes}
+use Rattle.meaning.specs.Bytes.{Bytes}
+use Rattle.meaning.specs.Narrow.{Change, change_table, change_payload, change_packet, narrow_refusal}
+use Rattle.meaning.specs.Record.{State}
+use Rattle.meaning.specs.Start.{start_refusal, fresh}
+use Rattle.meaning.specs.Push.{Outcome, push}
+use Rattle.meaning.specs.Series.{call_refusal}
+use Rattle.meaning.specs.Programs.{options_of}
+use Rattle.meaning.specs.declared.Limits.{Limits}
+use Rattle.meaning.specs.declared.Options.{Options}
+use Rattle.meaning.specs.declared.Modes.{Modes}
 
 -- Of their bits.
-abbrev modesOf : ℕ → Modes
-modesOf n = record { «plain_ip» = eqb (n % 2) 1 }
+abbrev modes_of : ℕ → Modes
+modes_of n = record { plain_ip = eqb (n % 2) 1 }
 
 -- ---- narrowing: refusal, changed, length, three that stayed, three that went, the bytes
 
@@ -211,64 +211,64 @@ modesOf n = record { «plain_ip» = eqb (n % 2) 1 }
 abbrev without : ℕ → List ℕ
 without refusal = refusal ∷ 0 ∷ 0 ∷ 0 ∷ 0 ∷ 0 ∷ 0 ∷ 0 ∷ 0 ∷ []
 
-abbrev changeNumbers : Option Change → List ℕ
-changeNumbers none = without 0
-changeNumbers (some c) = 0 ∷ 1 ∷ length (c .out) ∷ (c .stays ++ (c .goes ++ c .out))
+abbrev change_numbers : Option Change → List ℕ
+change_numbers none = without 0
+change_numbers (some c) = 0 ∷ 1 ∷ length c.out ∷ (c.stays ++ (c.goes ++ c.out))
 
 -- With the refusal, 0 for none.
 abbrev narrowed : ℕ → Option Change → List ℕ
-narrowed zero c = changeNumbers c
+narrowed zero c = change_numbers c
 narrowed (suc n) c = without (suc n)
 
 -- Of flags, service, the output's length and the input.
 unfoldable table : ℕ → ℕ → ℕ → Bytes → List ℕ
-unfolding narrowRefusal changeTable optionsOf
-table flags service out-length s = narrowed (narrowRefusal (length s) out-length) (changeTable (optionsOf flags service) s)
+unfolding narrow_refusal change_table options_of
+table flags service out_length s = narrowed (narrow_refusal (length s) out_length) (change_table (options_of flags service) s)
 
 -- With the identifier as the third.
 unfoldable payload : ℕ → ℕ → ℕ → ℕ → Bytes → List ℕ
-unfolding narrowRefusal changePayload optionsOf
-payload flags service p out-length s = narrowed (narrowRefusal (length s) out-length) (changePayload (optionsOf flags service) p s)
+unfolding narrow_refusal change_payload options_of
+payload flags service p out_length s = narrowed (narrow_refusal (length s) out_length) (change_payload (options_of flags service) p s)
 
 -- With the modes as the third.
 unfoldable packet : ℕ → ℕ → ℕ → ℕ → Bytes → List ℕ
-unfolding narrowRefusal changePacket optionsOf
-packet flags service modes out-length s = narrowed (narrowRefusal (length s) out-length) (changePacket (modesOf modes) (optionsOf flags service) s)
+unfolding narrow_refusal change_packet options_of
+packet flags service modes out_length s = narrowed (narrow_refusal (length s) out_length) (change_packet (modes_of modes) (options_of flags service) s)
 
 -- ---- a stream: the start's refusal, then each call's refusal, bytes, accepted, written, rewritten, skipped, held, lost and its bytes
 
-abbrev callNumbers : Outcome → List ℕ
-callNumbers p =
-    0 ∷ p .counts .bytes ∷ p .counts .accepted ∷ p .counts .written ∷ p .counts .rewritten ∷ p .counts .skipped
-    ∷ length (p .state .held) ∷ p .counts .lost ∷ flatten (p .out)
+abbrev call_numbers : Outcome → List ℕ
+call_numbers p =
+    0 ∷ p.counts.bytes ∷ p.counts.accepted ∷ p.counts.written ∷ p.counts.rewritten ∷ p.counts.skipped
+    ∷ length p.state.held ∷ p.counts.lost ∷ flatten p.out
 
 -- What is held stays.
-abbrev refusedCall : ℕ → State → List ℕ
-refusedCall refusal st = refusal ∷ 0 ∷ 0 ∷ 0 ∷ 0 ∷ 0 ∷ length (st .held) ∷ 0 ∷ []
+abbrev refused_call : ℕ → State → List ℕ
+refused_call refusal st = refusal ∷ 0 ∷ 0 ∷ 0 ∷ 0 ∷ 0 ∷ length st.held ∷ 0 ∷ []
 
 -- A call with its refusal, 0 for none, and the calls after it: a refused one leaves the state as it was.
-abbrev callOn : ℕ → State → Outcome → (State → List ℕ) → List ℕ
-callOn zero st p more = callNumbers p ++ more (p .state)
-callOn (suc n) st p more = refusedCall (suc n) st ++ more st
+abbrev call_on : ℕ → State → Outcome → (State → List ℕ) → List ℕ
+call_on zero st p more = call_numbers p ++ more p.state
+call_on (suc n) st p more = refused_call (suc n) st ++ more st
 
 -- One length of the output for all calls.
 unfoldable calls : Limits → Modes → Options → ℕ → State → List Bytes → List ℕ
-unfolding callRefusal push flatten
-calls L M o out-length st [] = []
-calls L M o out-length st (chunk ∷ chunks) =
-    callOn (callRefusal L st (chunk, out-length)) st (push L M o st chunk) (λ after. calls L M o out-length after chunks)
+unfolding call_refusal push flatten
+calls L M o out_length st [] = []
+calls L M o out_length st (chunk ∷ chunks) =
+    call_on (call_refusal L st (chunk, out_length)) st (push L M o st chunk) (λ after. calls L M o out_length after chunks)
 
 -- After a refused start nothing follows.
-abbrev startOn : ℕ → List ℕ → List ℕ
-startOn zero more = 0 ∷ more
-startOn (suc n) more = suc n ∷ []
+abbrev start_on : ℕ → List ℕ → List ℕ
+start_on zero more = 0 ∷ more
+start_on (suc n) more = suc n ∷ []
 
 -- Of flags, service, modes, W, T, M, the lengths of map room and output, and the chunks.
 unfoldable stream : ℕ → ℕ → ℕ → ℕ → ℕ → ℕ → ℕ → ℕ → List Bytes → List ℕ
-unfolding startRefusal calls optionsOf fresh
-stream flags service modes W T M map-length out-length chunks =
-    startOn (startRefusal W T M map-length (optionsOf flags service))
-    (calls (record { work = W; total = T; most = M }) (modesOf modes) (optionsOf flags service) out-length (fresh (replicate map-length 0)) chunks)
+unfolding start_refusal calls options_of fresh
+stream flags service modes W T M map_length out_length chunks =
+    start_on (start_refusal W T M map_length (options_of flags service))
+    (calls (record { work = W; total = T; most = M }) (modes_of modes) (options_of flags service) out_length (fresh (replicate map_length 0)) chunks)
 
 -- ---- the cases
 ";

@@ -70,8 +70,7 @@ returns-then-rest-gt0 c =
 pub returns : goal.returns
 returns c =
     let l = c.loop-left in
-    let w = c.wide-left in
-    (
+    let w = c.wide-left in (
       hold_end _ _ _ l.from l.left l.at l.rest l.invariant.0 (omega arith) ∙ eq-eqb l.rest 0 (omega arith),
       met_mpt _ c.in-At.front (rw c.in-At.is at c.mpt_front.ensures) (omega arith) w.result w.ensures.0 w.ensures.1 _ l.from l.left l.news l.invariant.1 (omega arith),
     )

@@ -1,7 +1,6 @@
 use Rattle.learning.proofs.MapLaws.{over_none, over_next}
 use lib.ListN.{length-set}
 use mathlib.Core.Path.{◌≡◌, refl}
-use Prim.Native.Nat.{◌-◌}
 use native.Mathlib.Omega.{arith}
 use Rattle.learning.proofs.lists.list_to.Goals as goal
 

@@ -3,7 +3,6 @@ use Rattle.learning.proofs.PlaceForLaws.{slot_next, slot_here}
 use borrow.Author.Rules.{rules}
 use native.Mathlib.Omega.{arith}
 use mathlib.Core.Path.{◌≡◌, sym}
-use Prim.Native.Nat.{◌-◌}
 use Rattle.learning.proofs.lists.place_for.Goals as goal
 
 pub loop-i-init : goal.loop-i-init

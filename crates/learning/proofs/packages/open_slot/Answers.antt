@@ -1,4 +1,3 @@
-use Prim.Native.Nat.{◌-◌}
 use native.Mathlib.Omega.{arith}
 use Rattle.learning.proofs.PairLaws.{opened_none, opened_next, opened_all}
 use Rattle.learning.proofs.packages.open_slot.Goals as goal

@@ -1,4 +1,3 @@
-use Prim.Native.Nat.{◌-◌}
 use native.Mathlib.Omega.{arith}
 use Rattle.learning.proofs.PackageLaws.{passed_none, passed_stop, passed_next, passed_all}
 use Rattle.learning.proofs.packages.slot_for.Goals as goal

@@ -1,6 +1,5 @@
 use borrow.Enum.Refused.{opened}
 use native.Mathlib.Omega.{arith}
-use Prim.Native.Nat.{◌-◌}
 use Rattle.narrowing.proofs.CountLaws.{tally_start, tally_room, tally_turn, tallied}
 use Rattle.tables.proofs.WalkLaws.{no_table}
 use Rattle.narrowing.proofs.ExactLaws.{part_exact}

@@ -1,4 +1,4 @@
-use Prim.Native.Nat.{◌+◌, ◌≤◌}
+use Prim.Native.Nat.{◌≤◌}
 use mathlib.Core.Path.{◌≡◌, sym, ◌∙◌}
 use mathlib.Core.Bool.{Bool, false, not}
 use lib.ListN.{length}
@@ -7,7 +7,7 @@ use borrow.Author.Tests.{not-true, not-false}
 use Rattle.meaning.specs.Bytes.{Bytes}
 use Rattle.narrowing.specs.Answers.{starts_pa}
 use Rattle.narrowing.proofs.PayloadLaws.{started, no_start}
-use Rattle.narrowing.proofs.FoundLaws.{PaEnds, no_message, pa_ends, headless_pa, pa_found}
+use Rattle.narrowing.proofs.FoundLaws.{no_message, pa_ends, headless_pa, pa_found}
 use Rattle.narrowing.proofs.narrow.pa_of.Goals as goal
 
 -- flags and counter are there

@@ -1,5 +1,4 @@
 use native.Mathlib.Omega.{arith}
-use Prim.Native.Nat.{◌-◌}
 use mathlib.Core.Path.{◌∙◌}
 use mathlib.Core.Logic.{inl, inr}
 use Rattle.narrowing.proofs.WalkLaws.{heads_begin, heads_left, heads_room, heads_two, heads_next, heads_rest}

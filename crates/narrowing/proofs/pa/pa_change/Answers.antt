@@ -1,6 +1,5 @@
 use native.Mathlib.Omega.{arith}
 use borrow.Author.Tests.{not-true, not-false}
-use Prim.Native.Nat.{◌-◌}
 use Rattle.narrowing.proofs.WalkLaws.{sofar_start, sofar_new, sofar_kept, sofar_cut, sofar_done}
 use Rattle.narrowing.proofs.pa.pa_change.Goals as goal
 

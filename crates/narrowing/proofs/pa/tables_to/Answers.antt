@@ -1,6 +1,5 @@
 use borrow.Enum.Refused.{opened}
 use native.Mathlib.Omega.{arith}
-use Prim.Native.Nat.{◌-◌}
 use Rattle.narrowing.proofs.WalkLaws.{own_change, tables_begin, tables_left, tables_room, tables_next, tables_done}
 use Rattle.tables.proofs.WalkLaws.{no_table}
 use Rattle.narrowing.proofs.ExactLaws.{part_exact}

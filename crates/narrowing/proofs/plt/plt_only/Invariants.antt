@@ -1,4 +1,4 @@
-use Rattle.narrowing.proofs.PltLaws.{Sofar, start}
+use Rattle.narrowing.proofs.PltLaws.{Sofar}
 use Rattle.narrowing.proofs.plt.plt_only.Given as goal
 
 abbrev pub invariant-loop-left : goal.invariant-loop-left

@@ -1,4 +1,3 @@
-use Rattle.narrowing.specs.Bodies.{MptLess, PltBounds}
 use native.Mathlib.Omega.{arith}
 use Rattle.narrowing.proofs.TableLaws.{as_mpt, mpt_length, as_plt, plt_length, as_same}
 use Rattle.narrowing.proofs.table.length_after.Goals as goal

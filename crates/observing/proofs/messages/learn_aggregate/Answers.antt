@@ -1,5 +1,4 @@
 use native.Mathlib.Omega.{arith}
-use Prim.Native.Nat.{◌-◌}
 use Rattle.observing.proofs.MessageSteps.{parts_begin, parts_room, parts_next, parts_done}
 use Rattle.observing.proofs.messages.learn_aggregate.Goals as goal
 

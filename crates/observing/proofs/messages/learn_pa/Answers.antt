@@ -1,6 +1,5 @@
 use borrow.Enum.Refused.{opened}
 use native.Mathlib.Omega.{arith}
-use Prim.Native.Nat.{◌-◌}
 use Rattle.tables.proofs.WalkLaws.{no_table}
 use Rattle.observing.proofs.TableSteps.{tables_begin, tables_room, tables_next, tables_done, no_tables, pa_none, pa_found}
 use Rattle.observing.proofs.messages.learn_pa.Goals as goal

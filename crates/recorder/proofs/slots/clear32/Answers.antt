@@ -1,6 +1,5 @@
 use Rattle.recorder.proofs.SlotLaws.{clearing_begin, clearing_next, clearing_done}
 use native.Mathlib.Omega.{arith}
-use Prim.Native.Nat.{◌-◌}
 use Rattle.recorder.proofs.slots.clear32.Goals as goal
 
 pub loop-i-init : goal.loop-i-init
