@@ -18,8 +18,7 @@ use Rattle.meaning.proofs.ListLaws.{clash, and_both, both_true, or_left}
 use Rattle.meaning.proofs.CutLaws.{View, view, size_four, step_nil, cut_keep, cut_packet}
 use Rattle.tlv.proofs.Laws.{packet_here}
 use Rattle.passing.proofs.RunLaws.{ahead_none}
-use Rattle.recorder.specs.declared.front.Front.{Front}
-use Rattle.recorder.specs.declared.front.Front.TheVariants.{Hold, Read}
+use Rattle.std.specs.Prelude.{Option, Some, None}
 use Rattle.recorder.specs.Front.{front_by, joined, Parted}
 
 -- ---- held bytes and the first k of a chunk, written behind them in the work room
@@ -127,19 +126,19 @@ all_parted P a =
 -- ---- what is done by the front
 
 -- only a step that keeps holds all
-holds : (P : ℕ) (s : Bytes) (n m : ℕ) → front_by (step_of P s) n m ≡ Hold → cut P s ≡ hold s
+holds : (P : ℕ) (s : Bytes) (n m : ℕ) → front_by (step_of P s) n m ≡ None → cut P s ≡ hold s
 holds P s n m e = go (step_of P s) refl e
   where
-    go : (t : Step) → step_of P s ≡ t → front_by t n m ≡ Hold → cut P s ≡ hold s
+    go : (t : Step) → step_of P s ≡ t → front_by t n m ≡ None → cut P s ≡ hold s
     go Keep q h = cut_keep P s q
     go Skip q h = clash (by (eqb n 0) h)
       where
-        by : (b : Bool) → cond b (Read 0) (Read m) ≡ Hold → ◌≡◌ {A = ℕ} 0 1
+        by : (b : Bool) → cond b (Some 0) (Some m) ≡ None → ◌≡◌ {A = ℕ} 0 1
         by true h = cc h
         by false h = cc h
     go (Packet l) q h = clash (by (eqb n 0) (ltb l n) h)
       where
-        by : (b d : Bool) → cond b (Read 0) (cond d (Read m) (Read (l - n))) ≡ Hold → ◌≡◌ {A = ℕ} 0 1
+        by : (b d : Bool) → cond b (Some 0) (cond d (Some m) (Some (l - n))) ≡ None → ◌≡◌ {A = ℕ} 0 1
         by true d h = cc h
         by false true h = cc h
         by false false h = cc h
@@ -171,31 +170,31 @@ module _ (P : ℕ) (held chunk : Bytes) (k : ℕ) where
       let d : drop m (held ++ chunk) ≡ drop k chunk = ap (λ (j : ℕ). drop j (held ++ chunk)) i ∙ drop-append-add held chunk k in
       (omega (arith, w.0, length-append held chunk), subst (λ (b : Bytes). Parted P (held ++ take k chunk) b) d (subst (λ (a : Bytes). Parted P a (drop m (held ++ chunk))) t w.1))
 
-  reads : front_by (step_of P (held ++ chunk)) (length held) (length chunk) ≡ Read k → Done
+  reads : front_by (step_of P (held ++ chunk)) (length held) (length chunk) ≡ Some k → Done
   reads e = go (step_of P (held ++ chunk)) refl e
     where
-      by_skip : (b : Bool) → eqb (length held) 0 ≡ b → cond b (Read 0) (Read (length chunk)) ≡ Read k → Done
+      by_skip : (b : Bool) → eqb (length held) 0 ≡ b → cond b (Some 0) (Some (length chunk)) ≡ Some k → Done
       by_skip true z h = from_chunk (eqb-true _ _ z) (cc h)
       by_skip false z h = with_chunk (cc h)
 
       by_packet : (m : ℕ) → step_of P (held ++ chunk) ≡ Packet m → (b : Bool) → eqb (length held) 0 ≡ b → (d : Bool) → ltb m (length held) ≡ d
-          → cond b (Read 0) (cond d (Read (length chunk)) (Read (m - length held))) ≡ Read k → Done
+          → cond b (Some 0) (cond d (Some (length chunk)) (Some (m - length held))) ≡ Some k → Done
       by_packet m q true z d y h = from_chunk (eqb-true _ _ z) (cc h)
       by_packet m q false z true y h = with_chunk (cc h)
       by_packet m q false z false y h = into_chunk m q (ltb-false _ _ y) (cc h)
 
-      go : (t : Step) → step_of P (held ++ chunk) ≡ t → front_by t (length held) (length chunk) ≡ Read k → Done
+      go : (t : Step) → step_of P (held ++ chunk) ≡ t → front_by t (length held) (length chunk) ≡ Some k → Done
       go Keep q h = clash (cc h)
       go Skip q h = by_skip (eqb (length held) 0) refl h
       go (Packet m) q h = by_packet m q (eqb (length held) 0) refl (ltb m (length held)) refl h
 
 -- as the code asks: of the bytes at the front of the work room
-module _ (P held_count : ℕ) (chunk work : Bytes) (fit : held_count ≤ length work) (front : Front) (f : front ≡ front_by (step_of P (take held_count work ++ chunk)) held_count (length chunk)) where
+module _ (P held_count : ℕ) (chunk work : Bytes) (fit : held_count ≤ length work) (front : Option ℕ) (f : front ≡ front_by (step_of P (take held_count work ++ chunk)) held_count (length chunk)) where
   asked : front ≡ front_by (step_of P (take held_count work ++ chunk)) (length (take held_count work)) (length chunk)
   asked = f ∙ ap (λ (n : ℕ). front_by (step_of P (take held_count work ++ chunk)) n (length chunk)) (sym (length-take-le held_count work fit))
 
-  pub front_holds : front ≡ Hold → cut P (take held_count work ++ chunk) ≡ hold (take held_count work ++ chunk)
+  pub front_holds : front ≡ None → cut P (take held_count work ++ chunk) ≡ hold (take held_count work ++ chunk)
   front_holds h = holds P (take held_count work ++ chunk) (length (take held_count work)) (length chunk) (sym asked ∙ h)
 
-  pub front_reads : (k : ℕ) → front ≡ Read k → (k ≤ length chunk) × Parted P (take held_count work ++ take k chunk) (drop k chunk)
+  pub front_reads : (k : ℕ) → front ≡ Some k → (k ≤ length chunk) × Parted P (take held_count work ++ take k chunk) (drop k chunk)
   front_reads k h = reads P (take held_count work) chunk k (sym asked ∙ h)

@@ -1,5 +1,5 @@
 -- What a call does with held bytes and chunk, by what stands at their front, and how far its parts come.
-use Rattle.std.specs.Prelude.{ℕ, ◌+◌, ◌-◌, ◌≤◌, ◌≡◌, cond, List, ◌++◌, length, take, drop, eqb, ltb}
+use Rattle.std.specs.Prelude.{ℕ, ◌+◌, ◌-◌, ◌≤◌, ◌≡◌, cond, Option, Some, None, List, ◌++◌, length, take, drop, eqb, ltb}
 use Rattle.meaning.specs.Bytes.{Bytes}
 use Rattle.meaning.specs.Sets.{Words}
 use Rattle.meaning.specs.Packets.{Cut, cut}
@@ -17,15 +17,15 @@ use Rattle.rules.specs.Changes.{SetIs}
 use Rattle.passing.specs.Passing.{Sofar}
 use Rattle.passing.specs.declared.Terms.{Terms}
 use Rattle.passing.specs.declared.Progress.{Progress}
-use Rattle.recorder.specs.declared.front.Front.{Front}
 use Rattle.recorder.specs.declared.call.InParts.{InParts}
 use Rattle.recorder.specs.declared.call.CarriedOut.{CarriedOut}
 
--- By the step at the front of the run, with n bytes held and m in the chunk. Where none are held the chunk is the run.
-abbrev pub front_by : Step → ℕ → ℕ → Front
-front_by Keep n m = Front.Hold
-front_by Skip n m = cond (eqb n 0) (Front.Read 0) (Front.Read m)
-front_by (Packet size) n m = cond (eqb n 0) (Front.Read 0) (cond (ltb size n) (Front.Read m) (Front.Read (size - n)))
+-- By the step at the front of the run, with n bytes held and m in the chunk: how many bytes of the chunk are put behind the held ones, none where
+-- no packet is whole. Where none are held the chunk is the run.
+abbrev pub front_by : Step → ℕ → ℕ → Option ℕ
+front_by Keep n m = None
+front_by Skip n m = cond (eqb n 0) (Some 0) (Some m)
+front_by (Packet size) n m = cond (eqb n 0) (Some 0) (cond (ltb size n) (Some m) (Some (size - n)))
 
 -- Two runs cut one behind the other.
 abbrev pub joined : Cut → Cut → Cut

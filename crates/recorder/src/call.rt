@@ -13,7 +13,7 @@ ghost use Rattle.soundness.specs.Parts.{limits_of, parts_sound};
 ghost use Rattle.recorder.specs.Front.{PartsPassed, ended_of, HeldOn};
 ghost use Rattle.recorder.specs.Calls.{RoomFor, CarriesOut};
 
-use crate::front::{Front, counts_of, decided, front_of};
+use crate::front::{counts_of, decided, front_of};
 use learning::Extent;
 use meaning::{Answer, Counts, Limits, Modes, Options, Refusal};
 use octets::{copy, move_down};
@@ -33,17 +33,11 @@ pub struct CarriedOut {
 fn ended(p: Progress, held_count: usize) -> CarriedOut
     ensures { result ≡ ended_of p held_count }
 {
-    let e = p.extent;
-    let c = p.counts;
     CarriedOut {
-        extent: e,
+        extent: p.extent,
         counts: Counts {
-            bytes: c.bytes,
-            accepted: c.accepted,
-            written: c.written,
-            rewritten: c.rewritten,
-            skipped: c.skipped,
-            lost: e.lost,
+            lost: p.extent.lost,
+            ..p.counts
         },
         held_count,
     }
@@ -70,16 +64,6 @@ pub struct InParts {
     pub progress: Progress,
     pub first_at: usize,
     pub second_at: usize,
-}
-
-fn parts_to(progress: Progress, first_at: usize, second_at: usize) -> InParts
-    ensures { result ≡ record { progress = progress; first_at = first_at; second_at = second_at } }
-{
-    InParts {
-        progress,
-        first_at,
-        second_at,
-    }
 }
 
 // The packets of a run in two parts, each where it stands.
@@ -128,7 +112,11 @@ fn in_parts(
         &mut set,
         out,
     );
-    parts_to(y.progress, x.at, y.at)
+    InParts {
+        progress: y.progress,
+        first_at: x.at,
+        second_at: y.at,
+    }
 }
 
 // What is left of both parts is held: of the first `n` bytes of the work room, then of `rest`.
@@ -170,14 +158,11 @@ pub struct Begun {
 fn terms_of(b: Begun, work: usize) -> Terms
     ensures { result ≡ record { modes = b.modes; options = b.options; limit = packet_limit work; most = b.limits.most } }
 {
-    let modes = b.modes;
-    let options = b.options;
-    let l = b.limits;
     Terms {
-        modes,
-        options,
+        modes: b.modes,
+        options: b.options,
         limit: packet_limit(work),
-        most: l.most,
+        most: b.limits.most,
     }
 }
 
@@ -203,7 +188,7 @@ pub fn carry_out(
         return copied(chunk, e, out);
     }
     let t = terms_of(b, work.len());
-    let Front::Read(k) = front_of(b.held_count, t.limit, chunk, work) else {
+    let Some(k) = front_of(b.held_count, t.limit, chunk, work) else {
         return all_held(b.held_count, chunk, e, work);
     };
     let n = copy(&chunk[0..k], work, b.held_count);

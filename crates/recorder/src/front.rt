@@ -15,40 +15,33 @@ use passing::Progress;
 use rules::{decide_on, ready};
 use tlv::next_across;
 
-// No packet is whole yet, and all is held; or packets are read: with so many bytes of the chunk put behind the held ones, and in the rest of
-// the chunk where it stands.
-#[derive(Clone, Copy)]
-pub enum Front {
-    Hold,
-    Read(usize),
-}
-
-// Bytes of the chunk are put behind the held ones as far as they complete the packet that those begin, all where they begin none.
-fn front_by(step: Step, held_count: usize, length: usize) -> Front
+// How many bytes of the chunk are put behind the held ones: as far as they complete the packet that those begin, all where they begin none.
+// The rest of the chunk is read where it stands. None where no packet is whole yet: then all is held.
+fn front_by(step: Step, held_count: usize, length: usize) -> Option<usize>
     ensures { result ≡ front_by step held_count length }
 {
     match step {
-        Step::Keep => Front::Hold,
+        Step::Keep => None,
         Step::Skip => {
             if held_count == 0 {
-                return Front::Read(0);
+                return Some(0);
             }
-            Front::Read(length)
+            Some(length)
         }
         Step::Packet(size) => {
             if held_count == 0 {
-                return Front::Read(0);
+                return Some(0);
             }
             if size < held_count {
-                return Front::Read(length);
+                return Some(length);
             }
-            Front::Read(size - held_count)
+            Some(size - held_count)
         }
     }
 }
 
 // By what stands at the front of the held bytes and the chunk.
-pub fn front_of(held_count: usize, limit: usize, chunk: &[u8], work: &[u8]) -> Front
+pub fn front_of(held_count: usize, limit: usize, chunk: &[u8], work: &[u8]) -> Option<usize>
     requires { held_count ≤ length work.now }
     ensures { result ≡ front_by (step_of limit (take held_count work.now ++ chunk.now)) held_count (length chunk.now) }
 {

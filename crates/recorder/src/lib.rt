@@ -19,7 +19,7 @@ ghost use Rattle.recorder.specs.Calls.{StartedAs, PushedAs, DroppedAs};
 
 use crate::call::{Begun, CarriedOut, Lengths, call_answer, carry_out, is_done};
 use crate::front::counts_of;
-use crate::slots::{clear32, clear64};
+use crate::slots::clear;
 use crate::sound::is_sound;
 use learning::{Extent, no_news};
 use meaning::{Answer, Counts, Limits, Modes, Options, Refusal, Service};
@@ -176,26 +176,12 @@ fn extent_of(f: Filter) -> Extent
 fn begun(f: Filter) -> Begun
     ensures { result ≡ begun_of f }
 {
-    let m = f.modes;
-    let o = f.options;
     Begun {
         limits: limits_of(f),
-        modes: m,
-        options: o,
+        modes: f.modes,
+        options: f.options,
         held_count: f.held_count,
         extent: extent_of(f),
-    }
-}
-
-fn lengths(work: usize, bodies: usize, map_room: usize, chunk: usize, out: usize) -> Lengths
-    ensures { result ≡ record { work = work; bodies = bodies; map_room = map_room; chunk = chunk; out = out } }
-{
-    Lengths {
-        work,
-        bodies,
-        map_room,
-        chunk,
-        out,
     }
 }
 
@@ -208,9 +194,9 @@ fn clear_unused(
 )
     ensures { (packages.new ≡ cleared e.package_count packages.old) × (map_heads.new ≡ cleared e.map_count map_heads.old) × (fragment_heads.new ≡ cleared e.fragment_count fragment_heads.old) }
 {
-    clear32(packages, e.package_count);
-    clear32(map_heads, e.map_count);
-    clear64(fragment_heads, e.fragment_count);
+    clear(packages, e.package_count, 0);
+    clear(map_heads, e.map_count, 0);
+    clear(fragment_heads, e.fragment_count, 0);
 }
 
 // ---- and put together
@@ -226,16 +212,13 @@ fn handed(
 ) -> Filter
     ensures { result ≡ handed_of b r data_set packages map_heads fragment_heads }
 {
-    let l = b.limits;
-    let m = b.modes;
-    let o = b.options;
     let e = r.extent;
     Filter {
-        work: l.work,
-        total: l.total,
-        most: l.most,
-        modes: m,
-        options: o,
+        work: b.limits.work,
+        total: b.limits.total,
+        most: b.limits.most,
+        modes: b.modes,
+        options: b.options,
         held_count: r.held_count,
         seen: e.seen,
         package_count: e.package_count,
@@ -261,10 +244,9 @@ fn hand_back(
 ) -> Pushed
     ensures { result ≡ record { answer = a; counts = r.counts; filter = handed_of b r data_set packages map_heads fragment_heads } }
 {
-    let c = r.counts;
     Pushed {
         answer: a,
-        counts: c,
+        counts: r.counts,
         filter: handed(b, r, data_set, packages, map_heads, fragment_heads),
     }
 }
@@ -293,13 +275,13 @@ impl Filter {
         ensures { PushedAs (record_in self) work.old bodies.old map_room.old chunk.now out.old result work.new bodies.new map_room.new out.new }
     {
         let b = begun(self);
-        let n = lengths(
-            work.len(),
-            bodies.len(),
-            map_room.len(),
-            chunk.len(),
-            out.len(),
-        );
+        let n = Lengths {
+            work: work.len(),
+            bodies: bodies.len(),
+            map_room: map_room.len(),
+            chunk: chunk.len(),
+            out: out.len(),
+        };
         let mut packages = self.packages;
         let mut map_heads = self.map_heads;
         let mut fragment_heads = self.fragment_heads;
@@ -340,8 +322,8 @@ impl Filter {
         let data_set = self.data_set;
         let mut packages = self.packages;
         let mut map_heads = self.map_heads;
-        clear32(&mut packages, self.package_count);
-        clear32(&mut map_heads, self.map_count);
+        clear(&mut packages, self.package_count, 0);
+        clear(&mut map_heads, self.map_count, 0);
         let e = extent_of(self);
         Dropped {
             answer: Answer::Done,

@@ -17,7 +17,7 @@ dropped-requires c =
     let g = c.well_formed.0.1.1.1.1.1.1.1.1.1.1.1.1.1 in
     let all = whole_record a.self g.0.1.0.1 g.1.0.1.0.1 g.1.1.0.1.0.1 g.1.1.1.0.1.0.1 in
     let h = (state_held (record_in a.self) a.work.now a.bodies.now a.map_room.now (extent_of a.self) s all (record { seen_is = refl; packages_are = refl; map_heads_are = refl; fragments_are = refl; leading_is = refl })).tables_kept in
-    ((state_of (record_in a.self) a.work.now a.bodies.now a.map_room.now).known, rw (c.clear32.ensures, c.clear32-2.ensures, c.extent_of-e.ensures) h)
+    ((state_of (record_in a.self) a.work.now a.bodies.now a.map_room.now).known, rw (c.clear.ensures, c.clear-2.ensures, c.extent_of-e.ensures) h)
 
 pub returns : goal.returns
 unfolding record_in
@@ -28,4 +28,4 @@ returns c =
     let all = whole_record a.self g.0.1.0.1 g.1.0.1.0.1 g.1.1.0.1.0.1 g.1.1.1.0.1.0.1 in
     let h = (state_held (record_in a.self) a.work.now a.bodies.now a.map_room.now (extent_of a.self) s all (record { seen_is = refl; packages_are = refl; map_heads_are = refl; fragments_are = refl; leading_is = refl })).tables_kept in
     counted_as a.self a.work.now a.bodies.now a.map_room.now _ s
-    (c.dropped.ensures (state_of (record_in a.self) a.work.now a.bodies.now a.map_room.now).known (rw (c.clear32.ensures, c.clear32-2.ensures, c.extent_of-e.ensures) h))
+    (c.dropped.ensures (state_of (record_in a.self) a.work.now a.bodies.now a.map_room.now).known (rw (c.clear.ensures, c.clear-2.ensures, c.extent_of-e.ensures) h))

@@ -30,40 +30,40 @@ returns-in_default c L k em ew h =
 pub slice_bounds-copy-end : goal.slice_bounds-copy-end
 slice_bounds-copy-end c =
     let a = c.args in
-    let f = front_reads c.terms_of-t.result.limit a.b.held_count a.chunk.now a.work.now (omega (arith, c.requires.0.work_room)) _ c.front_of.ensures _ c.in-Read.is in
+    let f = front_reads c.terms_of-t.result.limit a.b.held_count a.chunk.now a.work.now (omega (arith, c.requires.0.work_room)) _ c.front_of.ensures _ c.in-Some.is in
     omega (arith, f.0)
 
 pub copy-n-requires : goal.copy-n-requires
 copy-n-requires c =
     let a = c.args in
-    let k = c.in-Read.k in
-    let f = front_reads c.terms_of-t.result.limit a.b.held_count a.chunk.now a.work.now (omega (arith, c.requires.0.work_room)) _ c.front_of.ensures _ c.in-Read.is in
+    let k = c.in-Some.k in
+    let f = front_reads c.terms_of-t.result.limit a.b.held_count a.chunk.now a.work.now (omega (arith, c.requires.0.work_room)) _ c.front_of.ensures _ c.in-Some.is in
     omega (arith, f.0, c.requires.0.work_room, length-take-le (k - 0) (drop 0 a.chunk.now) (omega (arith, f.0)))
 
 pub slice_bounds-in_parts-end : goal.slice_bounds-in_parts-end
 slice_bounds-in_parts-end c =
     let a = c.args in
-    let k = c.in-Read.k in
-    let f = front_reads c.terms_of-t.result.limit a.b.held_count a.chunk.now a.work.now (omega (arith, c.requires.0.work_room)) _ c.front_of.ensures _ c.in-Read.is in
+    let k = c.in-Some.k in
+    let f = front_reads c.terms_of-t.result.limit a.b.held_count a.chunk.now a.work.now (omega (arith, c.requires.0.work_room)) _ c.front_of.ensures _ c.in-Some.is in
     omega (arith, f.0, c.requires.0.work_room, run_end a.b.held_count k a.chunk.now a.work.now _ c.copy-n.result f.0 (omega (arith, f.0, c.requires.0.work_room)) c.copy-n.ensures, c.copy-n.auto.out)
 
 pub slice_bounds-in_parts-count-2 : goal.slice_bounds-in_parts-count-2
 slice_bounds-in_parts-count-2 c =
     let a = c.args in
-    let f = front_reads c.terms_of-t.result.limit a.b.held_count a.chunk.now a.work.now (omega (arith, c.requires.0.work_room)) _ c.front_of.ensures _ c.in-Read.is in
+    let f = front_reads c.terms_of-t.result.limit a.b.held_count a.chunk.now a.work.now (omega (arith, c.requires.0.work_room)) _ c.front_of.ensures _ c.in-Some.is in
     omega (arith, f.0)
 
 pub slice_bounds-in_parts-start-2 : goal.slice_bounds-in_parts-start-2
 slice_bounds-in_parts-start-2 c =
     let a = c.args in
-    let f = front_reads c.terms_of-t.result.limit a.b.held_count a.chunk.now a.work.now (omega (arith, c.requires.0.work_room)) _ c.front_of.ensures _ c.in-Read.is in
+    let f = front_reads c.terms_of-t.result.limit a.b.held_count a.chunk.now a.work.now (omega (arith, c.requires.0.work_room)) _ c.front_of.ensures _ c.in-Some.is in
     omega (arith, f.0)
 
 pub in_parts-x-requires : goal.in_parts-x-requires
 in_parts-x-requires c =
     let a = c.args in
-    let k = c.in-Read.k in
-    let f = front_reads c.terms_of-t.result.limit a.b.held_count a.chunk.now a.work.now (omega (arith, c.requires.0.work_room)) _ c.front_of.ensures _ c.in-Read.is in
+    let k = c.in-Some.k in
+    let f = front_reads c.terms_of-t.result.limit a.b.held_count a.chunk.now a.work.now (omega (arith, c.requires.0.work_room)) _ c.front_of.ensures _ c.in-Some.is in
     let l = run_length a.b.held_count k a.chunk.now a.work.now _ c.copy-n.result f.0 (omega (arith, f.0, c.requires.0.work_room)) c.copy-n.ensures in
     let m = length-take-le (length a.chunk.now - k) (drop k a.chunk.now) (omega (arith, length-drop k a.chunk.now)) in
     (c.requires.0.none_lost, omega (arith, f.0, l, m, c.requires.0.work_room, c.requires.0.work_few), omega (arith, f.0, l, m, c.requires.0.out_room), c.requires.2)
@@ -71,20 +71,20 @@ in_parts-x-requires c =
 pub slice_bounds-held_on-count : goal.slice_bounds-held_on-count
 slice_bounds-held_on-count c =
     let a = c.args in
-    let f = front_reads c.terms_of-t.result.limit a.b.held_count a.chunk.now a.work.now (omega (arith, c.requires.0.work_room)) _ c.front_of.ensures _ c.in-Read.is in
+    let f = front_reads c.terms_of-t.result.limit a.b.held_count a.chunk.now a.work.now (omega (arith, c.requires.0.work_room)) _ c.front_of.ensures _ c.in-Some.is in
     omega (arith, f.0)
 
 pub slice_bounds-held_on-start : goal.slice_bounds-held_on-start
 slice_bounds-held_on-start c =
     let a = c.args in
-    let f = front_reads c.terms_of-t.result.limit a.b.held_count a.chunk.now a.work.now (omega (arith, c.requires.0.work_room)) _ c.front_of.ensures _ c.in-Read.is in
+    let f = front_reads c.terms_of-t.result.limit a.b.held_count a.chunk.now a.work.now (omega (arith, c.requires.0.work_room)) _ c.front_of.ensures _ c.in-Some.is in
     omega (arith, f.0)
 
 pub held_on-requires : goal.held_on-requires
 held_on-requires c =
     let a = c.args in
-    let k = c.in-Read.k in
-    let f = front_reads c.terms_of-t.result.limit a.b.held_count a.chunk.now a.work.now (omega (arith, c.requires.0.work_room)) _ c.front_of.ensures _ c.in-Read.is in
+    let k = c.in-Some.k in
+    let f = front_reads c.terms_of-t.result.limit a.b.held_count a.chunk.now a.work.now (omega (arith, c.requires.0.work_room)) _ c.front_of.ensures _ c.in-Some.is in
     let end = run_end a.b.held_count k a.chunk.now a.work.now _ c.copy-n.result f.0 (omega (arith, f.0, c.requires.0.work_room)) c.copy-n.ensures in
     let passed = c.in_parts-x.ensures in
     (omega (arith, end, run_length a.b.held_count k a.chunk.now a.work.now _ c.copy-n.result f.0 (omega (arith, f.0, c.requires.0.work_room)) c.copy-n.ensures, passed.first_inside), omega (arith, f.0, end, length-take-le (length a.chunk.now - k) (drop k a.chunk.now) (omega (arith, length-drop k a.chunk.now)), c.requires.0.work_room, c.copy-n.auto.out), passed.second_inside)
@@ -95,8 +95,8 @@ shape_of-work c = c.held_on.auto.work ∙ c.copy-n.auto.out
 pub returns : goal.returns
 returns c L known em ew h =
     let a = c.args in
-    let k = c.in-Read.k in
-    let f = front_reads c.terms_of-t.result.limit a.b.held_count a.chunk.now a.work.now (omega (arith, c.requires.0.work_room)) _ c.front_of.ensures _ c.in-Read.is in
+    let k = c.in-Some.k in
+    let f = front_reads c.terms_of-t.result.limit a.b.held_count a.chunk.now a.work.now (omega (arith, c.requires.0.work_room)) _ c.front_of.ensures _ c.in-Some.is in
     let terms = c.terms_of-t in
     let held = take a.b.held_count a.work.now in
     let second : take (length a.chunk.now - k) (drop k a.chunk.now) ≡ drop k a.chunk.now = take_all (length a.chunk.now - k) (drop k a.chunk.now) (omega (arith, length-drop k a.chunk.now)) in

@@ -44,11 +44,10 @@ returns c =
     let n = (cut a.t.limit a.first.now).skipped in
     let m = (cut a.t.limit a.second.now).skipped in
     let sum : 0 + n + m ≡ n + m = omega arith in
-    rw c.parts_to.ensures
-    (record {
+    record {
       passed = λ L k em h. (_, sofar_skipped sum (two.ensures.0 L k a.e.leading a.out.now _ _ em (one.ensures.0 L k a.e.leading a.out.now [] 0 em (call_begins a.t _ _ _ _ _ _ a.fragment_heads.now a.bodies.now _ a.out.now begun c.requires.0 L k h))));
       first_left = one.ensures.1;
       first_inside = one.ensures.2;
       second_left = two.ensures.1;
       second_inside = two.ensures.2;
-    })
+    }
