@@ -33,6 +33,15 @@ pub struct Extent {
     pub news: News,
 }
 
+// What a record keeps of a broadcast beside its numbers: the data set, packages and map heads as pairs packed in one number, fragment heads.
+#[derive(Clone, Copy)]
+pub struct Kept {
+    pub data_set: [u64; 1024],
+    pub packages: [u32; 255],
+    pub map_heads: [u32; 64],
+    pub fragment_heads: [u64; 256],
+}
+
 pub fn no_news() -> News
     ensures { result ≡ no_news }
 {
