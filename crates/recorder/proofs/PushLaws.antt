@@ -28,9 +28,9 @@ use Rattle.meaning.proofs.SoundnessLaws.{HoldsState, state_holds, push_holds, go
 use Rattle.observing.specs.Observed.{Holding, HoldingSome}
 use Rattle.recorder.specs.declared.Filter.{Filter}
 use Rattle.recorder.specs.declared.call.CarriedOut.{CarriedOut}
-use Rattle.soundness.specs.Parts.{limits_of, parts_sound}
+use Rattle.soundness.specs.Parts.{parts_sound}
 use Rattle.recorder.specs.Filter.{record_in, extent_of, begun_of, handed_of}
-use Rattle.recorder.specs.Slots.{cleared}
+use Rattle.recorder.specs.Slots.{cleared_in}
 use Rattle.recorder.specs.Calls.{RoomFor, CarriedOutAs, CarriesOut, PushedAs, DroppedAs}
 use Rattle.recorder.proofs.StateLaws.{Whole, record_parts, state_held, record_back, state_again}
 use Rattle.soundness.proofs.PartLaws.{limit_fits}
@@ -55,13 +55,13 @@ accepted r W T M n x e = go (sound r W T M) refl (leb n (W - packet_limit W)) re
 -- ---- a push on a record
 
 -- All slots of the struct's arrays are there, by their types.
-pub whole_record : (f : Filter) → length f.data_set ≡ 1024 → length f.packages ≡ 255 → length f.map_heads ≡ 64 → length f.fragment_heads ≡ 256
+pub whole_record : (f : Filter) → length f.kept.data_set.words ≡ 1024 → length f.kept.packages ≡ 255 → length f.kept.map_heads ≡ 64 → length f.kept.fragment_heads ≡ 256
     → Whole (record_in f)
 unfolding record_in
 whole_record f c p m h = record { data_set_all = c; packages_all = p; map_heads_all = m; fragments_all = h }
 
 module _ (f : Filter) (work bodies : Bytes) (map_room : List ℕ) (chunk out : Bytes) (a : Answer)
-    (told : answer_number a ≡ cond (parts_sound (limits_of f.work f.total f.most) f.options f.held_count (extent_of f) f.packages f.map_heads f.fragment_heads (length work) (length bodies) (length map_room)) (length_refusal (length work) f.held_count (length chunk) (length out)) 4) where
+    (told : answer_number a ≡ cond (parts_sound f.limits f.options f.held_count (extent_of f) f.kept.packages f.kept.map_heads f.kept.fragment_heads (length work) (length bodies) (length map_room)) (length_refusal (length work) f.held_count (length chunk) (length out)) 4) where
   abbrev r : Record
   r = record_in f
 
@@ -89,13 +89,12 @@ module _ (f : Filter) (work bodies : Bytes) (map_room : List ℕ) (chunk out : B
     when_done = accepted r (length work) (length bodies) (length map_room) (length chunk) (length out) (sym number_is ∙ eqb-true (answer_number a) 0 e)
 
     -- the arrays, cleared, hold the record's state
-    held_count : Holding f.total (state_of r work bodies map_room).known (extent_of f) f.data_set (cleared f.package_count f.packages) (cleared f.map_count f.map_heads) map_room
-        (cleared f.fragment_count f.fragment_heads) bodies
+    held_count : Holding f.limits.total (state_of r work bodies map_room).known (extent_of f) (cleared_in (extent_of f) f.kept) map_room bodies
     unfolding record_in
     held_count = state_held r work bodies map_room (extent_of f) when_done.is_sound all (record { seen_is = refl; packages_are = refl; map_heads_are = refl; fragments_are = refl; leading_is = refl })
 
     pub may_carry_out : RoomFor (extent_of f) f.held_count chunk work out × (copies_all f.options ≡ true → f.held_count ≡ 0)
-        × HoldingSome (extent_of f) f.data_set (cleared f.package_count f.packages) (cleared f.map_count f.map_heads) map_room (cleared f.fragment_count f.fragment_heads) bodies
+        × HoldingSome (extent_of f) (cleared_in (extent_of f) f.kept) map_room bodies
     unfolding record_in
     may_carry_out =
         let h = when_done in
@@ -109,11 +108,11 @@ module _ (f : Filter) (work bodies : Bytes) (map_room : List ℕ) (chunk out : B
             work_few = few.work_few;
           },
           few.none_held,
-          (f.total, (state_of r work bodies map_room).known, held_count),
+          (f.limits.total, (state_of r work bodies map_room).known, held_count),
         )
 
     abbrev L : Limits
-    L = limits_of f.work f.total f.most
+    L = f.limits
 
     abbrev after : Outcome
     after = push L f.modes f.options (state_of r work bodies map_room) chunk
@@ -125,9 +124,9 @@ module _ (f : Filter) (work bodies : Bytes) (map_room : List ℕ) (chunk out : B
     unfolding called record_in
     called_done = rw (sym (ap (λ (n : ℕ). eqb n 0) number_is) ∙ e)
 
-    module _ (x : CarriedOut) (data_set packages map_heads map_room' fragment_heads : List ℕ) (bodies' work' out' : Bytes) where
-      ran_then : CarriedOutAs L after led out x data_set packages map_heads map_room' fragment_heads bodies' work' out' → length work' ≡ length work
-          → PushedAs r work bodies map_room chunk out (record { answer = a; counts = x.counts; filter = handed_of (begun_of f) x data_set packages map_heads fragment_heads }) work' bodies' map_room' out'
+    module _ (x : CarriedOut) (kept : Kept) (map_room' : List ℕ) (bodies' work' out' : Bytes) where
+      ran_then : CarriedOutAs L after led out x kept map_room' bodies' work' out' → length work' ≡ length work
+          → PushedAs r work bodies map_room chunk out (record { answer = a; counts = x.counts; filter = handed_of (begun_of f) x kept }) work' bodies' map_room' out'
       unfolding record_in
       ran_then h long =
           let c = called_done in
@@ -135,7 +134,7 @@ module _ (f : Filter) (work bodies : Bytes) (map_room : List ℕ) (chunk out : B
           let p = record_parts r (length work) (length bodies) (length map_room) s in
           let M = f.modes in
           let o = f.options in
-          let same : record_in (handed_of (begun_of f) x data_set packages map_heads fragment_heads) ≡ record_of L M o led after.state = record_back L M o led after.state h.holding x.held_count h.held_is h.leading_is in
+          let same : record_in (handed_of (begun_of f) x kept) ≡ record_of L M o led after.state = record_back L M o led after.state h.holding x.held_count h.held_is h.leading_is in
           let four : 4 ≤ packet_limit L.work = subst (λ (n : ℕ). 4 ≤ packet_limit n) (sym p.work_is) (good_limit (length work) p.work_good) in
           let holds : HoldsState L o after.state = push_holds L M o (state_of r work bodies map_room) chunk four (state_holds r work bodies map_room s) in
           let front : take (length after.state.held) work' ≡ after.state.held = ap (λ (n : ℕ). take n work') (sym h.held_is) ∙ h.held_bytes in
@@ -149,9 +148,9 @@ module _ (f : Filter) (work bodies : Bytes) (map_room : List ℕ) (chunk out : B
             bodies_length = h.holding.fragments_kept.total ∙ p.total_is;
           }
 
-      pub done_as : CarriesOut (λ L st. push L f.modes f.options st chunk) (λ L st. leading_pushed L f.options st chunk) f.most f.held_count (extent_of f) f.data_set (cleared f.package_count f.packages) (cleared f.map_count f.map_heads) map_room
-          (cleared f.fragment_count f.fragment_heads) bodies work out x data_set packages map_heads map_room' fragment_heads bodies' work' out' → length work' ≡ length work
-          → PushedAs r work bodies map_room chunk out (record { answer = a; counts = x.counts; filter = handed_of (begun_of f) x data_set packages map_heads fragment_heads }) work' bodies' map_room' out'
+      pub done_as : CarriesOut (λ L st. push L f.modes f.options st chunk) (λ L st. leading_pushed L f.options st chunk) f.limits.most f.held_count (extent_of f) (cleared_in (extent_of f) f.kept) map_room
+          bodies work out x kept map_room' bodies' work' out' → length work' ≡ length work
+          → PushedAs r work bodies map_room chunk out (record { answer = a; counts = x.counts; filter = handed_of (begun_of f) x kept }) work' bodies' map_room' out'
       unfolding record_in state_of
       done_as h long =
           let p = record_parts r (length work) (length bodies) (length map_room) when_done.is_sound in

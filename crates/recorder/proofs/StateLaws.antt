@@ -24,6 +24,7 @@ use Rattle.learning.specs.News.{no_news}
 use Rattle.learning.specs.Kept.{pairs_in, Pairs, KeptPackages, KeptMaps}
 use Rattle.observing.specs.Observed.{Holding}
 use Rattle.learning.specs.declared.Extent.{Extent}
+use Rattle.learning.specs.declared.Kept.{Kept}
 use Rattle.learning.proofs.PairLaws.{in_length}
 use Rattle.soundness.proofs.PartLaws.{SoundParts, sound_parts}
 use Rattle.recorder.specs.Slots.{cleared}
@@ -119,9 +120,17 @@ pub record Extends (r : Record) (e : Extent) : Type 0 where
   pub fragments_are : e.fragment_count ≡ r.fragment_count
   pub leading_is : e.leading ≡ r.leading
 
+-- What a record keeps, cleared.
+abbrev pub kept_of : Record → Kept
+kept_of r = record {
+  data_set = record { words = r.data_set };
+  packages = cleared r.package_count r.packages;
+  map_heads = cleared r.map_count r.map_heads;
+  fragment_heads = cleared r.fragment_count r.fragment_heads;
+}
+
 pub state_held : (r : Record) (work bodies : Bytes) (map_room : List ℕ) (e : Extent) → sound r (length work) (length bodies) (length map_room) ≡ true → Whole r → Extends r e
-    → Holding r.limits.total (state_of r work bodies map_room).known e r.data_set (cleared r.package_count r.packages) (cleared r.map_count r.map_heads) map_room
-    (cleared r.fragment_count r.fragment_heads) bodies
+    → Holding r.limits.total (state_of r work bodies map_room).known e (kept_of r) map_room bodies
 unfolding state_of
 state_held r work bodies map_room e s w n =
     let p = record_parts r (length work) (length bodies) (length map_room) s in
@@ -148,8 +157,8 @@ state_held r work bodies map_room e s w n =
 -- ---- the record of arrays that hold a state
 
 -- A record by an extent's numbers and arrays.
-abbrev pub record_with : Limits → Modes → Options → ℕ → Extent → List ℕ → List ℕ → List ℕ → List ℕ → Record
-record_with L M o held_count e data_set packages map_heads fragment_heads = record {
+abbrev pub record_with : Limits → Modes → Options → ℕ → Extent → Kept → Record
+record_with L M o held_count e kept = record {
   limits = L;
   modes = M;
   options = o;
@@ -159,15 +168,15 @@ record_with L M o held_count e data_set packages map_heads fragment_heads = reco
   map_count = e.map_count;
   fragment_count = e.fragment_count;
   leading = e.leading;
-  data_set = data_set;
-  packages = packages;
-  map_heads = map_heads;
-  fragment_heads = fragment_heads;
+  data_set = kept.data_set.words;
+  packages = kept.packages;
+  map_heads = kept.map_heads;
+  fragment_heads = kept.fragment_heads;
 }
 
-module _ (L : Limits) (M : Modes) (o : Options) (leading : ℕ) (st : State) {e : Extent} {data_set packages map_heads map_room fragment_heads : List ℕ} {bodies : Bytes}
-    (k : Holding L.total st.known e data_set packages map_heads map_room fragment_heads bodies) where
-  pub record_back : (n : ℕ) → n ≡ length st.held → e.leading ≡ leading → record_with L M o n e data_set packages map_heads fragment_heads ≡ record_of L M o leading st
+module _ (L : Limits) (M : Modes) (o : Options) (leading : ℕ) (st : State) {e : Extent} {kept map_room : List ℕ} {bodies : Bytes}
+    (k : Holding L.total st.known e kept map_room bodies) where
+  pub record_back : (n : ℕ) → n ≡ length st.held → e.leading ≡ leading → record_with L M o n e kept ≡ record_of L M o leading st
   unfolding record_of
   record_back n h l =
       let t = k.tables_kept in

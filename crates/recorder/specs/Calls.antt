@@ -15,6 +15,7 @@ use Rattle.meaning.specs.declared.Options.{Options}
 use Rattle.meaning.specs.declared.Modes.{Modes}
 use Rattle.observing.specs.Observed.{Holding}
 use Rattle.learning.specs.declared.Extent.{Extent}
+use Rattle.learning.specs.declared.Kept.{Kept}
 use Rattle.recorder.specs.declared.call.CarriedOut.{CarriedOut}
 use Rattle.recorder.specs.declared.Pushed as code
 use Rattle.recorder.specs.declared.Started as code'
@@ -31,8 +32,8 @@ pub record RoomFor (e : Extent) (held_count : ℕ) (chunk work out : Bytes) : Ty
   pub work_few : length work ≤ 131078
 
 -- The arrays and rooms hold the state after a push, with so many fragments leading, and the output has what it wrote.
-pub record CarriedOutAs (L : Limits) (x : Outcome) (leading : ℕ) (out : Bytes) (r : CarriedOut) (data_set packages map_heads map_room fragment_heads : List ℕ) (bodies work out' : Bytes) : Type 0 where
-  pub holding : Holding L.total x.state.known r.extent data_set packages map_heads map_room fragment_heads bodies
+pub record CarriedOutAs (L : Limits) (x : Outcome) (leading : ℕ) (out : Bytes) (r : CarriedOut) (kept : Kept) (map_room : List ℕ) (bodies work out' : Bytes) : Type 0 where
+  pub holding : Holding L.total x.state.known r.extent kept map_room bodies
   pub leading_is : r.extent.leading ≡ leading
   pub held_is : r.held_count ≡ length x.state.held
   pub held_bytes : take r.held_count work ≡ x.state.held
@@ -40,12 +41,12 @@ pub record CarriedOutAs (L : Limits) (x : Outcome) (leading : ℕ) (out : Bytes)
   pub written : Wrote (flatten x.out) out 0 out' x.counts.bytes
 
 -- Whatever state the arrays hold: a call on it with the bytes at the front of the work room.
-abbrev pub CarriesOut : (Limits → State → Outcome) → (Limits → State → ℕ → ℕ) → ℕ → ℕ → Extent → List ℕ → List ℕ → List ℕ → List ℕ → List ℕ → Bytes → Bytes → Bytes
-    → CarriedOut → List ℕ → List ℕ → List ℕ → List ℕ → List ℕ → Bytes → Bytes → Bytes → Type 0
-CarriesOut call lead most held_count e data_set packages map_heads map_room fragment_heads bodies work out r data_set' packages' map_heads' map_room' fragment_heads' bodies' work' out' =
-    (L : Limits) (k : Known) → L.most ≡ most → L.work ≡ length work → Holding L.total k e data_set packages map_heads map_room fragment_heads bodies
+abbrev pub CarriesOut : (Limits → State → Outcome) → (Limits → State → ℕ → ℕ) → ℕ → ℕ → Extent → Kept → List ℕ → Bytes → Bytes → Bytes
+    → CarriedOut → Kept → List ℕ → Bytes → Bytes → Bytes → Type 0
+CarriesOut call lead most held_count e kept map_room bodies work out r kept' map_room' bodies' work' out' =
+    (L : Limits) (k : Known) → L.most ≡ most → L.work ≡ length work → Holding L.total k e kept map_room bodies
     → let st : State = record { held = take held_count work; known = k } in
-    CarriedOutAs L (call L st) (lead L st e.leading) out r data_set' packages' map_heads' map_room' fragment_heads' bodies' work' out'
+    CarriedOutAs L (call L st) (lead L st e.leading) out r kept' map_room' bodies' work' out'
 
 -- ---- a push
 

@@ -4,16 +4,16 @@ use Rattle.meaning.specs.Record.{Record}
 use Rattle.meaning.specs.declared.Limits.{Limits}
 use Rattle.meaning.specs.declared.Options.{Options}
 use Rattle.meaning.specs.declared.Modes.{Modes}
-use Rattle.soundness.specs.Parts.{limits_of}
 use Rattle.learning.specs.News.{no_news}
 use Rattle.learning.specs.declared.Extent.{Extent}
+use Rattle.learning.specs.declared.Kept.{Kept}
 use Rattle.recorder.specs.declared.Filter.{Filter}
 use Rattle.recorder.specs.declared.call.Begun.{Begun}
 use Rattle.recorder.specs.declared.call.CarriedOut.{CarriedOut}
 
 unfoldable pub record_in : Filter → Record
 record_in f = record {
-  limits = limits_of f.work f.total f.most;
+  limits = f.limits;
   modes = f.modes;
   options = f.options;
   held_count = f.held_count;
@@ -22,10 +22,10 @@ record_in f = record {
   map_count = f.map_count;
   fragment_count = f.fragment_count;
   leading = f.leading;
-  data_set = f.data_set;
-  packages = f.packages;
-  map_heads = f.map_heads;
-  fragment_heads = f.fragment_heads;
+  data_set = f.kept.data_set.words;
+  packages = f.kept.packages;
+  map_heads = f.kept.map_heads;
+  fragment_heads = f.kept.fragment_heads;
 }
 
 -- A record that holds and knows nothing.
@@ -53,14 +53,12 @@ abbrev pub extent_of : Filter → Extent
 extent_of f = record { seen = f.seen; package_count = f.package_count; map_count = f.map_count; fragment_count = f.fragment_count; leading = f.leading; lost = 0; news = no_news }
 
 abbrev pub begun_of : Filter → Begun
-begun_of f = record { limits = limits_of f.work f.total f.most; modes = f.modes; options = f.options; held_count = f.held_count; extent = extent_of f }
+begun_of f = record { limits = f.limits; modes = f.modes; options = f.options; held_count = f.held_count; extent = extent_of f }
 
 -- The record after a call: its limits and options stay.
-abbrev pub handed_of : Begun → CarriedOut → List ℕ → List ℕ → List ℕ → List ℕ → Filter
-handed_of b x data_set packages map_heads fragment_heads = record {
-  work = b.limits.work;
-  total = b.limits.total;
-  most = b.limits.most;
+abbrev pub handed_of : Begun → CarriedOut → Kept → Filter
+handed_of b x kept = record {
+  limits = b.limits;
   modes = b.modes;
   options = b.options;
   held_count = x.held_count;
@@ -69,8 +67,5 @@ handed_of b x data_set packages map_heads fragment_heads = record {
   map_count = x.extent.map_count;
   fragment_count = x.extent.fragment_count;
   leading = x.extent.leading;
-  data_set = data_set;
-  packages = packages;
-  map_heads = map_heads;
-  fragment_heads = fragment_heads;
+  kept = kept;
 }

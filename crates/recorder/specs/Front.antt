@@ -12,6 +12,7 @@ use Rattle.meaning.specs.declared.Step.{Step}
 use Rattle.meaning.specs.declared.Step.TheVariants.{Packet, Skip, Keep}
 use Rattle.learning.specs.Kept.{Keeps}
 use Rattle.learning.specs.declared.Extent.{Extent}
+use Rattle.learning.specs.declared.Kept.{Kept}
 use Rattle.observing.specs.Observed.{Holding}
 use Rattle.rules.specs.Changes.{SetIs}
 use Rattle.passing.specs.Passing.{Sofar}
@@ -43,11 +44,11 @@ pub record DecidedAs (o : Options) (e : Extent) (data_set packages map_heads map
   pub ready_is : (k : Known) → Keeps k e data_set packages map_heads map_room → r.ready ≡ ready o.service k
 
 -- Whatever was known, the packets of two parts are passed one after the other, and so much of each part is left.
-pub record PartsPassed (first second : Bytes) (t : Terms) (e : Extent) (data_set packages map_heads map_room fragment_heads : List ℕ) (bodies out : Bytes)
-    (r : InParts) (data_set' packages' map_heads' map_room' fragment_heads' : List ℕ) (bodies' out' : Bytes) : Type 0 where
-  pub passed : (L : Limits) (k : Known) → L.most ≡ t.most → Holding L.total k e data_set packages map_heads map_room fragment_heads bodies
+pub record PartsPassed (first second : Bytes) (t : Terms) (e : Extent) (kept : Kept) (map_room : List ℕ) (bodies out : Bytes)
+    (r : InParts) (kept' : Kept) (map_room' : List ℕ) (bodies' out' : Bytes) : Type 0 where
+  pub passed : (L : Limits) (k : Known) → L.most ≡ t.most → Holding L.total k e kept map_room bodies
       → (set : Words) × Sofar L t.modes t.options k e.leading out (joined (cut t.limit first) (cut t.limit second)).packets (joined (cut t.limit first) (cut t.limit second)).skipped
-      r.progress data_set' packages' map_heads' map_room' fragment_heads' bodies' set out'
+      r.progress kept' map_room' bodies' set out'
   pub first_left : drop r.first_at first ≡ (cut t.limit first).held
   pub first_inside : r.first_at ≤ length first
   pub second_left : drop r.second_at second ≡ (cut t.limit second).held

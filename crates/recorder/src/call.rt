@@ -9,12 +9,12 @@ ghost use Rattle.meaning.specs.Calls.{counts_of};
 ghost use Rattle.meaning.specs.Leading.{leading_pushed};
 ghost use Rattle.meaning.specs.Push.{push, length_refusal};
 ghost use Rattle.observing.specs.Observed.{HoldingSome};
-ghost use Rattle.soundness.specs.Parts.{limits_of, parts_sound};
+ghost use Rattle.soundness.specs.Parts.{parts_sound};
 ghost use Rattle.recorder.specs.Front.{PartsPassed, ended_of, HeldOn};
 ghost use Rattle.recorder.specs.Calls.{RoomFor, CarriesOut};
 
 use crate::front::{counts_of, decided, front_of};
-use learning::Extent;
+use learning::{Extent, Kept};
 use meaning::{Answer, Counts, Limits, Modes, Options, Refusal};
 use octets::{copy, move_down};
 use passing::{Progress, Terms, packets};
@@ -72,29 +72,23 @@ fn in_parts(
     second: &[u8],
     e: Extent,
     t: Terms,
-    data_set: &mut [u64; 1024],
-    packages: &mut [u32; 255],
-    map_heads: &mut [u32; 64],
+    kept: &mut Kept,
     map_room: &mut [u16],
-    fragment_heads: &mut [u64; 256],
     bodies: &mut [u8],
     out: &mut [u8],
 ) -> InParts
-    requires { (e.lost ≡ 0) × (length first.now + length second.now ≤ 131078) × (length first.now + length second.now ≤ length out.old) × HoldingSome e data_set.old packages.old map_heads.old map_room.old fragment_heads.old bodies.old }
-    ensures { PartsPassed first.now second.now t e data_set.old packages.old map_heads.old map_room.old fragment_heads.old bodies.old out.old result data_set.new packages.new map_heads.new map_room.new fragment_heads.new bodies.new out.new }
+    requires { (e.lost ≡ 0) × (length first.now + length second.now ≤ 131078) × (length first.now + length second.now ≤ length out.old) × HoldingSome e kept.old map_room.old bodies.old }
+    ensures { PartsPassed first.now second.now t e kept.old map_room.old bodies.old out.old result kept.new map_room.new bodies.new out.new }
 {
     let o = t.options;
-    let mut set = first_drops(o, data_set);
-    let s = decided(e, o, packages, map_heads, map_room, &mut set);
+    let mut set = first_drops(o, &kept.data_set);
+    let s = decided(e, o, kept, map_room, &mut set);
     let x = packets(
         first,
         s,
         t,
-        data_set,
-        packages,
-        map_heads,
+        kept,
         map_room,
-        fragment_heads,
         bodies,
         &mut set,
         out,
@@ -103,11 +97,8 @@ fn in_parts(
         second,
         x.progress,
         t,
-        data_set,
-        packages,
-        map_heads,
+        kept,
         map_room,
-        fragment_heads,
         bodies,
         &mut set,
         out,
@@ -170,17 +161,14 @@ fn terms_of(b: Begun, work: usize) -> Terms
 pub fn carry_out(
     b: Begun,
     chunk: &[u8],
-    data_set: &mut [u64; 1024],
-    packages: &mut [u32; 255],
-    map_heads: &mut [u32; 64],
+    kept: &mut Kept,
     map_room: &mut [u16],
-    fragment_heads: &mut [u64; 256],
     bodies: &mut [u8],
     work: &mut [u8],
     out: &mut [u8],
 ) -> CarriedOut
-    requires { RoomFor b.extent b.held_count chunk.now work.old out.old × (copies_all b.options ≡ true → b.held_count ≡ 0) × HoldingSome b.extent data_set.old packages.old map_heads.old map_room.old fragment_heads.old bodies.old }
-    ensures { CarriesOut (λ L st. push L b.modes b.options st chunk.now) (λ L st. leading_pushed L b.options st chunk.now) b.limits.most b.held_count b.extent data_set.old packages.old map_heads.old map_room.old fragment_heads.old bodies.old work.old out.old result data_set.new packages.new map_heads.new map_room.new fragment_heads.new bodies.new work.new out.new }
+    requires { RoomFor b.extent b.held_count chunk.now work.old out.old × (copies_all b.options ≡ true → b.held_count ≡ 0) × HoldingSome b.extent kept.old map_room.old bodies.old }
+    ensures { CarriesOut (λ L st. push L b.modes b.options st chunk.now) (λ L st. leading_pushed L b.options st chunk.now) b.limits.most b.held_count b.extent kept.old map_room.old bodies.old work.old out.old result kept.new map_room.new bodies.new work.new out.new }
 {
     let o = b.options;
     let e = b.extent;
@@ -197,11 +185,8 @@ pub fn carry_out(
         &chunk[k..],
         e,
         t,
-        data_set,
-        packages,
-        map_heads,
+        kept,
         map_room,
-        fragment_heads,
         bodies,
         out,
     );
@@ -232,26 +217,18 @@ pub struct Lengths {
 // Why a call is refused: its record, then the chunk's length, then the output's.
 pub fn call_answer(
     b: Begun,
-    packages: &[u32; 255],
-    map_heads: &[u32; 64],
-    fragment_heads: &[u64; 256],
+    kept: &Kept,
     n: Lengths,
 ) -> Answer
-    requires { (length packages.now ≡ 255) × (length map_heads.now ≡ 64) × (length fragment_heads.now ≡ 256) }
-    ensures { answer_number result ≡ cond (parts_sound (limits_of b.limits.work b.limits.total b.limits.most) b.options b.held_count b.extent packages.now map_heads.now fragment_heads.now n.work n.bodies n.map_room) (length_refusal n.work b.held_count n.chunk n.out) 4 }
+    ensures { answer_number result ≡ cond (parts_sound b.limits b.options b.held_count b.extent kept.now n.work n.bodies n.map_room) (length_refusal n.work b.held_count n.chunk n.out) 4 }
 {
-    let l = b.limits;
-    let o = b.options;
-    let e = b.extent;
     let w = n.work;
     if !parts_sound(
-        l,
-        o,
+        b.limits,
+        b.options,
         b.held_count,
-        e,
-        packages,
-        map_heads,
-        fragment_heads,
+        b.extent,
+        kept,
         w,
         n.bodies,
         n.map_room,

@@ -9,8 +9,9 @@ ghost use Rattle.learning.specs.Kept.{Keeps};
 ghost use Rattle.rules.specs.Changes.{SetIs};
 ghost use Rattle.recorder.specs.Front.{front_by, DecidedAs};
 
-use learning::Extent;
+use learning::{Extent, Kept};
 use meaning::{Counts, Options, Step};
+use octets::IdSet;
 use passing::Progress;
 use rules::{decide_on, ready};
 use tlv::next_across;
@@ -66,19 +67,17 @@ pub fn counts_of(bytes: usize) -> Counts
 pub fn decided(
     e: Extent,
     o: Options,
-    packages: &[u32; 255],
-    map_heads: &[u32; 64],
+    kept: &Kept,
     map_room: &[u16],
-    set: &mut [u64; 1024],
+    set: &mut IdSet,
 ) -> Progress
     requires { ((k : Known) × (ds : Words) × Keeps k e ds packages.now map_heads.now map_room.now) × (length set.old ≡ 1024) }
     ensures { (ds : Words) → SetIs (λ q. not o.carousel && in_set ds q) set.old → DecidedAs o e ds packages.now map_heads.now map_room.now set.new result }
 {
-    decide_on(o, e, packages, map_heads, map_room, set);
-    let service = o.service;
+    decide_on(o, e, kept, map_room, set);
     Progress {
         extent: e,
         counts: counts_of(0),
-        ready: ready(service, e, packages, map_heads),
+        ready: ready(o.service, e, kept),
     }
 }

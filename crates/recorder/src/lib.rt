@@ -14,15 +14,16 @@ ghost use Rattle.meaning.specs.Calls.{counts_of};
 ghost use Rattle.meaning.specs.Start.{blank};
 ghost use Rattle.soundness.specs.Parts.{limits_of};
 ghost use Rattle.recorder.specs.Filter.{record_in, fresh_record, extent_of, begun_of, handed_of};
-ghost use Rattle.recorder.specs.Slots.{cleared};
+ghost use Rattle.recorder.specs.Slots.{cleared_in};
 ghost use Rattle.recorder.specs.Calls.{StartedAs, PushedAs, DroppedAs};
 
 use crate::call::{Begun, CarriedOut, Lengths, call_answer, carry_out, is_done};
 use crate::front::counts_of;
 use crate::slots::clear;
 use crate::sound::is_sound;
-use learning::{Extent, no_news};
+use learning::{Extent, Kept, no_news};
 use meaning::{Answer, Counts, Limits, Modes, Options, Refusal, Service};
+use octets::IdSet;
 use rules::dropped;
 use soundness::{good_fragment_room, good_map_room, good_work_room, wants_assets};
 
@@ -30,10 +31,8 @@ use soundness::{good_fragment_room, good_map_room, good_work_room, wants_assets}
 // in one handed in they may hold anything (D9), and `dropped` leaves them as they are.
 #[derive(Clone, Copy)]
 pub struct Filter {
-    // The start's limits: the lengths of the work room and of the fragment room, and the most bytes of one message.
-    pub work: usize,
-    pub total: usize,
-    pub most: usize,
+    // The start's.
+    pub limits: Limits,
     pub modes: Modes,
     pub options: Options,
     // How many bytes are held, at the front of the work room.
@@ -45,14 +44,8 @@ pub struct Filter {
     pub fragment_count: usize,
     // How many fragments lead: their bodies stand at the front of the fragment room, the others' at its end. Every number has a sense.
     pub leading: usize,
-    // The set of data-carousel identifiers, one bit each.
-    pub data_set: [u64; 1024],
-    // service * 65,536 + identifier
-    pub packages: [u32; 255],
-    // identifier * 65,536 + count
-    pub map_heads: [u32; 64],
-    // identifier * 2^48 + flags * 2^40 + length
-    pub fragment_heads: [u64; 256],
+    // The arrays.
+    pub kept: Kept,
 }
 
 // What a start answers, and the record to begin with; refused, one that can be used for nothing.
@@ -63,13 +56,11 @@ pub struct Started {
 }
 
 // Nothing held and nothing known.
-fn fresh(work: usize, total: usize, most: usize, options: Options, modes: Modes) -> Filter
-    ensures { record_in result ≡ fresh_record (limits_of work total most) modes options }
+fn fresh(limits: Limits, options: Options, modes: Modes) -> Filter
+    ensures { record_in result ≡ fresh_record limits modes options }
 {
     Filter {
-        work,
-        total,
-        most,
+        limits,
         modes,
         options,
         held_count: 0,
@@ -78,10 +69,12 @@ fn fresh(work: usize, total: usize, most: usize, options: Options, modes: Modes)
         map_count: 0,
         fragment_count: 0,
         leading: 0,
-        data_set: [0u64; 1024],
-        packages: [0u32; 255],
-        map_heads: [0u32; 64],
-        fragment_heads: [0u64; 256],
+        kept: Kept {
+            data_set: IdSet::empty(),
+            packages: [0; 255],
+            map_heads: [0; 64],
+            fragment_heads: [0; 256],
+        },
     }
 }
 
@@ -95,9 +88,14 @@ fn not_started(r: Refusal) -> Started
         eit: false,
         other: false,
     };
+    let none = Limits {
+        work: 0,
+        total: 0,
+        most: 0,
+    };
     Started {
         answer: Answer::Refused(r),
-        filter: fresh(0, 0, 0, o, Modes { plain_ip: false }),
+        filter: fresh(none, o, Modes { plain_ip: false }),
     }
 }
 
@@ -124,9 +122,14 @@ pub fn start(
     if !wants_assets(options) {
         return not_started(Refusal::Wishes);
     }
+    let limits = Limits {
+        work: work.len(),
+        total: bodies.len(),
+        most,
+    };
     Started {
         answer: Answer::Done,
-        filter: fresh(work.len(), bodies.len(), most, options, modes),
+        filter: fresh(limits, options, modes),
     }
 }
 
@@ -148,16 +151,6 @@ pub struct Dropped {
 
 // ---- a record taken apart
 
-fn limits_of(f: Filter) -> Limits
-    ensures { result ≡ limits_of f.work f.total f.most }
-{
-    Limits {
-        work: f.work,
-        total: f.total,
-        most: f.most,
-    }
-}
-
 // How much is known as a call begins: no map is lost yet, and nothing is new.
 fn extent_of(f: Filter) -> Extent
     ensures { result ≡ extent_of f }
@@ -177,7 +170,7 @@ fn begun(f: Filter) -> Begun
     ensures { result ≡ begun_of f }
 {
     Begun {
-        limits: limits_of(f),
+        limits: f.limits,
         modes: f.modes,
         options: f.options,
         held_count: f.held_count,
@@ -186,37 +179,23 @@ fn begun(f: Filter) -> Begun
 }
 
 // Unused slots set to zero.
-fn clear_unused(
-    e: Extent,
-    packages: &mut [u32; 255],
-    map_heads: &mut [u32; 64],
-    fragment_heads: &mut [u64; 256],
-)
-    ensures { (packages.new ≡ cleared e.package_count packages.old) × (map_heads.new ≡ cleared e.map_count map_heads.old) × (fragment_heads.new ≡ cleared e.fragment_count fragment_heads.old) }
+fn clear_unused(e: Extent, kept: &mut Kept)
+    ensures { kept.new ≡ cleared_in e kept.old }
 {
-    clear(packages, e.package_count, 0);
-    clear(map_heads, e.map_count, 0);
-    clear(fragment_heads, e.fragment_count, 0);
+    clear(&mut kept.packages, e.package_count, 0);
+    clear(&mut kept.map_heads, e.map_count, 0);
+    clear(&mut kept.fragment_heads, e.fragment_count, 0);
 }
 
 // ---- and put together
 
 // The record after a call.
-fn handed(
-    b: Begun,
-    r: CarriedOut,
-    data_set: [u64; 1024],
-    packages: [u32; 255],
-    map_heads: [u32; 64],
-    fragment_heads: [u64; 256],
-) -> Filter
-    ensures { result ≡ handed_of b r data_set packages map_heads fragment_heads }
+fn handed(b: Begun, r: CarriedOut, kept: Kept) -> Filter
+    ensures { result ≡ handed_of b r kept }
 {
     let e = r.extent;
     Filter {
-        work: b.limits.work,
-        total: b.limits.total,
-        most: b.limits.most,
+        limits: b.limits,
         modes: b.modes,
         options: b.options,
         held_count: r.held_count,
@@ -225,29 +204,18 @@ fn handed(
         map_count: e.map_count,
         fragment_count: e.fragment_count,
         leading: e.leading,
-        data_set,
-        packages,
-        map_heads,
-        fragment_heads,
+        kept,
     }
 }
 
 // What a push that was carried out answers.
-fn hand_back(
-    a: Answer,
-    b: Begun,
-    r: CarriedOut,
-    data_set: [u64; 1024],
-    packages: [u32; 255],
-    map_heads: [u32; 64],
-    fragment_heads: [u64; 256],
-) -> Pushed
-    ensures { result ≡ record { answer = a; counts = r.counts; filter = handed_of b r data_set packages map_heads fragment_heads } }
+fn hand_back(a: Answer, b: Begun, r: CarriedOut, kept: Kept) -> Pushed
+    ensures { result ≡ record { answer = a; counts = r.counts; filter = handed_of b r kept } }
 {
     Pushed {
         answer: a,
         counts: r.counts,
-        filter: handed(b, r, data_set, packages, map_heads, fragment_heads),
+        filter: handed(b, r, kept),
     }
 }
 
@@ -263,7 +231,7 @@ fn not_pushed(why: Answer, f: Filter) -> Pushed
 }
 
 impl Filter {
-    // Takes in a chunk; what goes on is written to the output. The arrays are taken out once and put back once: the record is large.
+    // Takes in a chunk; what goes on is written to the output. The arrays are taken out once and put back once: they are large.
     pub fn push(
         self,
         chunk: &[u8],
@@ -282,29 +250,14 @@ impl Filter {
             chunk: chunk.len(),
             out: out.len(),
         };
-        let mut packages = self.packages;
-        let mut map_heads = self.map_heads;
-        let mut fragment_heads = self.fragment_heads;
-        let a = call_answer(b, &packages, &map_heads, &fragment_heads, n);
+        let mut kept = self.kept;
+        let a = call_answer(b, &kept, n);
         if !is_done(a) {
             return not_pushed(a, self);
         }
-        let e = b.extent;
-        clear_unused(e, &mut packages, &mut map_heads, &mut fragment_heads);
-        let mut data_set = self.data_set;
-        let r = carry_out(
-            b,
-            chunk,
-            &mut data_set,
-            &mut packages,
-            &mut map_heads,
-            map_room,
-            &mut fragment_heads,
-            bodies,
-            work,
-            out,
-        );
-        hand_back(a, b, r, data_set, packages, map_heads, fragment_heads)
+        clear_unused(b.extent, &mut kept);
+        let r = carry_out(b, chunk, &mut kept, map_room, bodies, work, out);
+        hand_back(a, b, r, kept)
     }
 
     // How many identifiers the present rules drop.
@@ -318,16 +271,12 @@ impl Filter {
                 filter: self,
             };
         }
-        let o = self.options;
-        let data_set = self.data_set;
-        let mut packages = self.packages;
-        let mut map_heads = self.map_heads;
-        clear(&mut packages, self.package_count, 0);
-        clear(&mut map_heads, self.map_count, 0);
         let e = extent_of(self);
+        let mut kept = self.kept;
+        clear_unused(e, &mut kept);
         Dropped {
             answer: Answer::Done,
-            count: dropped(o, e, &data_set, &packages, &map_heads, map_room),
+            count: dropped(self.options, e, &kept, map_room),
             filter: self,
         }
     }
