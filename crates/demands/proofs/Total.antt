@@ -1,5 +1,6 @@
 -- Some result is allowed of every input: the definition's answer, counts and record, with rooms that begin with the bytes of its state.
 -- Rests on SoundnessLaws of `meaning`, and on Once for the struct of a record.
+use Rattle.std.specs.Prelude.{Ok, Err}
 use Prim.Native.Nat.{ℕ, zero, suc, ◌+◌, ◌-◌, ◌≤◌}
 use mathlib.Core.Path.{◌≡◌, refl, sym, ap, ◌∙◌, subst}
 use mathlib.Core.Bool.{Bool, true, false, cond}
@@ -13,7 +14,7 @@ use Rattle.meaning.specs.Writing.{Wrote}
 use Rattle.meaning.specs.Wishes.{wants_assets, copies_all}
 use Rattle.meaning.specs.Rooms.{packet_limit, good_work_room, good_fragment_room, good_map_room}
 use Rattle.meaning.specs.Learn.{fragment_bytes}
-use Rattle.meaning.specs.Refusals.{number_of, answer_number}
+use Rattle.meaning.specs.Refusals.{Answer, number_of, answer_number}
 use Rattle.meaning.specs.Record.{State, Record, record_of, room_of, state_of}
 use Rattle.meaning.specs.Leading.{leading_pushed}
 use Rattle.meaning.specs.Soundness.{sound, sound_refusal}
@@ -26,8 +27,6 @@ use Rattle.meaning.specs.declared.Limits.{Limits}
 use Rattle.meaning.specs.declared.Options.{Options}
 use Rattle.meaning.specs.declared.Modes.{Modes}
 use Rattle.meaning.specs.declared.Counts.{Counts}
-use Rattle.meaning.specs.declared.Answer.{Answer}
-use Rattle.meaning.specs.declared.Answer.TheVariants.{Done, Refused}
 use Rattle.meaning.specs.declared.Refusal.TheVariants.{WorkRoom, FragmentRoom, MapRoom, Unsound, Long, Short, Tally, Input, Wishes}
 use Rattle.meaning.proofs.Writes.{wrote_none}
 use Rattle.meaning.proofs.LayoutLaws.{room_size}
@@ -47,16 +46,16 @@ use Rattle.demands.proofs.Once.{filter_of}
 
 answer_with : (n : ℕ) → n ≤ 9 → (a : Answer) × (answer_number a ≡ n)
 unfolding answer_number number_of
-answer_with zero h = (Done, refl)
-answer_with (suc zero) h = (Refused WorkRoom, refl)
-answer_with (suc (suc zero)) h = (Refused FragmentRoom, refl)
-answer_with (suc (suc (suc zero))) h = (Refused MapRoom, refl)
-answer_with (suc (suc (suc (suc zero)))) h = (Refused Unsound, refl)
-answer_with (suc (suc (suc (suc (suc zero))))) h = (Refused Long, refl)
-answer_with (suc (suc (suc (suc (suc (suc zero)))))) h = (Refused Short, refl)
-answer_with (suc (suc (suc (suc (suc (suc (suc zero))))))) h = (Refused Tally, refl)
-answer_with (suc (suc (suc (suc (suc (suc (suc (suc zero)))))))) h = (Refused Input, refl)
-answer_with (suc (suc (suc (suc (suc (suc (suc (suc (suc zero))))))))) h = (Refused Wishes, refl)
+answer_with zero h = (Ok tt, refl)
+answer_with (suc zero) h = (Err WorkRoom, refl)
+answer_with (suc (suc zero)) h = (Err FragmentRoom, refl)
+answer_with (suc (suc (suc zero))) h = (Err MapRoom, refl)
+answer_with (suc (suc (suc (suc zero)))) h = (Err Unsound, refl)
+answer_with (suc (suc (suc (suc (suc zero))))) h = (Err Long, refl)
+answer_with (suc (suc (suc (suc (suc (suc zero)))))) h = (Err Short, refl)
+answer_with (suc (suc (suc (suc (suc (suc (suc zero))))))) h = (Err Tally, refl)
+answer_with (suc (suc (suc (suc (suc (suc (suc (suc zero)))))))) h = (Err Input, refl)
+answer_with (suc (suc (suc (suc (suc (suc (suc (suc (suc zero))))))))) h = (Err Wishes, refl)
 answer_with (suc (suc (suc (suc (suc (suc (suc (suc (suc (suc n)))))))))) h = absurd (omega (arith, h))
 
 at_most : (a : Bool) (x y : ℕ) → x ≤ 9 → y ≤ 9 → cond a x y ≤ 9

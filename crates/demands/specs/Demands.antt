@@ -8,7 +8,7 @@ use Rattle.meaning.specs.Packets.{cut}
 use Rattle.meaning.specs.Wishes.{wants_assets, copies_all, captions_only}
 use Rattle.meaning.specs.Narrow.{Change, narrowed_packet, change_table, change_payload, change_packet, narrow_refusal, none_of_each}
 use Rattle.meaning.specs.Rooms.{packet_limit, good_work_room, good_fragment_room, good_map_room}
-use Rattle.meaning.specs.Refusals.{answer_number, narrowing_number, narrowing_changed, narrowing_length}
+use Rattle.meaning.specs.Refusals.{Answer, answer_number, narrowing_number, narrowing_changed, narrowing_length}
 use Rattle.meaning.specs.Record.{Record, lens, state_of}
 use Rattle.meaning.specs.Soundness.{sound, firsts}
 use Rattle.meaning.specs.Calls.{counts_of}
@@ -20,7 +20,6 @@ use Rattle.meaning.specs.declared.Limits.{Limits}
 use Rattle.meaning.specs.declared.Options.{Options}
 use Rattle.meaning.specs.declared.Modes.{Modes}
 use Rattle.meaning.specs.declared.Counts.{Counts}
-use Rattle.meaning.specs.declared.Answer.{Answer}
 use Rattle.meaning.proofs.Examples.{Example, starred_tables, no_captions, packet12}
 use Rattle.tally.specs.Answers.{TalliedAs}
 use Rattle.narrowing.specs.Answers.{NarrowedAs}

@@ -6,13 +6,11 @@ use mathlib.Core.Bool.{false, cond}
 use mathlib.Core.Option.{Option, none}
 use lib.Dec.{eqb}
 use borrow.Author.Tests.{eqb-false, eq-eqb}
-use Rattle.meaning.specs.Refusals.{number_of, answer_number, narrowing_number, narrowing_changed, narrowing_length}
+use Rattle.std.specs.Prelude.{Ok, Err, Some, None}
+use Rattle.meaning.specs.Refusals.{Answer, Narrowing, number_of, answer_number, narrowing_number, narrowing_changed, narrowing_length}
 use Rattle.meaning.specs.Narrow.{Change, change_made}
 use Rattle.meaning.specs.declared.Refusal.{Refusal}
 use Rattle.meaning.specs.declared.Refusal.TheVariants.{WorkRoom, FragmentRoom, MapRoom, Unsound, Long, Short, Tally, Input, Wishes}
-use Rattle.meaning.specs.declared.Narrowing.{Narrowing}
-use Rattle.meaning.specs.declared.Answer.{Answer}
-use Rattle.meaning.specs.declared.Answer.TheVariants.{Done, Refused}
 use Rattle.meaning.proofs.ListLaws.{clash}
 
 -- The refusal with this number.
@@ -49,29 +47,29 @@ refused_told r = (again r).1
 pub not_zero : {X : Type 0} → (r : Refusal) → number_of r ≡ 0 → X
 not_zero r e = absurd (eqb-false (number_of r) 0 (refused_told r) e)
 
-pub refused_answer : (r : Refusal) → eqb (answer_number (Refused r)) 0 ≡ false
+pub refused_answer : (r : Refusal) → eqb (answer_number (Err r)) 0 ≡ false
 unfolding answer_number
 refused_answer r = refused_told r
 
 pub answer_told : (a b : Answer) → answer_number a ≡ answer_number b → a ≡ b
 unfolding answer_number
-answer_told Done Done e = refl
-answer_told Done (Refused b) e = not_zero b (sym e)
-answer_told (Refused a) Done e = not_zero a e
-answer_told (Refused a) (Refused b) e = ap Refused (number_told a b e)
+answer_told (Ok x) (Ok y) e = refl
+answer_told (Ok x) (Err b) e = not_zero b (sym e)
+answer_told (Err a) (Ok y) e = not_zero a e
+answer_told (Err a) (Err b) e = ap Err (number_told a b e)
 
 pub narrowing_told : (a b : Narrowing) → narrowing_number a ≡ narrowing_number b → narrowing_changed a ≡ narrowing_changed b
     → narrowing_length a ≡ narrowing_length b → a ≡ b
 unfolding narrowing_number narrowing_changed narrowing_length
-narrowing_told (Narrowing.Refused a) (Narrowing.Refused b) n c l = ap Narrowing.Refused (number_told a b n)
-narrowing_told (Narrowing.Refused a) Narrowing.Unchanged n c l = not_zero a n
-narrowing_told (Narrowing.Refused a) (Narrowing.Changed k) n c l = clash (cc)
-narrowing_told Narrowing.Unchanged (Narrowing.Refused b) n c l = not_zero b (sym n)
-narrowing_told Narrowing.Unchanged Narrowing.Unchanged n c l = refl
-narrowing_told Narrowing.Unchanged (Narrowing.Changed k) n c l = clash (cc)
-narrowing_told (Narrowing.Changed j) (Narrowing.Refused b) n c l = clash (cc)
-narrowing_told (Narrowing.Changed j) Narrowing.Unchanged n c l = clash (cc)
-narrowing_told (Narrowing.Changed j) (Narrowing.Changed k) n c l = ap Narrowing.Changed l
+narrowing_told (Err a) (Err b) n c l = ap Err (number_told a b n)
+narrowing_told (Err a) (Ok None) n c l = not_zero a n
+narrowing_told (Err a) (Ok (Some k)) n c l = clash (cc)
+narrowing_told (Ok None) (Err b) n c l = not_zero b (sym n)
+narrowing_told (Ok None) (Ok None) n c l = refl
+narrowing_told (Ok None) (Ok (Some k)) n c l = clash (cc)
+narrowing_told (Ok (Some j)) (Err b) n c l = clash (cc)
+narrowing_told (Ok (Some j)) (Ok None) n c l = clash (cc)
+narrowing_told (Ok (Some j)) (Ok (Some k)) n c l = ap (λ n. Ok (Some n)) l
 
 -- Refused, no change is made; accepted, the one that the definition has.
 pub none_made : (r : Refusal) (c : Option Change) → change_made (number_of r) c ≡ none

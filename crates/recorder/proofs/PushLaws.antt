@@ -12,7 +12,8 @@ use Rattle.meaning.specs.Bytes.{Bytes}
 use Rattle.meaning.specs.Wishes.{copies_all}
 use Rattle.meaning.specs.Rooms.{packet_limit}
 use Rattle.meaning.specs.Rules.{dropped}
-use Rattle.meaning.specs.Refusals.{number_of, answer_number}
+use Rattle.std.specs.Prelude.{Ok, Err, is_err}
+use Rattle.meaning.specs.Refusals.{Answer, number_of, answer_number}
 use Rattle.meaning.specs.Record.{Record, record_of, state_of}
 use Rattle.meaning.specs.Soundness.{sound, sound_refusal}
 use Rattle.meaning.specs.Calls.{counts_of}
@@ -20,8 +21,6 @@ use Rattle.meaning.specs.Leading.{leading_pushed}
 use Rattle.meaning.specs.Push.{Outcome, push, push_refusal, length_refusal, called}
 use Rattle.meaning.specs.Dropped.{dropped_now}
 use Rattle.meaning.specs.declared.Limits.{Limits}
-use Rattle.meaning.specs.declared.Answer.{Answer}
-use Rattle.meaning.specs.declared.Answer.TheVariants.{Done, Refused}
 use Rattle.meaning.specs.declared.Refusal.TheVariants.{Unsound}
 use Rattle.meaning.proofs.Writes.{wrote_none}
 use Rattle.meaning.proofs.SoundnessLaws.{HoldsState, state_holds, push_holds, good_limit}
@@ -51,6 +50,18 @@ accepted r W T M n x e = go (sound r W T M) refl (leb n (W - packet_limit W)) re
     go true p true q false s e = absurd (omega (arith, e))
     go true p false q c s e = absurd (omega (arith, e))
     go false p b q c s e = absurd (omega (arith, e))
+
+-- ---- an answer, by whether it is a refusal
+
+pub told_refused : (a : Answer) → is_err a ≡ true → eqb (answer_number a) 0 ≡ false
+unfolding answer_number
+told_refused (Ok x) e = clash (cc e)
+told_refused (Err r) e = refused_told r
+
+pub told_done : (a : Answer) → is_err a ≡ false → eqb (answer_number a) 0 ≡ true
+unfolding answer_number
+told_done (Ok x) e = refl
+told_done (Err r) e = clash (cc e)
 
 -- ---- a push on a record
 
@@ -168,11 +179,11 @@ module _ (f : Filter) (work bodies : Bytes) (map_room : List ℕ) where
   counted true e = (ap (λ (b : Bool). cond b 0 4) e, ap (λ (b : Bool). cond (eqb (cond b 0 4) 0) (dropped asked.options (state_of asked work bodies map_room).known) 0) e)
   counted false e = (ap (λ (b : Bool). cond b 0 4) e, ap (λ (b : Bool). cond (eqb (cond b 0 4) 0) (dropped asked.options (state_of asked work bodies map_room).known) 0) e)
 
-  pub not_counted : sound asked (length work) (length bodies) (length map_room) ≡ false → DroppedAs asked work bodies map_room (record { answer = Refused Unsound; count = 0; filter = f })
+  pub not_counted : sound asked (length work) (length bodies) (length map_room) ≡ false → DroppedAs asked work bodies map_room (record { answer = Err Unsound; count = 0; filter = f })
   unfolding answer_number number_of
   not_counted e = let h = counted false e in record { answer_is = sym h.0; count_is = sym h.1; handed_is = refl }
 
   pub counted_as : (n : ℕ) → sound asked (length work) (length bodies) (length map_room) ≡ true → n ≡ dropped asked.options (state_of asked work bodies map_room).known
-      → DroppedAs asked work bodies map_room (record { answer = Done; count = n; filter = f })
+      → DroppedAs asked work bodies map_room (record { answer = Ok tt; count = n; filter = f })
   unfolding answer_number
   counted_as n e q = let h = counted true e in record { answer_is = sym h.0; count_is = q ∙ sym h.1; handed_is = refl }

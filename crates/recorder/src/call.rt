@@ -1,6 +1,6 @@
 // A call that is not refused: in copy-all the chunk is copied, else held bytes and chunk are one run, and its packets are passed: those that
 // the held bytes begin in the work room, all others where they stand in the chunk. Rests on `front` and on `passing`.
-ghost use Rattle.std.specs.Prelude.{◌≡◌, ◌+◌, ◌≤◌, true, cond, eqb, length};
+ghost use Rattle.std.specs.Prelude.{◌≡◌, ◌+◌, ◌≤◌, true, cond, length};
 ghost use Rattle.meaning.specs.Writing.{Wrote};
 ghost use Rattle.meaning.specs.Wishes.{copies_all};
 ghost use Rattle.meaning.specs.Rooms.{packet_limit};
@@ -195,15 +195,6 @@ pub fn carry_out(
 
 // ---- its answer
 
-pub fn is_done(a: Answer) -> bool
-    ensures { result ≡ eqb (answer_number a) 0 }
-{
-    match a {
-        Answer::Done => true,
-        Answer::Refused(_) => false,
-    }
-}
-
 // The lengths of what a call is lent.
 #[derive(Clone, Copy)]
 pub struct Lengths {
@@ -233,13 +224,13 @@ pub fn call_answer(
         n.bodies,
         n.map_room,
     ) {
-        return Answer::Refused(Refusal::Unsound);
+        return Err(Refusal::Unsound);
     }
     if w - packet_limit(w) < n.chunk {
-        return Answer::Refused(Refusal::Long);
+        return Err(Refusal::Long);
     }
     if n.out < b.held_count + n.chunk {
-        return Answer::Refused(Refusal::Short);
+        return Err(Refusal::Short);
     }
-    Answer::Done
+    Ok(())
 }

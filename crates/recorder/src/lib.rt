@@ -17,7 +17,7 @@ ghost use Rattle.recorder.specs.Filter.{record_in, fresh_record, extent_of, begu
 ghost use Rattle.recorder.specs.Slots.{cleared_in};
 ghost use Rattle.recorder.specs.Calls.{StartedAs, PushedAs, DroppedAs};
 
-use crate::call::{Begun, CarriedOut, Lengths, call_answer, carry_out, is_done};
+use crate::call::{Begun, CarriedOut, Lengths, call_answer, carry_out};
 use crate::front::counts_of;
 use crate::slots::clear;
 use crate::sound::is_sound;
@@ -94,7 +94,7 @@ fn not_started(r: Refusal) -> Started
         most: 0,
     };
     Started {
-        answer: Answer::Refused(r),
+        answer: Err(r),
         filter: fresh(none, o, Modes { plain_ip: false }),
     }
 }
@@ -128,7 +128,7 @@ pub fn start(
         most,
     };
     Started {
-        answer: Answer::Done,
+        answer: Ok(()),
         filter: fresh(limits, options, modes),
     }
 }
@@ -252,7 +252,7 @@ impl Filter {
         };
         let mut kept = self.kept;
         let a = call_answer(b, &kept, n);
-        if !is_done(a) {
+        if a.is_err() {
             return not_pushed(a, self);
         }
         clear_unused(b.extent, &mut kept);
@@ -266,7 +266,7 @@ impl Filter {
     {
         if !is_sound(self, work.len(), bodies.len(), map_room.len()) {
             return Dropped {
-                answer: Answer::Refused(Refusal::Unsound),
+                answer: Err(Refusal::Unsound),
                 count: 0,
                 filter: self,
             };
@@ -275,7 +275,7 @@ impl Filter {
         let mut kept = self.kept;
         clear_unused(e, &mut kept);
         Dropped {
-            answer: Answer::Done,
+            answer: Ok(()),
             count: dropped(self.options, e, &kept, map_room),
             filter: self,
         }
