@@ -1,7 +1,7 @@
 -- A message by its number, and the parts of an aggregate one after the other, as `learn_message` and `learn_aggregate` meet them. Rests on
 -- StepLaws and FoldLaws.
 use Prim.Native.Nat.{ℕ, zero, suc, ◌+◌, ◌-◌, ◌/◌, ◌%◌, ◌≤◌, ◌<◌}
-use mathlib.Core.Path.{◌≡◌, refl, sym, ap, ◌∙◌, subst}
+use mathlib.Core.Path.{◌≡◌, refl, sym, ap, ◌∙◌}
 use mathlib.Core.Bool.{Bool, true, false, not}
 use mathlib.Core.List.{List, [], ◌∷◌}
 use mathlib.Core.Option.{none, some}
@@ -60,7 +60,7 @@ module _ (q : ℕ) (x : Message) (k : Known) (e : Extent) (a : Kept) (o : List �
   unfolding learn_message news_message
   message_pa n r b o' f = rw (eq-eqb x.number 0 n) f
 
-  pub message_data : (x.number ≡ 0 → ⊥) → x.number ≡ 0x8003 → (r : Extent) (ws : List ℕ) → DataLearnt q e a.data_set r ws → After (learn_message q x k) (news_message q x k) e r a (record a { data_set = ws }) o
+  pub message_data : (x.number ≡ 0 → ⊥) → x.number ≡ 0x8003 → (r : Extent) (ws : List ℕ) → DataLearnt q e a.data_set.words r ws → After (learn_message q x k) (news_message q x k) e r a (record a { data_set = record { words = ws } }) o
   unfolding learn_message news_message
   message_data z n r ws d =
       rw (ne_eqb x.number 0 z, eq-eqb x.number 0x8003 n)
@@ -71,7 +71,7 @@ module _ (q : ℕ) (x : Message) (k : Known) (e : Extent) (a : Kept) (o : List �
               packages_kept = rw (ap (λ y. y.package_count) d.1) h.packages_kept;
               maps_kept = rw (ap (λ y. y.map_count) d.1) h.maps_kept;
               data_set_is = d.0 ∙ ap (λ (vs : List ℕ). with_id vs q) h.data_set_is;
-              data_set_all = ap length d.0 ∙ with_length a.data_set q ∙ h.data_set_all;
+              data_set_all = ap length d.0 ∙ with_length a.data_set.words q ∙ h.data_set_all;
               map_room_is = h.map_room_is;
               map_room_all = h.map_room_all;
             };

@@ -21,7 +21,7 @@ DataLearnt p e ws r ws' =
 
 -- What is kept holds this state, but for the fragments.
 abbrev pub KeepsIn : Known → Extent → Kept → List ℕ → Type 0
-KeepsIn k e kept map_room = Keeps k e kept.data_set kept.packages kept.map_heads map_room
+KeepsIn k e kept map_room = Keeps k e kept.data_set.words kept.packages kept.map_heads map_room
 
 -- It holds some state.
 abbrev pub KeepsSome : Extent → Kept → List ℕ → Type 0
