@@ -5,7 +5,7 @@ ghost use Rattle.meaning.specs.Messages.{long_lengths, cons_message, message, me
 ghost use Rattle.meaning.specs.Tables.{pa};
 ghost use Rattle.meaning.specs.Learn.{learn_table, learn_tables, pa_tables, learn_messages};
 ghost use Rattle.observing.specs.News.{news_table, news_tables, news_messages};
-ghost use Rattle.observing.specs.Steps.{KeepsSome, DataLearnt, Learns, table_in};
+ghost use Rattle.observing.specs.Steps.{KeepsSome, IndicatorIs, DataLearnt, Learns, table_in};
 
 use learning::lists::mpt;
 use learning::packages::plt;
@@ -106,6 +106,28 @@ fn learn_aggregate(
     }
 }
 
+// Which part of a message a payload brings, by the top two bits of its first byte.
+#[derive(Clone, Copy, PartialEq, Eq)]
+pub enum Indicator {
+    Whole,
+    First,
+    Middle,
+    Last,
+}
+
+impl From<u8> for Indicator {
+    ghost from_gives = { IndicatorIs };
+
+    fn from(flags: u8) -> Indicator {
+        match flags >> 6 {
+            0 => Indicator::Whole,
+            1 => Indicator::First,
+            2 => Indicator::Middle,
+            _ => Indicator::Last,
+        }
+    }
+}
+
 // Bit 1: the parts of an aggregate have lengths of four bytes.
 fn long_lengths(flags: u8) -> bool
     ensures { result ≡ long_lengths flags }
@@ -126,9 +148,9 @@ pub fn learn(
     requires { (e.lost + length s.now ≤ 18446744073709551615) × KeepsSome e kept.old map_room.old }
     ensures { (Learns (learn_messages id (messages (flags ∷ 0 ∷ s.now))) (news_messages id (messages (flags ∷ 0 ∷ s.now))) e kept.old map_room.old result kept.new map_room.new) × (result.lost ≤ e.lost + length s.now) }
 {
-    if flags >> 6 != 0 {
+    let Indicator::Whole = Indicator::from(flags) else {
         return e;
-    }
+    };
     if flags & 1 == 0 {
         return learn_message(s, id, e, kept, map_room);
     }

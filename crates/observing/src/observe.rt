@@ -8,7 +8,7 @@ ghost use Rattle.learning.specs.News.{also};
 ghost use Rattle.observing.specs.News.{anything, news};
 ghost use Rattle.observing.specs.Observed.{HoldingSome, Observes, lead_by, with_held, Tells, whole_step, whole_new, last_step, last_new, by_step, by_new};
 
-use crate::messages::learn;
+use crate::messages::{Indicator, learn};
 use fragments::{Grown, Held, drop_fragment, give_back, grow, hold_first};
 use learning::{Extent, Kept, News, with_news};
 
@@ -146,11 +146,11 @@ fn by_indicator(
     requires { (e.lost + length body.now + length bodies.old ≤ 18446744073709551615) × HoldingSome e kept.old map_room.old bodies.old }
     ensures { Observes (by_step p.id p.flags body.now) (by_new p.id p.flags body.now) (lead_by p.id (by_step p.id p.flags body.now)) p.most e kept.old map_room.old bodies.old result kept.new map_room.new bodies.new × (result.lost ≤ e.lost + length body.now + length bodies.old) × MovedOnce bodies.old body.now bodies.new }
 {
-    match p.flags >> 6 {
-        0 => whole(body, p, e, kept, map_room, bodies),
-        1 => first(body, p, e, &mut kept.fragment_heads, bodies),
-        2 => middle(body, p, e, &mut kept.fragment_heads, bodies),
-        _ => last(body, p, e, kept, map_room, bodies),
+    match Indicator::from(p.flags) {
+        Indicator::Whole => whole(body, p, e, kept, map_room, bodies),
+        Indicator::First => first(body, p, e, &mut kept.fragment_heads, bodies),
+        Indicator::Middle => middle(body, p, e, &mut kept.fragment_heads, bodies),
+        Indicator::Last => last(body, p, e, kept, map_room, bodies),
     }
 }
 
