@@ -16,8 +16,9 @@ use Rattle.meaning.specs.Learn.{Fragment, Known, learnt, listed, place_for, with
 use Rattle.meaning.specs.Leading.{leading_after, leading_observed}
 use Rattle.meaning.specs.declared.Limits.{Limits}
 use Rattle.meaning.proofs.ListLaws.{or_true, or_false}
-use Rattle.fragments.specs.Fragments.{HeldAfter, GrewAt, GaveUp, GivesBack}
+use Rattle.fragments.specs.Fragments.{HeldAfter, GrewAt, GaveUp, GivesBack, GrowsWithin}
 use Rattle.fragments.specs.declared.Held.{Held}
+use Rattle.fragments.specs.declared.Grown.{Grown}
 use Rattle.fragments.proofs.FragmentLaws.{not_found, leading_none}
 use Rattle.fragments.proofs.GrowLaws.{joined_gone}
 use Rattle.learning.specs.News.{no_news, also}
@@ -28,7 +29,7 @@ use Rattle.learning.specs.declared.News.{News}
 use Rattle.learning.proofs.AlsoLaws.{also_none}
 use Rattle.observing.specs.News.{news_messages, news_last, news_by, anything, news}
 use Rattle.observing.specs.Steps.{KeepsIn, After}
-use Rattle.observing.specs.Observed.{Holding, Observed, lead_by, with_held, whole_step, whole_new, last_step, last_new, by_step, by_new}
+use Rattle.observing.specs.Observed.{Holding, HoldingSome, Observed, lead_by, with_held, whole_step, whole_new, last_step, last_new, by_step, by_new}
 use Rattle.observing.proofs.StepLaws.{keeps_news}
 
 -- ---- tables and messages leave the fragments
@@ -146,6 +147,12 @@ part_within lost bodies a e T most l h = omega (arith, length-take (e - a) (drop
 
 pub lost_within : (lost r : ℕ) (bodies : Bytes) (a e T : ℕ) → length bodies ≡ T → r ≤ lost + length (take (e - a) (drop a bodies)) → r ≤ lost + T
 lost_within lost r bodies a e T l h = omega (arith, length-take (e - a) (drop a bodies), length-drop a bodies)
+
+-- what grew, in some state that is held
+pub grew_some : (q most : ℕ) (b : Bytes) (e : Extent) (a : Kept) (o : List ℕ) (bodies : Bytes) (x : HoldingSome e a o bodies) (start end flags : ℕ) (h : Held) (heads : List ℕ) (bodies' : Bytes)
+    → GrowsWithin q most b e.fragment_count e.leading a.fragment_heads bodies (Grown.At start end flags h) heads bodies'
+    → GrewAt (record { work = 0; total = x.0; most = most }) q b x.1.fragments start end flags h heads bodies'
+grew_some q most b e a o bodies x start end flags h heads bodies' g = g.is (record { work = 0; total = x.0; most = most }) x.1.fragments refl x.2.fragments_kept
 
 module _ (L : Limits) (q : ℕ) (b : Bytes) (k : Known) (e : Extent) where
   abbrev Last : Extent → Kept → List ℕ → Bytes → Type 0

@@ -222,15 +222,7 @@ fn refreshed(
     if !e.news.changed {
         return was;
     }
-    decide(
-        o,
-        e,
-        &kept.data_set.words,
-        &kept.packages,
-        &kept.map_heads,
-        map_room,
-        &mut set.words,
-    );
+    decide(o, e, kept, map_room, set);
     ready(o.service, e, kept)
 }
 
