@@ -5,11 +5,12 @@ use mathlib.Core.Path.{◌≡◌, sym, ap, ap₂, ◌∙◌, subst}
 use mathlib.Core.List.{List, [], ◌∷◌, ◌++◌, append_assoc}
 use native.Mathlib.Omega.{arith}
 use lib.ListN.{length, take, drop, set, replicate, length-append, length-drop}
+use Rattle.std.specs.List.{copy_within}
 use lib.Seq.{take_at, drop_at, take_all, take-append-add, drop-append-add, drop-append-le, drop-drop, length-take-le}
 use Rattle.meaning.specs.Bytes.{Bytes}
 use Rattle.meaning.specs.Writing.{Wrote}
-use Rattle.fragments.specs.Fragments.{FreeMoved, Packed}
-use Rattle.meaning.proofs.Writes.{wrote_is, wrote_byte, wrote_then}
+use Rattle.fragments.specs.Fragments.{Packed}
+use Rattle.meaning.proofs.Writes.{wrote_is, is_wrote, wrote_byte, wrote_then}
 
 -- ---- a block and the free bytes
 
@@ -81,21 +82,6 @@ later y d d' to r k w h =
     let z : k ≡ r + (k - r) = omega arith in
     ap (λ (i : ℕ). drop i d') z ∙ sym (drop-drop (k - r) r d') ∙ ap (drop (k - r)) w.back ∙ drop-drop (k - r) r d ∙ ap (λ (i : ℕ). drop i d) (sym z)
 
-module _ (leading to old new all : ℕ) (bodies bodies' : Bytes) (r : ℕ) (low : old ≤ all) (high : new ≤ all) (within : all ≤ length bodies) (same : length bodies' ≡ length bodies) where
-  pub went_down : leading < to → old ≤ new → Wrote (take (new - old) (drop (length bodies - (all - old)) bodies)) bodies old bodies' r → FreeMoved leading to old new all bodies bodies'
-  went_down h l w = record {
-    same = same;
-    down = λ g. block_end bodies bodies bodies' (length bodies - (all - old)) (new - old) old r new (omega arith) (omega arith) w;
-    up = λ g. absurd (omega (arith, g));
-  }
-
-  pub went_up : to ≤ leading → new ≤ old → Wrote (take (old - new) (drop new bodies)) bodies (length bodies - (all - new)) bodies' r → FreeMoved leading to old new all bodies bodies'
-  went_up h l w = record {
-    same = same;
-    down = λ g. absurd (omega (arith, g));
-    up = λ g. block_end bodies bodies bodies' new (old - new) (length bodies - (all - new)) r (length bodies - (all - old)) (omega arith) (omega arith) w;
-  }
-
 far : (start end old all : ℕ) → start ≤ end → end ≤ old → old ≤ all → all - (end - start) ≡ old - (end - start) + (all - old)
 far start end old all a b c = omega arith
 
@@ -145,15 +131,17 @@ closed_heads a h c d s s' at n e ea en w =
     regroup : (a c d : List ℕ) → (a ++ (c ++ (0 ∷ []))) ++ d ≡ (a ++ c) ++ (0 ∷ d)
     regroup a c d = simp append_assoc
 
--- the end of the loop that closes a slot: its last slot is free
-pub close_done : (d₀ d : List ℕ) (at i n : ℕ) → at + 1 + i ≡ n → at + i < length d → Wrote (take i (drop (at + 1) d₀)) d₀ at d (at + i)
-    → Wrote (take (n - 1 - at) (drop (at + 1) d₀) ++ (0 ∷ [])) d₀ at (set d (at + i) 0) n
-close_done d₀ d at i n e h w =
-    let q : i ≡ n - 1 - at = omega arith in
-    let r : at + i + 1 ≡ n = omega arith in
-    subst (λ (z : ℕ). Wrote (take (n - 1 - at) (drop (at + 1) d₀) ++ (0 ∷ [])) d₀ at (set d (at + i) 0) z) r
-    (subst (λ (z : ℕ). Wrote (take z (drop (at + 1) d₀) ++ (0 ∷ [])) d₀ at (set d (at + i) 0) (at + i + 1)) q
-    (wrote_then w (wrote_byte 0 d (at + i) h)))
+-- what is behind goes down, and the last slot is free
+pub close_done : (d p : List ℕ) (at n : ℕ) → at < n → n ≤ length d → length p ≡ length d → p ≡ copy_within d (at + 1) n at
+    → Wrote (take (n - 1 - at) (drop (at + 1) d) ++ (0 ∷ [])) d at (set p (n - 1) 0) n
+close_done d p at n h l lp ep =
+    let y : List ℕ = take (n - 1 - at) (drop (at + 1) d) in
+    let ly : length y ≡ n - 1 - at = length-take-le (n - 1 - at) (drop (at + 1) d) (omega (arith, length-drop (at + 1) d)) in
+    let e : p ≡ (take at d ++ y) ++ drop (n - 1) d =
+    ep ∙ ap₂ (λ (i j : ℕ). (take at d ++ take i (drop (at + 1) d)) ++ drop j d) (let z : n - (at + 1) ≡ n - 1 - at = omega arith in z) (let z : at + (n - (at + 1)) ≡ n - 1 = omega arith in z) in
+    let w : Wrote y d at p (n - 1) = is_wrote y d p at (n - 1) (omega arith) (omega (arith, ly)) e in
+    let r : n - 1 + 1 ≡ n = omega arith in
+    subst (λ (z : ℕ). Wrote (y ++ (0 ∷ [])) d at (set p (n - 1) 0) z) r (wrote_then w (wrote_byte 0 p (n - 1) (omega (arith, lp))))
 
 pub one_zero : (n : ℕ) → 0 < n → n ≤ 256 → ◌≡◌ {A = List ℕ} (0 ∷ replicate (256 - n) 0) (replicate (256 - (n - 1)) 0)
 one_zero n h l = ap (λ (m : ℕ). replicate m 0) (let z : suc (256 - n) ≡ 256 - (n - 1) = omega arith in z)

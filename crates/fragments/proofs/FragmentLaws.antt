@@ -5,13 +5,14 @@ use mathlib.Core.Path.{◌≡◌, refl, sym, ap, ap₂, ◌∙◌, subst}
 use mathlib.Core.Bool.{Bool, true, false, cond, not}
 use mathlib.Core.List.{List, [], ◌∷◌, ◌++◌, map, append_assoc, append-nil}
 use mathlib.Core.Option.{none, some}
+use Rattle.std.specs.declared.option.Option.{Option}
 use native.Mathlib.Nat.{add-zero}
 use native.Mathlib.Numerals.{add-one}
 use native.Mathlib.Omega.{arith}
 use lib.ListN.{length, take, drop, get_or, length-append, length-take, drop_of_length-le}
-use lib.Seq.{take_at, drop_at, take_all, take-suc, take-add, take-take, drop-cons, drop-length, length-take-le, get_or-take}
+use lib.Seq.{take_at, drop_at, take_all, take-suc, take-add, take-take, drop-cons}
 use lib.Dec.{eqb, ltb}
-use borrow.Author.Tests.{eqb-true, eq-eqb, ne_eqb, not-true, ltb-true, ltb-false, lt-ltb, le-ltb}
+use borrow.Author.Tests.{eqb-true, eq-eqb, not-true, ltb-true, ltb-false, lt-ltb, le-ltb}
 use Rattle.meaning.specs.Bytes.{Bytes}
 use Rattle.meaning.specs.Lists.{keep, any, sum}
 use Rattle.meaning.specs.Learn.{Fragment, is_of, without, fragment_of, grown, grow_in}
@@ -23,6 +24,11 @@ use Rattle.meaning.proofs.SoundnessKept.{eqb_swap}
 use Rattle.meaning.proofs.LayoutLaws.{lens_append}
 use Rattle.meaning.proofs.SoundnessLaws.{TellAll}
 use Rattle.fragments.specs.Fragments.{index_in, others_of, length_at}
+use Rattle.std.specs.Prelude.{nat_lt, unwrap_or, IfSome, Some, None}
+use Rattle.std.specs.List.{sum_by, position, position_or_len}
+use Rattle.std.proofs.lemmas.List.Sums.{prefix_len-le-length}
+use Rattle.std.proofs.lemmas.Bool.Decides.{nat_tests}
+use Rattle.std.proofs.lemmas.List.Recursion.{is_sum_by, is_position_or_len}
 
 -- ---- the sum of the lengths
 
@@ -33,6 +39,10 @@ lens_none = refl
 lens_one : (x : ℕ) → lens (x ∷ []) ≡ fragment_length x
 unfolding lens sum
 lens_one x = add-zero (fragment_length x)
+
+pub lens_sum : (hs : List ℕ) → lens hs ≡ sum_by fragment_length hs
+unfolding lens sum
+lens_sum hs = is_sum_by lens fragment_length refl (λ _ _. refl) hs
 
 module _ (hs : List ℕ) where
   pub lens_turn : (i : ℕ) → i < length hs → lens (take (i + 1) hs) ≡ lens (take i hs) + fragment_length (get_or hs i 0)
@@ -47,7 +57,13 @@ module _ (hs : List ℕ) where
       ap (λ (m : ℕ). lens (take m hs)) z ∙ ap lens (take-add i (j - i) hs) ∙ lens_append (take i hs) (take (j - i) (drop i hs)) in
       omega (arith, e)
 
-  -- with the length in the head at an index, if there is one
+  -- the length in the head at an index, if there is one
+  pub own_at : (index : ℕ) → index < length hs → lens (take 1 (drop index hs)) ≡ fragment_length (get_or hs index 0)
+  own_at index h = ap (λ (l : List ℕ). lens (take 1 l)) (drop-cons hs index 0 h) ∙ lens_one (get_or hs index 0)
+
+  pub own_past : (index : ℕ) → length hs ≤ index → lens (take 1 (drop index hs)) ≡ 0
+  own_past index h = ap (λ (l : List ℕ). lens (take 1 l)) (drop_of_length-le hs h) ∙ lens_none
+
   pub own_turn : (index n : ℕ) → index + 1 ≤ n → lens (take index hs) + length_at index n hs ≡ lens (take (index + 1) hs)
   unfolding length_at
   own_turn index n h =
@@ -66,26 +82,25 @@ module _ (hs : List ℕ) where
       go true e = omega (arith, own_turn index n (let z : index < n = ltb-true index n e in omega arith), lens_less (index + 1) n (let z : index < n = ltb-true index n e in omega arith))
       go false e = omega (arith, own_none index n (ltb-false index n e), lens_less index n h)
 
--- ---- the loop that looks for an identifier
+-- ---- an identifier among heads
 
-module _ (p : ℕ) (hs : List ℕ) (n : ℕ) (le : n ≤ length hs) where
-  index_at : (i : ℕ) → i < n → index_in p (drop i (take n hs)) ≡ cond (eqb (fragment_identifier (get_or hs i 0)) p) 0 (suc (index_in p (drop (suc i) (take n hs))))
-  unfolding index_in
-  index_at i h =
-      ap (index_in p) (drop-cons (take n hs) i 0 (omega (arith, length-take-le n hs le)))
-      ∙ ap (λ (z : ℕ). cond (eqb (fragment_identifier z) p) 0 (suc (index_in p (drop (suc i) (take n hs))))) (get_or-take n hs i 0 h)
+index_in_is : (p : ℕ) (hs : List ℕ) → index_in p hs ≡ position_or_len (λ (h : ℕ). eqb (fragment_identifier h) p) hs
+unfolding index_in
+index_in_is p hs =
+    is_position_or_len (index_in p) (λ (h : ℕ). eqb (fragment_identifier h) p) refl
+    (λ x xs. ap (cond (eqb (fragment_identifier x) p) 0) (let z : suc (index_in p xs) ≡ 1 + index_in p xs = omega arith in z)) hs
 
-  pub index_here : (i : ℕ) → i < n → fragment_identifier (get_or hs i 0) ≡ p → index_in p (drop i (take n hs)) ≡ 0
-  index_here i h e = index_at i h ∙ ap (λ (z : Bool). cond z 0 (suc (index_in p (drop (suc i) (take n hs))))) (eq-eqb _ _ e)
+-- what looking for it answers
+pub found_at : (p : ℕ) (hs : List ℕ) (o : Option ℕ) → o ≡ position (λ (h : ℕ). eqb (fragment_identifier h) p) hs
+    → (unwrap_or o (length hs) ≡ index_in p hs) × IfSome o (λ i. i < length hs)
+found_at p hs o e = rw e (go (nat_lt k (length hs)) refl)
+  where
+    k : ℕ
+    k = position_or_len (λ (h : ℕ). eqb (fragment_identifier h) p) hs
 
-  pub index_next : (i : ℕ) → i < n → (fragment_identifier (get_or hs i 0) ≡ p → ⊥) → index_in p (drop i (take n hs)) ≡ index_in p (drop (i + 1) (take n hs)) + 1
-  index_next i h e =
-      index_at i h ∙ ap (λ (z : Bool). cond z 0 (suc (index_in p (drop (suc i) (take n hs))))) (ne_eqb _ _ e)
-      ∙ sym (add-one (index_in p (drop (suc i) (take n hs)))) ∙ ap (λ (z : ℕ). index_in p (drop z (take n hs)) + 1) (sym (add-one i))
-
-  pub index_end : index_in p (drop n (take n hs)) ≡ 0
-  unfolding index_in
-  index_end = ap (λ (z : ℕ). index_in p (drop z (take n hs))) (sym (length-take-le n hs le)) ∙ ap (index_in p) (drop-length (take n hs))
+    go : (a : Bool) → nat_lt k (length hs) ≡ a → (unwrap_or (cond a (Some k) None) (length hs) ≡ index_in p hs) × IfSome (cond a (Some k) None) (λ i. i < length hs)
+    go true q = (sym (index_in_is p hs), grind (arith, nat_tests, q))
+    go false q = (grind (arith, nat_tests, q, index_in_is, prefix_len-le-length), tt)
 
 pub index_fragment_heads : (p : ℕ) (fs : List Fragment) → TellAll fs → index_in p (map fragment_head fs) ≡ index_of p fs
 unfolding index_in index_of is_of

@@ -8,7 +8,7 @@ use mathlib.Core.Option.{Option, some, some-injective}
 use native.Mathlib.Omega.{arith}
 use lib.ListN.{length, take, drop, get_or, set}
 use lib.Dec.{leb, ltb}
-use borrow.Author.Tests.{ltb-true, ltb-false, leb-true, leb-false, le-leb, lt-leb}
+use borrow.Author.Tests.{ltb-true, ltb-false, leb-true, leb-false}
 use Rattle.meaning.specs.Bytes.{Bytes}
 use Rattle.meaning.specs.Writing.{Wrote}
 use Rattle.meaning.specs.Learn.{Fragment, without, fragment_of, grow_in, hold_first, fits, middle_of, middle}
@@ -19,16 +19,13 @@ use Rattle.meaning.specs.declared.Limits.{Limits}
 use Rattle.meaning.proofs.ListLaws.{and_both}
 use Rattle.meaning.proofs.MoveLaws.{once_none}
 use Rattle.meaning.proofs.SoundnessKept.{first_holds, middle_holds}
-use Rattle.fragments.specs.Fragments.{index_in, others_of, TakesOut, FreeMoved, Packed, KeptFragments, KeepsFragments, Numbers, HeldAfter, Nearest, Stands, GivesUp, DropsAt, Drops, GivesBack, held_behind, PutsBehind, HoldsFirst, Lengthens, GrewAt, GrowsWithin, GrowsAtIndex, LearnsMiddle}
+use Rattle.fragments.specs.Fragments.{index_in, others_of, TakesOut, FreeMoved, Packed, KeptFragments, Numbers, HeldAfter, Nearest, Stands, DropsAt, Drops, GivesBack, held_behind, PutsBehind, HoldsFirst, Lengthens, GrewAt, GrowsWithin, GrowsAtIndex, LearnsMiddle}
 use Rattle.fragments.specs.declared.Held.{Held}
 use Rattle.fragments.specs.declared.Grown.{Grown}
 use Rattle.fragments.specs.declared.Place.{Place}
 use Rattle.fragments.proofs.FragmentLaws.{lens_turn, lens_less, missing, own_turn, own_ends, others_count, index_grown, grown_length, without_grown, not_found, leading_gone, leading_none, leading_grown, leading_behind}
-use Rattle.fragments.proofs.RoomLaws.{numbers, sum_is, index_is, nearest_kept, free_moved, There, there, left_last, left_next, grown_in, others_bytes, put_kept, held_so, full_so, short_so}
+use Rattle.fragments.proofs.RoomLaws.{slots_all, numbers, sum_is, index_is, nearest_kept, free_moved, There, there, left_last, left_next, grown_in, others_bytes, put_kept, held_so, full_so, short_so}
 use Rattle.fragments.proofs.OnceLaws.{once_moved, once_grown, once_put}
-
-pub some_numbers : (n leading : ℕ) (fragment_heads bodies : List ℕ) → KeepsFragments n leading fragment_heads bodies → Numbers n fragment_heads bodies
-some_numbers n leading fragment_heads bodies k = numbers k.0 k.1 n leading fragment_heads bodies k.2
 
 -- The numbers by which the free bytes move, from the sums that the code has taken.
 pub free_numbers : (fragment_heads : List ℕ) (n leading to old new all total : ℕ) → leading ≤ n → to ≤ n → lens (take n fragment_heads) ≤ total → old ≡ lens (take leading fragment_heads)
@@ -46,18 +43,18 @@ free_numbers fragment_heads n leading to old new all total low high within eo en
 
 module _ (n : ℕ) (fragment_heads : List ℕ) (place : Place) (s : Stands n fragment_heads place) where
   -- Its numbers are ordered as the fragments are.
-  pub stands_so : (place.start + place.own ≤ place.all) × (place.free ≤ place.all) × (place.index < place.leading → place.start + place.own ≤ place.free)
-      × (place.leading ≤ place.index → place.free ≤ place.start)
+  pub stands_so : (place.start + place.own ≤ place.all) × (place.leading.bytes ≤ place.all) × (place.index < place.leading.count → place.start + place.own ≤ place.leading.bytes)
+      × (place.leading.count ≤ place.index → place.leading.bytes ≤ place.start)
   stands_so =
       let es = s.start_is in
       let ew = s.own_is in
       let eo = s.free_is in
       let ea = s.all_is in (
         omega (arith, own_ends fragment_heads place.index n s.index_low),
-        omega (arith, lens_less fragment_heads place.leading n s.leading_low),
-        λ h. let low : place.leading ≤ n = s.leading_low in
-            omega (arith, own_turn fragment_heads place.index n (omega arith), lens_less fragment_heads (place.index + 1) place.leading (omega arith)),
-        λ h. omega (arith, lens_less fragment_heads place.leading place.index h),
+        omega (arith, lens_less fragment_heads place.leading.count n s.leading_low),
+        λ h. let low : place.leading.count ≤ n = s.leading_low in
+            omega (arith, own_turn fragment_heads place.index n (omega arith), lens_less fragment_heads (place.index + 1) place.leading.count (omega arith)),
+        λ h. omega (arith, lens_less fragment_heads place.leading.count place.index h),
       )
 
   -- Where it ends, if it is there.
@@ -68,43 +65,32 @@ module _ (n : ℕ) (fragment_heads : List ℕ) (place : Place) (s : Stands n fra
 
 -- beside it they are among the fragments
 pub to_low : (index n leading to : ℕ) → index < n → leading ≤ n → (index < leading → to ≡ index + 1) → (leading ≤ index → to ≡ index) → to ≤ n
-to_low index n leading to lt low led not_led = go (ltb index leading) refl
-  where
-    go : (x : Bool) → ltb index leading ≡ x → to ≤ n
-    go true e = omega (arith, led (ltb-true index leading e))
-    go false e = omega (arith, not_led (ltb-false index leading e))
-
--- the free bytes were brought beside it
-pub given_up : (index n leading to : ℕ) (fragment_heads bodies : List ℕ) (old new all : ℕ) (fragment_heads' bodies' : List ℕ) → index < n → leading ≤ n → Numbers n fragment_heads bodies
-    → (index < leading → to ≡ index + 1) → (leading ≤ index → to ≡ index) → old ≡ lens (take leading fragment_heads) → new ≡ lens (take to fragment_heads)
-    → all ≡ lens (take n fragment_heads) → FreeMoved leading to old new all bodies bodies'
-    → Wrote (take (n - 1 - index) (drop (index + 1) fragment_heads) ++ (0 ∷ [])) fragment_heads index fragment_heads' n
-    → GivesUp index n leading fragment_heads bodies (record { count = n - 1; leading = index }) fragment_heads' bodies'
-given_up index n leading to fragment_heads bodies old new all fragment_heads' bodies' lt low ns led not_led eo en ea m w = record {
-  left = λ T p fs at k. go (ltb index leading) refl T p fs at (free_moved T fs n leading fragment_heads bodies k to old new all bodies' low high eo en ea m);
-  leading_is = refl;
-  once = let f = free_numbers fragment_heads n leading to old new all (length bodies) low high ns.within eo en ea in once_moved leading to old new all bodies bodies' f.0 f.1 f.2 f.3 f.4 m;
-}
-  where
-    high : to ≤ n
-    high = to_low index n leading to lt low led not_led
-
-    go : (x : Bool) → ltb index leading ≡ x → (T p : ℕ) (fs : List Fragment) → index ≡ index_of p fs → KeptFragments T fs n to fragment_heads bodies'
-        → KeptFragments T (without p fs) (n - 1) index fragment_heads' bodies'
-    go true e T p fs at k = left_last T p fs index n to fragment_heads bodies' at lt k fragment_heads' w (led (ltb-true index leading e))
-    go false e T p fs at k = left_next T p fs index n to fragment_heads bodies' at lt k fragment_heads' w (not_led (ltb-false index leading e))
+to_low index n leading to lt low led not_led = grind (arith, led, not_led)
 
 module _ (index n leading : ℕ) (fragment_heads bodies : List ℕ) where
-  pub dropped_at : (near : ℕ) (r : Held) (fragment_heads' bodies' : List ℕ) → index < n → Nearest n leading near → GivesUp index n near fragment_heads bodies r fragment_heads' bodies'
-      → DropsAt index n leading fragment_heads bodies r fragment_heads' bodies'
-  dropped_at near r fragment_heads' bodies' lt m g = record {
+  -- the free bytes were brought beside it
+  pub dropped_at : (near to old new all : ℕ) (fragment_heads' bodies' : List ℕ) → index < n → Nearest n leading near → Numbers n fragment_heads bodies
+      → (index < near → to ≡ index + 1) → (near ≤ index → to ≡ index) → old ≡ lens (take near fragment_heads) → new ≡ lens (take to fragment_heads)
+      → all ≡ lens (take n fragment_heads) → FreeMoved near to old new all bodies bodies'
+      → Wrote (take (n - 1 - index) (drop (index + 1) fragment_heads) ++ (0 ∷ [])) fragment_heads index fragment_heads' n
+      → DropsAt index n leading fragment_heads bodies (record { count = n - 1; leading = index }) fragment_heads' bodies'
+  dropped_at near to old new all fragment_heads' bodies' lt m ns led not_led eo en ea u w = record {
     left = λ T p fs at k.
+        let k' = nearest_kept T fs n leading fragment_heads bodies k near m in
         record {
-          kept = g.left T p fs at (nearest_kept T fs n leading fragment_heads bodies k near m);
-          leading_is = g.leading_is ∙ at ∙ sym (leading_gone p fs leading (omega (arith, k.heads.count)));
+          kept = go (ltb index near) refl T p fs at (free_moved T fs n near fragment_heads bodies k' to old new all bodies' m.low high eo en ea u);
+          leading_is = at ∙ sym (leading_gone p fs leading (omega (arith, k.heads.count)));
         };
-    once = g.once;
+    once = let f = free_numbers fragment_heads n near to old new all (length bodies) m.low high ns.within eo en ea in once_moved near to old new all bodies bodies' f.0 f.1 f.2 f.3 f.4 u;
   }
+    where
+      high : to ≤ n
+      high = to_low index n near to lt m.low led not_led
+
+      go : (x : Bool) → ltb index near ≡ x → (T p : ℕ) (fs : List Fragment) → index ≡ index_of p fs → KeptFragments T fs n to fragment_heads bodies'
+          → KeptFragments T (without p fs) (n - 1) index fragment_heads' bodies'
+      go true e T p fs at k = left_last T p fs index n to fragment_heads bodies' at lt k fragment_heads' w (led (ltb-true index near e))
+      go false e T p fs at k = left_next T p fs index n to fragment_heads bodies' at lt k fragment_heads' w (not_led (ltb-false index near e))
 
   pub none_at : n ≤ index → DropsAt index n leading fragment_heads bodies (record { count = n; leading = leading }) fragment_heads bodies
   none_at h = record {
@@ -150,34 +136,34 @@ others_small index n count le few l e = omega (arith, e, others_low index n le f
 
 -- the numbers by which the others are packed
 pub pack_numbers : (n : ℕ) (fragment_heads bodies : List ℕ) (place : Place) → Stands n fragment_heads place → Numbers n fragment_heads bodies
-    → (place.start + place.own ≤ place.all) × (place.free ≤ place.all) × (place.all ≤ length bodies) × (place.index < place.leading → place.start + place.own ≤ place.free)
-    × (place.leading ≤ place.index → place.free ≤ place.start)
+    → (place.start + place.own ≤ place.all) × (place.leading.bytes ≤ place.all) × (place.all ≤ length bodies) × (place.index < place.leading.count → place.start + place.own ≤ place.leading.bytes)
+    × (place.leading.count ≤ place.index → place.leading.bytes ≤ place.start)
 pack_numbers n fragment_heads bodies place s ns =
     let o = stands_so n fragment_heads place s in
     (o.0, o.1, omega (arith, s.all_is, ns.within), o.2, o.3)
 
 pub put : (place : Place) (p flags : ℕ) (b : Bytes) (n : ℕ) (fragment_heads bodies : List ℕ) → place.index < 256 → Stands n fragment_heads place → Numbers n fragment_heads bodies
     → place.all - place.own + length b ≤ length bodies → (mid : Bytes) (count q head : ℕ) (fragment_heads₁ bodies' : List ℕ) → count ≡ others_of place.index n → length bodies' ≡ length mid
-    → Packed place.index place.leading place.start (place.start + place.own) place.free place.all bodies mid → Wrote b mid (place.all - place.own) bodies' q
+    → Packed place.index place.leading.count place.start (place.start + place.own) place.leading.bytes place.all bodies mid → Wrote b mid (place.all - place.own) bodies' q
     → TakesOut place.index n fragment_heads fragment_heads₁ → head ≡ p * 281474976710656 + flags % 64 * 1099511627776 + length b
-    → PutsBehind place.index p flags b n place.leading fragment_heads bodies (record { count = count + 1; leading = count + 1 }) (set fragment_heads₁ count head) bodies'
+    → PutsBehind place.index p flags b n place.leading.count fragment_heads bodies (record { count = count + 1; leading = count + 1 }) (set fragment_heads₁ count head) bodies'
 put place p flags b n fragment_heads bodies few s ns fit mid count q head fragment_heads₁ bodies' ec same m w out eh = record {
   held = λ L fs at k.
       let T : ℕ = L.total in
       let small : count < 256 = others_small place.index n count s.index_low few ns.few ec in
       let c : others_of place.index n ≡ length (without p fs) = (out p fs k.hold.once at k.heads).count in
-      let bytes = others_bytes T p fs place.index n place.leading fragment_heads bodies at s.index_low k in
+      let bytes = others_bytes T p fs place.index n place.leading.count fragment_heads bodies at s.index_low k in
       let e : hold_first L p flags b fs ≡ held_behind p flags b fs = held_so L p flags b fs (omega arith) (omega (arith, s.own_is, s.all_is, k.total)) in
       let hold : HoldsFragments T (held_behind p flags b fs) = subst (HoldsFragments T) e (first_holds L p flags b fs k.hold) in (
         subst (λ (l : List Fragment). KeptFragments T l (count + 1) (count + 1) (set fragment_heads₁ count head) bodies') (sym e)
-            (put_kept T p fs place.index n place.leading fragment_heads bodies at s.index_low k s.leading_low place.start (place.start + place.own) place.free place.all mid s.start_is
+            (put_kept T p fs place.index n place.leading.count fragment_heads bodies at s.index_low k s.leading_low place.start (place.start + place.own) place.leading.bytes place.all mid s.start_is
             (ap (λ (z : ℕ). place.start + z) s.own_is) s.free_is s.all_is m flags b (place.all - place.own) count q fragment_heads₁ (set fragment_heads₁ count head) bodies'
             (ap (λ (z : ℕ). place.all - z) s.own_is) ec small same w out (ap (set fragment_heads₁ count) eh) hold),
         e,
       );
   leading_is = ap (λ (z : ℕ). z + 1) ec;
   once = let o = pack_numbers n fragment_heads bodies place s ns in
-      once_put place.index place.leading place.start (place.start + place.own) place.free place.all bodies mid b bodies' q (omega arith) o.0 o.1 o.2 o.3 o.4 (omega arith) m
+      once_put place.index place.leading.count place.start (place.start + place.own) place.leading.bytes place.all bodies mid b bodies' q (omega arith) o.0 o.1 o.2 o.3 o.4 (omega arith) m
       (subst (λ (z : ℕ). Wrote b mid z bodies' q) (let z : place.all - place.own ≡ place.all - (place.start + place.own - place.start) = omega arith in z) w);
 }
 
@@ -188,12 +174,12 @@ first_room index b rest bodies e =
 
 -- by the place of what it takes the place of
 module _ (p flags : ℕ) (b : Bytes) (n leading : ℕ) (fragment_heads bodies : List ℕ) (place : Place) (e : place.index ≡ index_in p (take n fragment_heads)) (s : Stands n fragment_heads place) where
-  pub first_held : (r : Held) (fragment_heads' bodies' : List ℕ) → Nearest n leading place.leading → PutsBehind place.index p flags b n place.leading fragment_heads bodies r fragment_heads' bodies'
+  pub first_held : (r : Held) (fragment_heads' bodies' : List ℕ) → Nearest n leading place.leading.count → PutsBehind place.index p flags b n place.leading.count fragment_heads bodies r fragment_heads' bodies'
       → HoldsFirst p flags b n leading fragment_heads bodies r fragment_heads' bodies'
   first_held r fragment_heads' bodies' m g = record {
     held = λ L fs k.
         let at : place.index ≡ index_of p fs = e ∙ index_is L.total fs n leading fragment_heads bodies k p in
-        let h = g.held L fs at (nearest_kept L.total fs n leading fragment_heads bodies k place.leading m) in
+        let h = g.held L fs at (nearest_kept L.total fs n leading fragment_heads bodies k place.leading.count m) in
         record {
           kept = h.0;
           leading_is = g.leading_is ∙ ap (λ (z : ℕ). z + 1) (others_count place.index n p fs k.heads.count at k.hold.once)
@@ -203,11 +189,11 @@ module _ (p flags : ℕ) (b : Bytes) (n leading : ℕ) (fragment_heads bodies : 
   }
 
   pub first_not_held : (r : Held) (fragment_heads' bodies' : List ℕ) → n ≤ 256 → (ltb place.index 256 && leb (place.all - place.own + length b) (length bodies)) ≡ false
-      → DropsAt place.index n leading fragment_heads bodies r fragment_heads' bodies' → HoldsFirst p flags b n leading fragment_heads bodies r fragment_heads' bodies'
-  first_not_held r fragment_heads' bodies' few wrong g = record {
+      → (i : ℕ) → place.index ≡ i → DropsAt i n leading fragment_heads bodies r fragment_heads' bodies' → HoldsFirst p flags b n leading fragment_heads bodies r fragment_heads' bodies'
+  first_not_held r fragment_heads' bodies' few wrong i ei g = record {
     held = λ L fs k.
         let at : place.index ≡ index_of p fs = e ∙ index_is L.total fs n leading fragment_heads bodies k p in
-        subst (λ (l : List Fragment). HeldAfter L.total p fs l leading r fragment_heads' bodies') (sym (gone (ltb place.index 256) refl L fs at k)) (g.left L.total p fs at k);
+        subst (λ (l : List Fragment). HeldAfter L.total p fs l leading r fragment_heads' bodies') (sym (gone (ltb place.index 256) refl L fs at k)) (g.left L.total p fs (sym ei ∙ at) k);
     once = g.once b;
   }
     where
@@ -222,36 +208,20 @@ module _ (p flags : ℕ) (b : Bytes) (n leading : ℕ) (fragment_heads bodies : 
           let l : length fs ≤ index_of p fs = omega (arith, k.heads.count) in
           full_so L p flags b fs (omega (arith, ap length (missing p fs l).0, k.heads.count))
 
--- ---- whether a further body fits
-
-module _ (m old most all total : ℕ) where
-  pub fits_not : most < old + m → false ≡ (leb (old + m) most && leb (all + m) total)
-  fits_not h = rw (lt-leb (old + m) most h) refl
-
-  pub room_left : all ≤ total → leb m (total - all) ≡ leb (all + m) total
-  room_left l = go (leb m (total - all)) refl
-    where
-      go : (a : Bool) → leb m (total - all) ≡ a → a ≡ leb (all + m) total
-      go true e = sym (le-leb (all + m) total (omega (arith, leb-true m (total - all) e)))
-      go false e = sym (lt-leb (all + m) total (omega (arith, leb-false m (total - all) e)))
-
-  pub fits_rest : old + m ≤ most → all ≤ total → leb m (total - all) ≡ (leb (old + m) most && leb (all + m) total)
-  fits_rest h l = rw (le-leb (old + m) most h) (room_left l)
-
 -- ---- a further body
 
 pub lengthened : (place : Place) (b : Bytes) (n : ℕ) (fragment_heads bodies : List ℕ) (mid fragment_heads' bodies' : List ℕ) (q : ℕ) → place.index < n → Stands n fragment_heads place
     → Numbers n fragment_heads bodies → place.all + length b ≤ length bodies
-    → FreeMoved place.leading (place.index + 1) place.free (place.start + place.own) place.all bodies mid → length bodies' ≡ length mid
+    → FreeMoved place.leading.count (place.index + 1) place.leading.bytes (place.start + place.own) place.all bodies mid → length bodies' ≡ length mid
     → Wrote b mid (place.start + place.own) bodies' q → fragment_heads' ≡ set fragment_heads place.index (get_or fragment_heads place.index 0 + length b)
-    → Lengthens place.index b n place.leading fragment_heads bodies fragment_heads' bodies'
+    → Lengthens place.index b n place.leading.count fragment_heads bodies fragment_heads' bodies'
 lengthened place b n fragment_heads bodies mid fragment_heads' bodies' q lt s ns fit m same w eh = record {
   grows = λ T p fs at k hold.
-      let k' = free_moved T fs n place.leading fragment_heads bodies k (place.index + 1) place.free (place.start + place.own) place.all mid s.leading_low (omega arith) s.free_is ee s.all_is m in
+      let k' = free_moved T fs n place.leading.count fragment_heads bodies k (place.index + 1) place.leading.bytes (place.start + place.own) place.all mid s.leading_low (omega arith) s.free_is ee s.all_is m in
       grown_in T p fs place.index n (place.index + 1) fragment_heads mid at lt k' b fragment_heads' bodies' q refl (omega (arith, s.all_is, m.same)) same
       (subst (λ (z : ℕ). Wrote b mid z bodies' q) ee w) eh hold;
-  once = let f = free_numbers fragment_heads n place.leading (place.index + 1) place.free (place.start + place.own) place.all (length bodies) s.leading_low (omega arith) ns.within s.free_is ee s.all_is in
-      once_grown place.leading (place.index + 1) place.free (place.start + place.own) place.all bodies mid f.0 f.1 f.2 f.3 f.4 m b bodies' q fit w;
+  once = let f = free_numbers fragment_heads n place.leading.count (place.index + 1) place.leading.bytes (place.start + place.own) place.all (length bodies) s.leading_low (omega arith) ns.within s.free_is ee s.all_is in
+      once_grown place.leading.count (place.index + 1) place.leading.bytes (place.start + place.own) place.all bodies mid f.0 f.1 f.2 f.3 f.4 m b bodies' q fit w;
 }
   where
     ee : place.start + place.own ≡ lens (take (place.index + 1) fragment_heads)
@@ -269,7 +239,7 @@ module _ (most : ℕ) (b : Bytes) (n leading : ℕ) (fragment_heads bodies : Lis
   own_length T p fs at k t =
       let ns = numbers T fs n leading fragment_heads bodies k in
       let len : fragment_length (get_or fragment_heads place.index 0) ≡ length t.fragment.body = ap fragment_length t.head_is ∙ t.tells.length_is in
-      let turn = lens_turn fragment_heads place.index (omega (arith, ns.few, ns.slots_all)) in
+      let turn = lens_turn fragment_heads place.index (omega (arith, ns.few, slots_all T fs n leading fragment_heads bodies k)) in
       omega (arith, s.own_is, own_turn fragment_heads place.index n (omega arith))
 
   fits_is : (L : Limits) (p : ℕ) (fs : List Fragment) → place.index ≡ index_of p fs → L.most ≡ most → KeptFragments L.total fs n leading fragment_heads bodies → (t : There p fs place.index fragment_heads)
@@ -279,9 +249,9 @@ module _ (most : ℕ) (b : Bytes) (n leading : ℕ) (fragment_heads bodies : Lis
       ap₂ (λ (x y : Bool). x && y) (ap₂ (λ (x y : ℕ). leb (x + length b) y) (sym (own_length L.total p fs at k t)) em)
       (ap₂ (λ (x y : ℕ). leb (x + length b) y) (sym (s.all_is ∙ sum_is L.total fs n leading fragment_heads bodies k)) (sym k.total))
 
-  pub grew : (end flags : ℕ) (fragment_heads' bodies' : List ℕ) → Nearest n leading place.leading
+  pub grew : (end flags : ℕ) (fragment_heads' bodies' : List ℕ) → Nearest n leading place.leading.count
       → end ≡ place.start + place.own + length b → flags ≡ fragment_flags (get_or fragment_heads place.index 0) → test ≡ true
-      → Lengthens place.index b n place.leading fragment_heads bodies fragment_heads' bodies'
+      → Lengthens place.index b n place.leading.count fragment_heads bodies fragment_heads' bodies'
       → GrowsAtIndex place.index most b n leading fragment_heads bodies (Grown.At place.start end flags (record { count = n; leading = place.index + 1 })) fragment_heads' bodies'
   grew end flags fragment_heads' bodies' m ee ef ok u = record {
     is = λ L p fs at em k.
@@ -290,7 +260,7 @@ module _ (most : ℕ) (b : Bytes) (n leading : ℕ) (fragment_heads bodies : Lis
         let fit : fits L f b fs ≡ true = fits_is L p fs at em k t ∙ ok in
         let hold : HoldsFragments L.total (grow_in p b fs) =
         subst (λ (a : Bool). HoldsFragments L.total (cond a (grow_in p b fs) (without p fs))) fit (middle_holds L p b fs (some f) k.hold) in
-        let g = u.grows L.total p fs at (nearest_kept L.total fs n leading fragment_heads bodies k place.leading m) hold in
+        let g = u.grows L.total p fs at (nearest_kept L.total fs n leading fragment_heads bodies k place.leading.count m) hold in
         let one : g.fragment ≡ f = some-injective _ _ (sym g.found ∙ t.found) in
         let len : place.own ≡ length f.body = own_length L.total p fs at k t in
         let less : place.start + place.own ≤ place.all = (stands_so n fragment_heads place s).0 in
@@ -385,10 +355,10 @@ module _ (p most : ℕ) (b : Bytes) (n leading : ℕ) (fragment_heads bodies : L
 -- ---- a last that was joined: it grew, and is given back
 
 module _ (L : Limits) (p : ℕ) (b : Bytes) (fs : List Fragment) (start end flags : ℕ) (h : Held) (fragment_heads : List ℕ) (bodies : Bytes) (g : GrewAt L p b fs start end flags h fragment_heads bodies) where
-  pub grew_numbers : (0 < h.leading) × (h.leading ≤ h.count) × (h.count ≤ 256) × (length fragment_heads ≡ 256)
+  pub grew_numbers : (0 < h.leading) × (h.leading ≤ h.count) × (h.count ≤ 256)
   grew_numbers =
       let ns = numbers L.total (grow_in p b fs) h.count h.leading fragment_heads bodies g.kept in
-      (omega (arith, g.leading_is), g.leading_low, ns.few, ns.slots_all)
+      (omega (arith, g.leading_is), g.leading_low, ns.few)
 
   pub joined_gone : (r : Held) (fragment_heads' : List ℕ) (leading : ℕ) → GivesBack h.count h.leading fragment_heads r fragment_heads'
       → HeldAfter L.total p fs (without p fs) leading r fragment_heads' bodies

@@ -80,7 +80,6 @@ KeepsFragments n leading fragment_heads bodies = (T : ℕ) × (fs : List Fragmen
 -- The numbers of heads and a room that hold fragments.
 pub record Numbers (n : ℕ) (fragment_heads : List ℕ) (bodies : Bytes) : Type 0 where
   pub few : n ≤ 256
-  pub slots_all : length fragment_heads ≡ 256
   pub within : lens (take n fragment_heads) ≤ length bodies
   pub total_few : length bodies ≤ 16777216
 
@@ -98,21 +97,15 @@ pub record Nearest (n leading r : ℕ) : Type 0 where
 -- A place, by the lengths in the heads: of the fragment at its index, or of one that would stand behind all.
 pub record Stands (n : ℕ) (fragment_heads : List ℕ) (place : Place) : Type 0 where
   pub index_low : place.index ≤ n
-  pub leading_low : place.leading ≤ n
+  pub leading_low : place.leading.count ≤ n
   pub start_is : place.start ≡ lens (take place.index fragment_heads)
   pub own_is : place.own ≡ length_at place.index n fragment_heads
-  pub free_is : place.free ≡ lens (take place.leading fragment_heads)
+  pub free_is : place.leading.bytes ≡ lens (take place.leading.count fragment_heads)
   pub all_is : place.all ≡ lens (take n fragment_heads)
 
 -- ---- a fragment given up
 
-pub record GivesUp (index n leading : ℕ) (fragment_heads : List ℕ) (bodies : Bytes) (r : Held) (fragment_heads' : List ℕ) (bodies' : Bytes) : Type 0 where
-  pub left : (T p : ℕ) (fs : List Fragment) → index ≡ index_of p fs → KeptFragments T fs n leading fragment_heads bodies
-      → KeptFragments T (without p fs) r.count r.leading fragment_heads' bodies'
-  pub leading_is : r.leading ≡ index
-  pub once : (b : Bytes) → MovedOnce bodies b bodies'
-
--- The same, where there may be none at the index.
+-- At an index, where there may be none.
 pub record DropsAt (index n leading : ℕ) (fragment_heads : List ℕ) (bodies : Bytes) (r : Held) (fragment_heads' : List ℕ) (bodies' : Bytes) : Type 0 where
   pub left : (T p : ℕ) (fs : List Fragment) → index ≡ index_of p fs → KeptFragments T fs n leading fragment_heads bodies
       → HeldAfter T p fs (without p fs) leading r fragment_heads' bodies'

@@ -3,15 +3,22 @@
 // for one incoming body only what stands between their old and their new place moves, and each byte of it once.
 #![tactic(auto)]
 
-ghost use Rattle.std.specs.Prelude.{◌≡◌, ◌+◌, ◌-◌, ◌*◌, ◌%◌, ◌≤◌, ◌<◌, ◌&&◌, [], ◌∷◌, ◌++◌, length, take, drop, leb, ltb};
+ghost use Rattle.std.specs.Prelude.{◌≡◌, ◌+◌, ◌-◌, ◌*◌, ◌%◌, ◌≤◌, ◌<◌, ◌&&◌, [], ◌∷◌, ◌++◌, length, take, drop, leb, ltb, unwrap_or, position, IfSome, ◌==◌};
 ghost use Rattle.meaning.specs.Writing.{Wrote};
-ghost use Rattle.meaning.specs.Record.{fragment_flags, fragment_length, lens};
-ghost use Rattle.fragments.specs.Fragments.{index_in, others_of, length_at, TakesOut, FreeMoved, Packed, KeepsFragments, Numbers, Nearest, Stands, GivesUp, DropsAt, Drops, GivesBack, PutsBehind, HoldsFirst, Lengthens, GrowsWithin, GrowsAtIndex, LearnsMiddle};
+ghost use Rattle.meaning.specs.Record.{fragment_identifier, fragment_flags, fragment_length, lens};
+ghost use Rattle.fragments.specs.Fragments.{index_in, others_of, length_at, TakesOut, FreeMoved, Packed, KeepsFragments, Numbers, Nearest, Stands, DropsAt, Drops, GivesBack, PutsBehind, HoldsFirst, Lengthens, GrowsWithin, GrowsAtIndex, LearnsMiddle};
 
 use octets::{copy, move_down, move_up};
 
-// What a head says of its fragment: its length.
-fn length_of(head: u64) -> usize
+// What a head says of its fragment: its identifier.
+pub fn identifier_of(head: u64) -> u16
+    ensures { result ≡ fragment_identifier head }
+{
+    (head / 281474976710656) as u16
+}
+
+// Its length.
+pub fn length_of(head: u64) -> usize
     ensures { (result ≡ fragment_length head) × (result < 1099511627776) }
 {
     (head % 1099511627776) as usize
@@ -41,108 +48,92 @@ fn longer(head: u64, m: usize) -> u64
     head + (m as u64)
 }
 
-// The bytes of the first `n` fragments.
-fn fragment_bytes(fragment_heads: &[u64; 256], n: usize) -> usize
-    requires { (n ≤ 256) × (length fragment_heads.now ≡ 256) }
-    ensures { (result ≡ lens (take n fragment_heads.now)) × (result ≤ n * 1099511627776) }
+// The bytes of all these fragments.
+fn fragment_bytes(heads: &[u64]) -> usize
+    requires { length heads.now ≤ 256 }
+    ensures { result ≡ lens heads.now }
 {
-    let mut sum: usize = 0;
-    let mut i: usize = 0;
-    while i < n {
-        sum += length_of(fragment_heads[i]);
-        i += 1;
-    }
-    sum
+    heads.iter().map(|&head| length_of(head)).sum()
 }
 
-// The index of the identifier's fragment, `n` where there is none.
-fn find_fragment(fragment_heads: &[u64; 256], n: usize, id: u16) -> usize
-    requires { (n ≤ 256) × (length fragment_heads.now ≡ 256) }
-    ensures { (result ≡ index_in id (take n fragment_heads.now)) × (result ≤ n) }
+// The index of the identifier's fragment, if one of these is.
+fn find_fragment(heads: &[u64], id: u16) -> Option<usize>
+    ensures { result ≡ position (λ head. fragment_identifier head == id) heads.now }
 {
-    let p = id as u64;
-    let mut i: usize = 0;
-    while i < n {
-        if fragment_heads[i] / 281474976710656 == p {
-            return i;
-        }
-        i += 1;
-    }
-    n
+    heads.iter().position(|&head| identifier_of(head) == id)
 }
 
 // Closes the gap at `at`: the heads behind it one slot down, the last slot free.
 fn close_slot(fragment_heads: &mut [u64; 256], n: usize, at: usize)
-    requires { (at < n) × (n ≤ 256) × (length fragment_heads.old ≡ 256) }
+    requires { (at < n) × (n ≤ 256) }
     ensures { Wrote (take (n - 1 - at) (drop (at + 1) fragment_heads.old) ++ (0 ∷ [])) fragment_heads.old at fragment_heads.new n }
 {
-    let mut i: usize = 0;
-    while at + 1 + i < n {
-        fragment_heads[at + i] = fragment_heads[at + 1 + i];
-        i += 1;
-    }
-    fragment_heads[at + i] = 0;
+    fragment_heads.copy_within(at + 1..n, at);
+    fragment_heads[n - 1] = 0;
 }
 
-// How many are held without the one at `index`, if there is one.
-fn others(index: usize, n: usize) -> usize
-    ensures { result ≡ others_of index n }
+// Takes out the head at `index`, if there is one. Answers how many are held then.
+fn take_out(fragment_heads: &mut [u64; 256], n: usize, index: usize) -> usize
+    requires { n ≤ 256 }
+    ensures out { TakesOut index n fragment_heads.old fragment_heads.new }
+    ensures count { result ≡ others_of index n }
+    ensures slot { index ≤ n → index < 256 → result < 256 }
 {
     if index < n {
+        close_slot(fragment_heads, n, index);
         return n - 1;
     }
     n
 }
 
-// Takes out the head at `index`, if there is one.
-fn take_out(fragment_heads: &mut [u64; 256], n: usize, index: usize)
-    requires { (n ≤ 256) × (length fragment_heads.old ≡ 256) }
-    ensures { TakesOut index n fragment_heads.old fragment_heads.new }
+// The length of the fragment at `index` of these, 0 where there is none.
+fn length_at(heads: &[u64], index: usize) -> usize
+    ensures { result ≡ lens (take 1 (drop index heads.now)) }
 {
-    if index < n {
-        close_slot(fragment_heads, n, index);
+    match heads.get(index) {
+        Some(&head) => length_of(head),
+        None => 0,
     }
 }
 
-// The length of the fragment at `index`, 0 where there is none.
-fn length_at(fragment_heads: &[u64; 256], n: usize, index: usize) -> usize
-    requires { (n ≤ 256) × (length fragment_heads.now ≡ 256) }
-    ensures { result ≡ length_at index n fragment_heads.now }
-{
-    if index < n {
-        return length_of(fragment_heads[index]);
-    }
-    0
-}
-
-// How many fragments are held, and how many of them lead.
+// So many fragments that lead, and the bytes of their bodies: the free bytes stand behind these.
 #[derive(Clone, Copy)]
-pub struct Held {
-    pub count: usize,
-    pub leading: usize,
+struct Leading {
+    count: usize,
+    bytes: usize,
 }
 
-// The sense of a number of leading fragments that is handed in: at most all lead.
-fn nearest(n: usize, leading: usize) -> usize
-    ensures { Nearest n leading result }
+// The first `count`, leading.
+fn leading_of(fragment_heads: &[u64; 256], count: usize) -> Leading
+    requires { count ≤ 256 }
+    ensures { (result.count ≡ count) × (result.bytes ≡ lens (take result.count fragment_heads.now)) }
 {
-    if n < leading {
-        return n;
+    Leading {
+        count,
+        bytes: fragment_bytes(&fragment_heads[..count]),
     }
-    leading
 }
 
-// The free bytes, behind the `old` bytes of the first `leading` fragments, go behind the `new` bytes of the first `to`: what stands between
-// goes to their other side.
-fn move_free(leading: usize, to: usize, old: usize, new: usize, all: usize, bodies: &mut [u8])
-    requires { (leading < to → old ≤ new) × (to ≤ leading → new ≤ old) × (old ≤ all) × (new ≤ all) × (all ≤ length bodies.old) }
-    ensures { FreeMoved leading to old new all bodies.old bodies.new }
+// The free bytes, behind those that lead, go behind those that lead `to`: what stands between goes to their other side.
+fn move_free(from: Leading, to: Leading, all: usize, bodies: &mut [u8])
+    requires { (from.count < to.count → from.bytes ≤ to.bytes) × (to.count ≤ from.count → to.bytes ≤ from.bytes) × (from.bytes ≤ all) × (to.bytes ≤ all) × (all ≤ length bodies.old) }
+    ensures { FreeMoved from.count to.count from.bytes to.bytes all bodies.old bodies.new }
 {
-    if leading < to {
-        move_down(bodies, bodies.len() - (all - old), new - old, old);
+    if from.count < to.count {
+        move_down(
+            bodies,
+            bodies.len() - (all - from.bytes),
+            to.bytes - from.bytes,
+            from.bytes,
+        );
         return;
     }
-    move_up(bodies, new, old - new, bodies.len() - (all - new));
+    move_up(
+        bodies,
+        to.bytes,
+        from.bytes - to.bytes,
+        bodies.len() - (all - to.bytes),
+    );
 }
 
 // How many lead when the free bytes come beside the fragment at `index`, from where they are.
@@ -155,214 +146,60 @@ fn beside(index: usize, leading: usize) -> usize
     index
 }
 
-// Gives up the fragment at `index`: the free bytes come beside it, and its own are theirs then.
-fn give_up(
-    index: usize,
-    n: usize,
-    leading: usize,
-    fragment_heads: &mut [u64; 256],
-    bodies: &mut [u8],
-) -> Held
-    requires { (index < n) × (leading ≤ n) × Numbers n fragment_heads.old bodies.old }
-    ensures { GivesUp index n leading fragment_heads.old bodies.old result fragment_heads.new bodies.new }
-{
-    let to = beside(index, leading);
-    let old = fragment_bytes(fragment_heads, leading);
-    let new = fragment_bytes(fragment_heads, to);
-    let all = fragment_bytes(fragment_heads, n);
-    move_free(leading, to, old, new, all, bodies);
-    close_slot(fragment_heads, n, index);
-    Held {
-        count: n - 1,
-        leading: index,
-    }
-}
-
-// Gives up the fragment at `index`, if there is one.
-fn drop_at(
-    index: usize,
-    n: usize,
-    leading: usize,
-    fragment_heads: &mut [u64; 256],
-    bodies: &mut [u8],
-) -> Held
-    requires { Numbers n fragment_heads.old bodies.old }
-    ensures { DropsAt index n leading fragment_heads.old bodies.old result fragment_heads.new bodies.new }
-{
-    if index < n {
-        return give_up(index, n, nearest(n, leading), fragment_heads, bodies);
-    }
-    Held { count: n, leading }
-}
-
-// Drops what is held of the identifier.
-pub fn drop_fragment(
-    id: u16,
-    n: usize,
-    leading: usize,
-    fragment_heads: &mut [u64; 256],
-    bodies: &mut [u8],
-) -> Held
-    requires { KeepsFragments n leading fragment_heads.old bodies.old }
-    ensures { Drops id n leading fragment_heads.old bodies.old result fragment_heads.new bodies.new }
-{
-    let index = find_fragment(fragment_heads, n, id);
-    drop_at(index, n, leading, fragment_heads, bodies)
-}
-
-// Gives back the last that leads, the one that grew last: its bytes are free then, and the room is not touched.
-pub fn give_back(n: usize, leading: usize, fragment_heads: &mut [u64; 256]) -> Held
-    requires { (0 < leading) × (leading ≤ n) × (n ≤ 256) × (length fragment_heads.old ≡ 256) }
-    ensures { GivesBack n leading fragment_heads.old result fragment_heads.new }
-{
-    close_slot(fragment_heads, n, leading - 1);
-    Held {
-        count: n - 1,
-        leading: leading - 1,
-    }
-}
-
-// Where the fragment at `index` stands, and where the free bytes do, behind the first `leading`. Counted as if none were free, it has `own` bytes
-// from `start` on, and they are at `free`; all fragments have `all` bytes.
+// Where the fragment at `index` stands, and where the free bytes do, behind those that lead. Counted as if none were free, it has `own` bytes
+// from `start` on; all fragments have `all` bytes.
 #[derive(Clone, Copy)]
 struct Place {
     index: usize,
-    leading: usize,
     start: usize,
     own: usize,
-    free: usize,
+    leading: Leading,
     all: usize,
 }
 
-// The place of the fragment at `index`, or of one that would stand behind all.
-fn place_of(index: usize, n: usize, leading: usize, fragment_heads: &[u64; 256]) -> Place
-    requires { (index ≤ n) × (n ≤ 256) × (length fragment_heads.now ≡ 256) }
-    ensures { (result.index ≡ index) × Nearest n leading result.leading × Stands n fragment_heads.now result }
-{
-    let near = nearest(n, leading);
-    let start = fragment_bytes(fragment_heads, index);
-    let own = length_at(fragment_heads, n, index);
-    let free = fragment_bytes(fragment_heads, near);
-    let all = fragment_bytes(fragment_heads, n);
-    Place {
-        index,
-        leading: near,
-        start,
-        own,
-        free,
-        all,
+impl Place {
+    // Packs all bodies at the front but the one of this place: first what stands between it and the free bytes goes down, then what stands
+    // behind both. Were it given up before, what leads behind it would go up, and then down again.
+    fn pack(self, bodies: &mut [u8])
+        requires { (self.start + self.own ≤ self.all) × (self.leading.bytes ≤ self.all) × (self.all ≤ length bodies.old) × (self.index < self.leading.count → self.start + self.own ≤ self.leading.bytes) × (self.leading.count ≤ self.index → self.leading.bytes ≤ self.start) }
+        ensures { Packed self.index self.leading.count self.start (self.start + self.own) self.leading.bytes self.all bodies.old bodies.new }
+    {
+        let total = bodies.len();
+        let start = self.start;
+        let end = start + self.own;
+        let free = self.leading.bytes;
+        let all = self.all;
+        if self.index < self.leading.count {
+            move_down(bodies, end, free - end, start);
+            move_down(bodies, total - (all - free), all - free, free - self.own);
+            return;
+        }
+        move_down(bodies, total - (all - free), start - free, free);
+        move_down(bodies, total - (all - end), all - end, start);
+    }
+
+    // Whether a first of `m` bytes can be held in the place of this one: there is a free slot, or its own, and room beside the others.
+    fn first_fits(self, m: usize, total: usize) -> bool
+        requires { (self.own ≤ self.all) × (self.all ≤ total) }
+        ensures { result ≡ (ltb self.index 256 && leb (self.all - self.own + m) total) }
+    {
+        self.index < 256 && m <= total - (self.all - self.own)
+    }
+
+    // Whether `m` bytes more keep this fragment within `most`, and all fragments within `total`.
+    fn fits(self, m: usize, most: usize, total: usize) -> bool
+        requires { self.all ≤ total }
+        ensures { result ≡ (leb (self.own + m) most && leb (self.all + m) total) }
+    {
+        m <= most && self.own <= most - m && m <= total - self.all
     }
 }
 
-// Packs all bodies at the front but the one of this place: first what stands between it and the free bytes goes down, then what stands behind
-// both. Were it given up before, what leads behind it would go up, and then down again.
-fn pack(place: Place, bodies: &mut [u8])
-    requires { (place.start + place.own ≤ place.all) × (place.free ≤ place.all) × (place.all ≤ length bodies.old) × (place.index < place.leading → place.start + place.own ≤ place.free) × (place.leading ≤ place.index → place.free ≤ place.start) }
-    ensures { Packed place.index place.leading place.start (place.start + place.own) place.free place.all bodies.old bodies.new }
-{
-    let total = bodies.len();
-    let start = place.start;
-    let end = start + place.own;
-    let free = place.free;
-    let all = place.all;
-    if place.index < place.leading {
-        move_down(bodies, end, free - end, start);
-        move_down(bodies, total - (all - free), all - free, free - place.own);
-        return;
-    }
-    move_down(bodies, total - (all - free), start - free, free);
-    move_down(bodies, total - (all - end), all - end, start);
-}
-
-// Holds a first behind the others; what was held of its identifier, at this place, goes.
-fn put_behind(
-    place: Place,
-    id: u16,
-    flags: u8,
-    body: &[u8],
-    n: usize,
-    fragment_heads: &mut [u64; 256],
-    bodies: &mut [u8],
-) -> Held
-    requires { (place.index < 256) × Stands n fragment_heads.old place × Numbers n fragment_heads.old bodies.old × (place.all - place.own + length body.now ≤ length bodies.old) }
-    ensures { PutsBehind place.index id flags body.now n place.leading fragment_heads.old bodies.old result fragment_heads.new bodies.new }
-{
-    pack(place, bodies);
-    copy(body, bodies, place.all - place.own);
-    take_out(fragment_heads, n, place.index);
-    let count = others(place.index, n);
-    fragment_heads[count] = fragment_head(id, flags, body.len());
-    Held {
-        count: count + 1,
-        leading: count + 1,
-    }
-}
-
-// Whether a first of `m` bytes can be held beside others of `rest` bytes: there is a free slot, or its identifier's own at `index`, and room.
-fn first_fits(index: usize, m: usize, rest: usize, total: usize) -> bool
-    requires { rest ≤ total }
-    ensures { result ≡ (ltb index 256 && leb (rest + m) total) }
-{
-    if 256 <= index {
-        return false;
-    }
-    m <= total - rest
-}
-
-// A first: what was held of its identifier goes, and it is held if there is a free slot and room.
-pub fn hold_first(
-    id: u16,
-    flags: u8,
-    body: &[u8],
-    n: usize,
-    leading: usize,
-    fragment_heads: &mut [u64; 256],
-    bodies: &mut [u8],
-) -> Held
-    requires { KeepsFragments n leading fragment_heads.old bodies.old }
-    ensures { HoldsFirst id flags body.now n leading fragment_heads.old bodies.old result fragment_heads.new bodies.new }
-{
-    let index = find_fragment(fragment_heads, n, id);
-    let place = place_of(index, n, leading, fragment_heads);
-    if first_fits(place.index, body.len(), place.all - place.own, bodies.len()) {
-        return put_behind(place, id, flags, body, n, fragment_heads, bodies);
-    }
-    drop_at(place.index, n, leading, fragment_heads, bodies)
-}
-
-// Whether `m` bytes more keep a fragment of `old` bytes within `most`, and all fragments within `total`.
-fn fits(m: usize, old: usize, most: usize, all: usize, total: usize) -> bool
-    requires { all ≤ total }
-    ensures { result ≡ (leb (old + m) most && leb (all + m) total) }
-{
-    if most < m {
-        return false;
-    }
-    if most - m < old {
-        return false;
-    }
-    m <= total - all
-}
-
-// The fragment of this place with `body` behind it: the free bytes come there and take it up. Answers where it ends then.
-fn lengthen(
-    place: Place,
-    body: &[u8],
-    n: usize,
-    fragment_heads: &mut [u64; 256],
-    bodies: &mut [u8],
-) -> usize
-    requires { (place.index < n) × Stands n fragment_heads.old place × Numbers n fragment_heads.old bodies.old × (place.all + length body.now ≤ length bodies.old) }
-    ensures lengthens { Lengthens place.index body.now n place.leading fragment_heads.old bodies.old fragment_heads.new bodies.new }
-    ensures value { result ≡ place.start + place.own + length body.now }
-{
-    let index = place.index;
-    let end = place.start + place.own;
-    let m = body.len();
-    move_free(place.leading, index + 1, place.free, end, place.all, bodies);
-    copy(body, bodies, end);
-    fragment_heads[index] = longer(fragment_heads[index], m);
-    end + m
+// How many fragments are held, and how many of them lead.
+#[derive(Clone, Copy)]
+pub struct Held {
+    pub count: usize,
+    pub leading: usize,
 }
 
 // What became of a fragment with a further body: it grew and stands there, it was given up, or there is none.
@@ -378,79 +215,214 @@ pub enum Grown {
     Absent,
 }
 
-// The fragment of this place grows by `body` within the limits, or is given up.
-fn grow_at(
-    place: Place,
-    body: &[u8],
-    most: usize,
-    n: usize,
-    leading: usize,
-    fragment_heads: &mut [u64; 256],
-    bodies: &mut [u8],
-) -> Grown
-    requires { (place.index < n) × Nearest n leading place.leading × Stands n fragment_heads.old place × Numbers n fragment_heads.old bodies.old }
-    ensures { GrowsAtIndex place.index most body.now n leading fragment_heads.old bodies.old result fragment_heads.new bodies.new }
-{
-    let index = place.index;
-    if fits(body.len(), place.own, most, place.all, bodies.len()) {
-        let flags = flags_of(fragment_heads[index]);
-        let end = lengthen(place, body, n, fragment_heads, bodies);
-        let held = Held {
-            count: n,
-            leading: index + 1,
-        };
-        return Grown::At {
-            start: place.start,
-            end,
-            flags,
-            held,
-        };
+impl Held {
+    // The sense of a number of leading fragments that is handed in: at most all lead.
+    fn nearest(self) -> usize
+        ensures { Nearest self.count self.leading result }
+    {
+        self.leading.min(self.count)
     }
-    Grown::Discarded(drop_at(index, n, leading, fragment_heads, bodies))
-}
 
-// A further body for the identifier's fragment: it grows within `most` and the room, or is given up.
-pub fn grow(
-    id: u16,
-    body: &[u8],
-    most: usize,
-    n: usize,
-    leading: usize,
-    fragment_heads: &mut [u64; 256],
-    bodies: &mut [u8],
-) -> Grown
-    requires { KeepsFragments n leading fragment_heads.old bodies.old }
-    ensures { GrowsWithin id most body.now n leading fragment_heads.old bodies.old result fragment_heads.new bodies.new }
-{
-    let index = find_fragment(fragment_heads, n, id);
-    if index < n {
-        let place = place_of(index, n, leading, fragment_heads);
-        return grow_at(place, body, most, n, leading, fragment_heads, bodies);
+    // Gives up the fragment at `index`: the free bytes come beside it, and its own are theirs then.
+    fn give_up(self, index: usize, fragment_heads: &mut [u64; 256], bodies: &mut [u8]) -> Held
+        requires { (index < self.count) × Numbers self.count fragment_heads.old bodies.old }
+        ensures { DropsAt index self.count self.leading fragment_heads.old bodies.old result fragment_heads.new bodies.new }
+    {
+        let leading = leading_of(fragment_heads, self.nearest());
+        let to = leading_of(fragment_heads, beside(index, leading.count));
+        let all = fragment_bytes(&fragment_heads[..self.count]);
+        move_free(leading, to, all, bodies);
+        close_slot(fragment_heads, self.count, index);
+        Held {
+            count: self.count - 1,
+            leading: index,
+        }
     }
-    Grown::Absent
-}
 
-// A middle: joined to the identifier's fragment, if there is one and it fits.
-pub fn middle(
-    id: u16,
-    body: &[u8],
-    most: usize,
-    n: usize,
-    leading: usize,
-    fragment_heads: &mut [u64; 256],
-    bodies: &mut [u8],
-) -> Held
-    requires { KeepsFragments n leading fragment_heads.old bodies.old }
-    ensures { LearnsMiddle id most body.now n leading fragment_heads.old bodies.old result fragment_heads.new bodies.new }
-{
-    match grow(id, body, most, n, leading, fragment_heads, bodies) {
-        Grown::At {
-            start: _,
-            end: _,
-            flags: _,
-            held,
-        } => held,
-        Grown::Discarded(held) => held,
-        Grown::Absent => Held { count: n, leading },
+    // Gives up the fragment that was found, if one was.
+    fn drop_found(
+        self,
+        found: Option<usize>,
+        fragment_heads: &mut [u64; 256],
+        bodies: &mut [u8],
+    ) -> Held
+        requires { IfSome found (λ index. index < self.count) × Numbers self.count fragment_heads.old bodies.old }
+        ensures { DropsAt (unwrap_or found self.count) self.count self.leading fragment_heads.old bodies.old result fragment_heads.new bodies.new }
+    {
+        match found {
+            Some(index) => self.give_up(index, fragment_heads, bodies),
+            None => self,
+        }
+    }
+
+    // Drops what is held of the identifier.
+    pub fn drop_fragment(self, id: u16, fragment_heads: &mut [u64; 256], bodies: &mut [u8]) -> Held
+        requires { KeepsFragments self.count self.leading fragment_heads.old bodies.old }
+        ensures { Drops id self.count self.leading fragment_heads.old bodies.old result fragment_heads.new bodies.new }
+    {
+        let found = find_fragment(&fragment_heads[..self.count], id);
+        self.drop_found(found, fragment_heads, bodies)
+    }
+
+    // Gives back the last that leads, the one that grew last: its bytes are free then, and the room is not touched.
+    pub fn give_back(self, fragment_heads: &mut [u64; 256]) -> Held
+        requires { (0 < self.leading) × (self.leading ≤ self.count) × (self.count ≤ 256) }
+        ensures { GivesBack self.count self.leading fragment_heads.old result fragment_heads.new }
+    {
+        close_slot(fragment_heads, self.count, self.leading - 1);
+        Held {
+            count: self.count - 1,
+            leading: self.leading - 1,
+        }
+    }
+
+    // The place of the fragment at `index`, or of one that would stand behind all.
+    fn place_of(self, index: usize, fragment_heads: &[u64; 256]) -> Place
+        requires { (index ≤ self.count) × (self.count ≤ 256) }
+        ensures { (result.index ≡ index) × Nearest self.count self.leading result.leading.count × Stands self.count fragment_heads.now result }
+    {
+        let heads = &fragment_heads[..self.count];
+        Place {
+            index,
+            start: fragment_bytes(&fragment_heads[..index]),
+            own: length_at(heads, index),
+            leading: leading_of(fragment_heads, self.nearest()),
+            all: fragment_bytes(heads),
+        }
+    }
+
+    // Holds a first behind the others; what was held of its identifier, at this place, goes.
+    fn put_behind(
+        self,
+        place: Place,
+        id: u16,
+        flags: u8,
+        body: &[u8],
+        fragment_heads: &mut [u64; 256],
+        bodies: &mut [u8],
+    ) -> Held
+        requires { (place.index < 256) × Stands self.count fragment_heads.old place × Numbers self.count fragment_heads.old bodies.old × (place.all - place.own + length body.now ≤ length bodies.old) }
+        ensures { PutsBehind place.index id flags body.now self.count place.leading.count fragment_heads.old bodies.old result fragment_heads.new bodies.new }
+    {
+        place.pack(bodies);
+        copy(body, bodies, place.all - place.own);
+        let count = take_out(fragment_heads, self.count, place.index);
+        fragment_heads[count] = fragment_head(id, flags, body.len());
+        Held {
+            count: count + 1,
+            leading: count + 1,
+        }
+    }
+
+    // A first: what was held of its identifier goes, and it is held if there is a free slot and room.
+    pub fn hold_first(
+        self,
+        id: u16,
+        flags: u8,
+        body: &[u8],
+        fragment_heads: &mut [u64; 256],
+        bodies: &mut [u8],
+    ) -> Held
+        requires { KeepsFragments self.count self.leading fragment_heads.old bodies.old }
+        ensures { HoldsFirst id flags body.now self.count self.leading fragment_heads.old bodies.old result fragment_heads.new bodies.new }
+    {
+        let found = find_fragment(&fragment_heads[..self.count], id);
+        let place = self.place_of(found.unwrap_or(self.count), fragment_heads);
+        if place.first_fits(body.len(), bodies.len()) {
+            return self.put_behind(place, id, flags, body, fragment_heads, bodies);
+        }
+        self.drop_found(found, fragment_heads, bodies)
+    }
+
+    // The fragment of this place with `body` behind it: the free bytes come there and take it up. Answers where it ends then.
+    fn lengthen(
+        self,
+        place: Place,
+        body: &[u8],
+        fragment_heads: &mut [u64; 256],
+        bodies: &mut [u8],
+    ) -> usize
+        requires { (place.index < self.count) × Stands self.count fragment_heads.old place × Numbers self.count fragment_heads.old bodies.old × (place.all + length body.now ≤ length bodies.old) }
+        ensures lengthens { Lengthens place.index body.now self.count place.leading.count fragment_heads.old bodies.old fragment_heads.new bodies.new }
+        ensures value { result ≡ place.start + place.own + length body.now }
+    {
+        let index = place.index;
+        let end = place.start + place.own;
+        let to = Leading {
+            count: index + 1,
+            bytes: end,
+        };
+        move_free(place.leading, to, place.all, bodies);
+        copy(body, bodies, end);
+        fragment_heads[index] = longer(fragment_heads[index], body.len());
+        end + body.len()
+    }
+
+    // The fragment of this place grows by `body` within the limits, or is given up.
+    fn grow_at(
+        self,
+        place: Place,
+        body: &[u8],
+        most: usize,
+        fragment_heads: &mut [u64; 256],
+        bodies: &mut [u8],
+    ) -> Grown
+        requires { (place.index < self.count) × Nearest self.count self.leading place.leading.count × Stands self.count fragment_heads.old place × Numbers self.count fragment_heads.old bodies.old }
+        ensures { GrowsAtIndex place.index most body.now self.count self.leading fragment_heads.old bodies.old result fragment_heads.new bodies.new }
+    {
+        let index = place.index;
+        if place.fits(body.len(), most, bodies.len()) {
+            let flags = flags_of(fragment_heads[index]);
+            let end = self.lengthen(place, body, fragment_heads, bodies);
+            let held = Held {
+                count: self.count,
+                leading: index + 1,
+            };
+            return Grown::At {
+                start: place.start,
+                end,
+                flags,
+                held,
+            };
+        }
+        Grown::Discarded(self.give_up(index, fragment_heads, bodies))
+    }
+
+    // A further body for the identifier's fragment: it grows within `most` and the room, or is given up.
+    pub fn grow(
+        self,
+        id: u16,
+        body: &[u8],
+        most: usize,
+        fragment_heads: &mut [u64; 256],
+        bodies: &mut [u8],
+    ) -> Grown
+        requires { KeepsFragments self.count self.leading fragment_heads.old bodies.old }
+        ensures { GrowsWithin id most body.now self.count self.leading fragment_heads.old bodies.old result fragment_heads.new bodies.new }
+    {
+        let Some(index) = find_fragment(&fragment_heads[..self.count], id) else {
+            return Grown::Absent;
+        };
+        let place = self.place_of(index, fragment_heads);
+        self.grow_at(place, body, most, fragment_heads, bodies)
+    }
+
+    // A middle: joined to the identifier's fragment, if there is one and it fits.
+    pub fn middle(
+        self,
+        id: u16,
+        body: &[u8],
+        most: usize,
+        fragment_heads: &mut [u64; 256],
+        bodies: &mut [u8],
+    ) -> Held
+        requires { KeepsFragments self.count self.leading fragment_heads.old bodies.old }
+        ensures { LearnsMiddle id most body.now self.count self.leading fragment_heads.old bodies.old result fragment_heads.new bodies.new }
+    {
+        match self.grow(id, body, most, fragment_heads, bodies) {
+            Grown::At { held, .. } => held,
+            Grown::Discarded(held) => held,
+            Grown::Absent => self,
+        }
     }
 }

@@ -41,6 +41,10 @@ Observes step new lead most e kept map_room bodies r kept' map_room' bodies' =
 abbrev pub lead_by : ℕ → (Limits → Known → Learnt) → Limits → Known → ℕ → ℕ
 lead_by p step L k leading = leading_after p k.fragments (step L k).known.fragments leading
 
+-- What an extent tells of the fragments, and one that tells what is held.
+abbrev pub held_of : Extent → Held
+held_of e = record { count = e.fragment_count; leading = e.leading }
+
 abbrev pub with_held : Extent → Held → Extent
 with_held e h = record e { fragment_count = h.count; leading = h.leading }
 

@@ -6,12 +6,11 @@ ghost use Rattle.meaning.specs.Moves.{MovedOnce};
 ghost use Rattle.fragments.specs.Fragments.{KeepsFragments, HoldsFirst, LearnsMiddle};
 ghost use Rattle.learning.specs.News.{also};
 ghost use Rattle.observing.specs.News.{anything, news};
-ghost use Rattle.observing.specs.Observed.{HoldingSome, Observes, lead_by, with_held, Tells, whole_step, whole_new, last_step, last_new, by_step, by_new};
+ghost use Rattle.observing.specs.Observed.{HoldingSome, Observes, lead_by, held_of, with_held, Tells, whole_step, whole_new, last_step, last_new, by_step, by_new};
 
-use crate::messages::learn;
-use fragments::{Grown, Held, drop_fragment, give_back, grow, hold_first};
+use crate::messages::{Indicator, learn};
+use fragments::{Grown, Held};
 use learning::{Extent, Kept, News, with_news};
-use octets::has;
 
 // A payload's bytes from 2 on.
 fn body_of(payload: &[u8]) -> &[u8]
@@ -21,6 +20,16 @@ fn body_of(payload: &[u8]) -> &[u8]
         return &payload[..0];
     }
     &payload[2..]
+}
+
+// How many fragments are held by the extent, and how many of them lead.
+fn held_of(e: Extent) -> Held
+    ensures { result ≡ held_of e }
+{
+    Held {
+        count: e.fragment_count,
+        leading: e.leading,
+    }
 }
 
 // The extent with so many fragments, and so many of them leading.
@@ -54,11 +63,9 @@ fn whole(
     requires { (e.lost + length body.now + length bodies.old ≤ 18446744073709551615) × HoldingSome e kept.old map_room.old bodies.old }
     ensures { Observes (whole_step p.id p.flags body.now) (whole_new p.id p.flags body.now) (lead_by p.id (whole_step p.id p.flags body.now)) p.most e kept.old map_room.old bodies.old result kept.new map_room.new bodies.new × (result.lost ≤ e.lost + length body.now) × MovedOnce bodies.old body.now bodies.new }
 {
-    let held = drop_fragment(p.id, e.fragment_count, e.leading, &mut kept.fragment_heads, bodies);
+    let held = held_of(e).drop_fragment(p.id, &mut kept.fragment_heads, bodies);
     let known = with_held(e, held);
-    learn(
-        p.flags, body, p.id, known, kept, map_room,
-    )
+    learn(p.flags, body, p.id, known, kept, map_room)
 }
 
 // A first: it is held, if there is room.
@@ -72,8 +79,7 @@ fn first(
     requires { KeepsFragments e.fragment_count e.leading fragment_heads.old bodies.old }
     ensures { Tells (λ h. HoldsFirst p.id p.flags body.now e.fragment_count e.leading fragment_heads.old bodies.old h fragment_heads.new bodies.new) e result }
 {
-    let n = e.fragment_count;
-    let held = hold_first(p.id, p.flags, body, n, e.leading, fragment_heads, bodies);
+    let held = held_of(e).hold_first(p.id, p.flags, body, fragment_heads, bodies);
     with_held(e, held)
 }
 
@@ -88,8 +94,7 @@ fn middle(
     requires { KeepsFragments e.fragment_count e.leading fragment_heads.old bodies.old }
     ensures { Tells (λ h. LearnsMiddle p.id p.most body.now e.fragment_count e.leading fragment_heads.old bodies.old h fragment_heads.new bodies.new) e result }
 {
-    let n = e.fragment_count;
-    let held = fragments::middle(p.id, body, p.most, n, e.leading, fragment_heads, bodies);
+    let held = held_of(e).middle(p.id, body, p.most, fragment_heads, bodies);
     with_held(e, held)
 }
 
@@ -105,30 +110,15 @@ fn last(
     requires { (e.lost + length body.now + length bodies.old ≤ 18446744073709551615) × HoldingSome e kept.old map_room.old bodies.old }
     ensures { Observes (last_step p.id body.now) (last_new p.id body.now) (lead_by p.id (last_step p.id body.now)) p.most e kept.old map_room.old bodies.old result kept.new map_room.new bodies.new × (result.lost ≤ e.lost + length bodies.old) × MovedOnce bodies.old body.now bodies.new }
 {
-    match grow(
-        p.id,
-        body,
-        p.most,
-        e.fragment_count,
-        e.leading,
-        &mut kept.fragment_heads,
-        bodies,
-    ) {
+    match held_of(e).grow(p.id, body, p.most, &mut kept.fragment_heads, bodies) {
         Grown::At {
             start,
             end,
             flags,
             held,
         } => {
-            let known = learn(
-                flags,
-                &bodies[start..end],
-                p.id,
-                e,
-                kept,
-                map_room,
-            );
-            with_held(known, give_back(held.count, held.leading, &mut kept.fragment_heads))
+            let known = learn(flags, &bodies[start..end], p.id, e, kept, map_room);
+            with_held(known, held.give_back(&mut kept.fragment_heads))
         }
         Grown::Discarded(held) => with_held(e, held),
         Grown::Absent => e,
@@ -147,25 +137,11 @@ fn by_indicator(
     requires { (e.lost + length body.now + length bodies.old ≤ 18446744073709551615) × HoldingSome e kept.old map_room.old bodies.old }
     ensures { Observes (by_step p.id p.flags body.now) (by_new p.id p.flags body.now) (lead_by p.id (by_step p.id p.flags body.now)) p.most e kept.old map_room.old bodies.old result kept.new map_room.new bodies.new × (result.lost ≤ e.lost + length body.now + length bodies.old) × MovedOnce bodies.old body.now bodies.new }
 {
-    match p.flags >> 6 {
-        0 => whole(
-            body,
-            p,
-            e,
-            kept,
-            map_room,
-            bodies,
-        ),
-        1 => first(body, p, e, &mut kept.fragment_heads, bodies),
-        2 => middle(body, p, e, &mut kept.fragment_heads, bodies),
-        _ => last(
-            body,
-            p,
-            e,
-            kept,
-            map_room,
-            bodies,
-        ),
+    match Indicator::from(p.flags) {
+        Indicator::Whole => whole(body, p, e, kept, map_room, bodies),
+        Indicator::First => first(body, p, e, &mut kept.fragment_heads, bodies),
+        Indicator::Middle => middle(body, p, e, &mut kept.fragment_heads, bodies),
+        Indicator::Last => last(body, p, e, kept, map_room, bodies),
     }
 }
 
@@ -198,18 +174,11 @@ pub fn observe(
     if payload.len() == 0 {
         return e;
     }
-    if has(&kept.data_set, id) {
+    if kept.data_set.has(id) {
         return with_news(e, unread(e.news));
     }
     let flags = payload[0];
     let body = body_of(payload);
     let p = Piece { flags, id, most };
-    by_indicator(
-        body,
-        e,
-        p,
-        kept,
-        map_room,
-        bodies,
-    )
+    by_indicator(body, e, p, kept, map_room, bodies)
 }

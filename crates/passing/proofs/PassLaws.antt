@@ -21,6 +21,7 @@ use Rattle.meaning.specs.declared.Options.{Options}
 use Rattle.meaning.specs.declared.Modes.{Modes}
 use Rattle.meaning.specs.declared.Counts.{Counts}
 use Rattle.meaning.proofs.Writes.{wrote_then}
+use Rattle.learning.specs.declared.Kept.{Kept}
 use Rattle.observing.specs.Observed.{Holding}
 use Rattle.rules.specs.Changes.{SetIs}
 use Rattle.passing.specs.declared.Progress.{Progress}
@@ -104,18 +105,18 @@ module _ (L : Limits) (M : Modes) (o : Options) (k : Known) (leading : ℕ) (d :
   abbrev next : Passed
   next = pass L M o before.known qs
 
-  pub further : (data_set packages map_heads map_room fragment_heads : List ℕ) (bodies : Bytes) (set : Words) (out : Bytes)
-      (data_set' packages' map_heads' map_room' fragment_heads' : List ℕ) (bodies' : Bytes) (set' : Words) (out' : Bytes)
-      → Sofar L M o k leading d ps n s data_set packages map_heads map_room fragment_heads bodies set out
-      → Holding L.total next.known r.extent data_set' packages' map_heads' map_room' fragment_heads' bodies'
+  pub further : (kept : Kept) (map_room : List ℕ) (bodies : Bytes) (set : Words) (out : Bytes)
+      (kept' : Kept) (map_room' : List ℕ) (bodies' : Bytes) (set' : Words) (out' : Bytes)
+      → Sofar L M o k leading d ps n s kept map_room bodies set out
+      → Holding L.total next.known r.extent kept' map_room' bodies'
       → SetIs (drops o next.known) set'
       → r.ready ≡ ready o.service next.known
       → r.extent.lost ≡ s.extent.lost + next.lost
       → r.extent.leading ≡ leading_over L before.known qs s.extent.leading
       → r.counts ≡ counts_after s.counts r.counts.bytes next (length qs) m
       → Wrote (flatten next.out) out s.counts.bytes out' r.counts.bytes
-      → Sofar L M o k leading d (ps ++ qs) (n + m) r data_set' packages' map_heads' map_room' fragment_heads' bodies' set' out'
-  further data_set packages map_heads map_room fragment_heads bodies set out data_set' packages' map_heads' map_room' fragment_heads' bodies' set' out' f h t y l a' c w =
+      → Sofar L M o k leading d (ps ++ qs) (n + m) r kept' map_room' bodies' set' out'
+  further kept map_room bodies set out kept' map_room' bodies' set' out' f h t y l a' c w =
       let e : pass L M o k (ps ++ qs) ≡ chained before next = pass_append L M o k ps qs in
       let old = f.counts_are in
       let b : r.counts.bytes ≡ length (flatten (before.out ++ next.out)) =

@@ -15,6 +15,7 @@ use Rattle.meaning.specs.declared.Options.{Options}
 use Rattle.meaning.specs.declared.Modes.{Modes}
 use Rattle.meaning.specs.declared.Step.TheVariants.{Keep}
 use Rattle.meaning.proofs.CutLaws.{cut_keep}
+use Rattle.learning.specs.declared.Kept.{Kept}
 use Rattle.passing.specs.declared.Terms.{Terms}
 use Rattle.passing.specs.declared.Progress.{Progress}
 use Rattle.passing.specs.Verdicts.{ahead}
@@ -24,29 +25,26 @@ use Rattle.passing.specs.Passing.{Fits, FitsMore, Sofar, SofarSome, SofarAfter, 
 
 pub record Machine : Type 0 where
   pub progress : Progress
-  pub data_set : List ℕ
-  pub packages : List ℕ
-  pub map_heads : List ℕ
+  pub kept : Kept
   pub map_room : List ℕ
-  pub fragment_heads : List ℕ
   pub bodies : Bytes
   pub set : Words
   pub out : Bytes
 
 abbrev pub Stands : Limits → Modes → Options → Known → ℕ → Bytes → List Bytes → ℕ → Machine → Type 0
-Stands L M o k leading d ps n x = Sofar L M o k leading d ps n x.progress x.data_set x.packages x.map_heads x.map_room x.fragment_heads x.bodies x.set x.out
+Stands L M o k leading d ps n x = Sofar L M o k leading d ps n x.progress x.kept x.map_room x.bodies x.set x.out
 
 abbrev pub StandsSome : Terms → Machine → Type 0
-StandsSome t x = SofarSome t x.progress x.data_set x.packages x.map_heads x.map_room x.fragment_heads x.bodies x.set x.out
+StandsSome t x = SofarSome t x.progress x.kept x.map_room x.bodies x.set x.out
 
 abbrev pub Moves : List Bytes → ℕ → Terms → Machine → Machine → Type 0
 Moves qs m t x y =
-    SofarAfter qs m t x.progress x.data_set x.packages x.map_heads x.map_room x.fragment_heads x.bodies x.set x.out
-    y.progress y.data_set y.packages y.map_heads y.map_room y.fragment_heads y.bodies y.set y.out
+    SofarAfter qs m t x.progress x.kept x.map_room x.bodies x.set x.out
+    y.progress y.kept y.map_room y.bodies y.set y.out
 
-abbrev pub machine : Progress → List ℕ → List ℕ → List ℕ → List ℕ → List ℕ → Bytes → Words → Bytes → Machine
-machine s data_set packages map_heads map_room fragment_heads bodies set out =
-    record { progress = s; data_set = data_set; packages = packages; map_heads = map_heads; map_room = map_room; fragment_heads = fragment_heads; bodies = bodies; set = set; out = out }
+abbrev pub machine : Progress → Kept → List ℕ → Bytes → Words → Bytes → Machine
+machine s kept map_room bodies set out =
+    record { progress = s; kept = kept; map_room = map_room; bodies = bodies; set = set; out = out }
 
 -- ---- moves, one after the other
 
@@ -137,8 +135,8 @@ module _ (run : Bytes) (t : Terms) (x : Machine) where
 
   -- the end: the rest is kept
   pub going_done : (y : Machine) (at : ℕ) → Going run t x y at → step_of t.limit (drop at run) ≡ Keep
-      → ScannedAs run t x.progress x.data_set x.packages x.map_heads x.map_room x.fragment_heads x.bodies x.set x.out
-      (record { progress = y.progress; at = at }) y.data_set y.packages y.map_heads y.map_room y.fragment_heads y.bodies y.set y.out
+      → ScannedAs run t x.progress x.kept x.map_room x.bodies x.set x.out
+      (record { progress = y.progress; at = at }) y.kept y.map_room y.bodies y.set y.out
   going_done y at g e =
       let c : cut t.limit run ≡ ahead g.packets g.skipped (hold (drop at run)) = g.cut_is ∙ ap (ahead g.packets g.skipped) (cut_keep t.limit (drop at run) e) in
       let p : g.packets ≡ (cut t.limit run).packets = sym (append-nil g.packets) ∙ sym (ap (λ (z : Cut). z.packets) c) in

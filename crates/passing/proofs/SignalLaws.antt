@@ -26,12 +26,13 @@ use Rattle.meaning.proofs.Writes.{wrote_none}
 use Rattle.meaning.proofs.Statements.{packet_shorter}
 use Rattle.tlv.specs.Answers.{PartIs}
 use Rattle.narrowing.specs.Answers.{signal_of}
-use Rattle.learning.specs.Kept.{Keeps}
 use Rattle.learning.specs.News.{no_news}
 use Rattle.learning.specs.Learnt.{with_news}
 use Rattle.learning.specs.declared.Extent.{Extent}
+use Rattle.learning.specs.declared.Kept.{Kept}
 use Rattle.learning.specs.declared.News.{News}
 use Rattle.observing.specs.News.{news}
+use Rattle.observing.specs.Steps.{KeepsIn}
 use Rattle.observing.specs.Observed.{Holding, Observed}
 use Rattle.observing.proofs.NewsLaws.{still, drops_still, ready_still}
 use Rattle.rules.specs.Changes.{SetIs}
@@ -43,14 +44,7 @@ use Rattle.passing.proofs.PassLaws.{counts_after, further}
 -- ---- a packet that is written
 
 abbrev pub sent_as : Counts → ℕ → ℕ → Counts
-sent_as c bytes rewritten = record {
-  bytes = bytes;
-  accepted = c.accepted + 1;
-  written = c.written + 1;
-  rewritten = c.rewritten + rewritten;
-  skipped = c.skipped;
-  lost = c.lost;
-}
+sent_as c bytes rewritten = record c { bytes = bytes; accepted = c.accepted + 1; written = c.written + 1; rewritten = c.rewritten + rewritten }
 
 module _ (y : Option Bytes) (p : Bytes) (c : Counts) (d d' : Bytes) (r : Counts) (bytes : ℕ) where
   -- as it is
@@ -78,8 +72,8 @@ part_is r h g = let k = rw h.read at g in k.0
 abbrev pub no_change : Extent → Extent
 no_change e = with_news e no_news
 
-pub holding_anew : {T : ℕ} {k : Known} {e : Extent} {data_set packages map_heads map_room fragment_heads : List ℕ} {bodies : Bytes}
-    → Holding T k e data_set packages map_heads map_room fragment_heads bodies → Holding T k (no_change e) data_set packages map_heads map_room fragment_heads bodies
+pub holding_anew : {T : ℕ} {k : Known} {e : Extent} {kept : Kept} {map_room : List ℕ} {bodies : Bytes}
+    → Holding T k e kept map_room bodies → Holding T k (no_change e) kept map_room bodies
 holding_anew h =
     let t = h.tables_kept in
     record {
@@ -89,21 +83,21 @@ holding_anew h =
 
 -- ---- what is dropped, and readiness, after it
 
-pub refreshed_anew : (b : Bool) (o : Options) (e : Extent) (was : Bool) (data_set packages map_heads map_room : List ℕ) (set : Words) (r : Bool) (set' : Words) → b ≡ true
-    → ((k : Known) → Keeps k e data_set packages map_heads map_room → SetIs (drops o k) set' × (r ≡ ready o.service k))
-    → Refreshed b o e was data_set packages map_heads map_room set r set'
-refreshed_anew b o e was data_set packages map_heads map_room set r set' q h = rw q h
+pub refreshed_anew : (b : Bool) (o : Options) (e : Extent) (was : Bool) (kept : Kept) (map_room : List ℕ) (set : Words) (r : Bool) (set' : Words) → b ≡ true
+    → ((k : Known) → KeepsIn k e kept map_room → SetIs (drops o k) set' × (r ≡ ready o.service k))
+    → Refreshed b o e was kept map_room set r set'
+refreshed_anew b o e was kept map_room set r set' q h = rw q h
 
 module _ (L : Limits) (M : Modes) (o : Options) (id : ℕ) (s : Bytes) (k : Known) where
   abbrev after : Known
   after = (observe L id s k).known
 
-  refreshed_is : (b : Bool) {e : Extent} {was : Bool} {data_set packages map_heads map_room : List ℕ} {set : Words} {r : Bool} {set' : Words}
-      → b ≡ (news L id s k).changed → Refreshed b o e was data_set packages map_heads map_room set r set' → Keeps after e data_set packages map_heads map_room
+  refreshed_is : (b : Bool) (kept : Kept) {e : Extent} {was : Bool} {map_room : List ℕ} {set : Words} {r : Bool} {set' : Words}
+      → b ≡ (news L id s k).changed → Refreshed b o e was kept map_room set r set' → KeepsIn after e kept map_room
       → SetIs (drops o k) set → was ≡ ready o.service k
       → SetIs (drops o after) set' × (r ≡ ready o.service after)
-  refreshed_is true b h keeps t y = h after keeps
-  refreshed_is false b h keeps t y =
+  refreshed_is true kept b h keeps t y = h after keeps
+  refreshed_is false kept b h keeps t y =
       let x = still L id s k (sym b) in (
         rw h.1 (record { all_words = t.all_words; member = λ q small. t.member q small ∙ sym (drops_still x o q) }),
         h.0 ∙ y ∙ sym (ready_still x o.service),
@@ -172,22 +166,22 @@ module _ (L : Limits) (M : Modes) (o : Options) (k : Known) (leading : ℕ) (d :
   step = observe L id payload here
 
   -- A run has come one packet further.
-  pub signalled : {data_set packages map_heads map_room fragment_heads : List ℕ} {bodies : Bytes} {set : Words} {out : Bytes}
-      {data_set' packages' map_heads' map_room' fragment_heads' : List ℕ} {bodies' : Bytes} {set' : Words} {out' : Bytes}
-      → Sofar L M o k leading d ps n s data_set packages map_heads map_room fragment_heads bodies set out
-      → Observed L.total step (news L id payload here) (leading_observed L id payload here s.extent.leading) (no_change s.extent) r.extent data_set' packages' map_heads' map_room' fragment_heads' bodies'
-      → Refreshed r.extent.news.changed o r.extent s.ready data_set' packages' map_heads' map_room' set r.ready set'
+  pub signalled : {kept : Kept} {map_room : List ℕ} {bodies : Bytes} {set : Words} {out : Bytes}
+      {kept' : Kept} {map_room' : List ℕ} {bodies' : Bytes} {set' : Words} {out' : Bytes}
+      → Sofar L M o k leading d ps n s kept map_room bodies set out
+      → Observed L.total step (news L id payload here) (leading_observed L id payload here s.extent.leading) (no_change s.extent) r.extent kept' map_room' bodies'
+      → Refreshed r.extent.news.changed o r.extent s.ready kept' map_room' set r.ready set'
       → Emitted (in_set set' id) (narrow_packet M o p) p s.counts out r.counts out'
-      → Sofar L M o k leading d (ps ++ p ∷ []) (n + 0) r data_set' packages' map_heads' map_room' fragment_heads' bodies' set' out'
-  signalled {data_set} {packages} {map_heads} {map_room} {fragment_heads} {bodies} {set} {out} {data_set'} {packages'} {map_heads'} {map_room'} {fragment_heads'} {bodies'} {set'} {out'} f seen fresh sent =
-      let g = refreshed_is L M o id payload here r.extent.news.changed (ap (λ (n : News). n.changed) seen.news_are) fresh seen.holding.tables_kept f.set_is f.ready_is in
+      → Sofar L M o k leading d (ps ++ p ∷ []) (n + 0) r kept' map_room' bodies' set' out'
+  signalled {kept} {map_room} {bodies} {set} {out} {kept'} {map_room'} {bodies'} {set'} {out'} f seen fresh sent =
+      let g = refreshed_is L M o id payload here r.extent.news.changed kept' (ap (λ (n : News). n.changed) seen.news_are) fresh seen.holding.tables_kept f.set_is f.ready_is in
       let b : in_set set' id ≡ drops o step.known id = g.0.member id h.identifier_fits in
       let x = rw b at sent in
       let y = narrow_packet M o p in
       let passes = passes_as L M o here h in
       let knows : (pass L M o here (p ∷ [])).known ≡ step.known = ap (λ (z : Passed). z.known) passes ∙ known_after (drops o step.known id) y p step.lost step.known in
       let loses : (pass L M o here (p ∷ [])).lost ≡ step.lost = ap (λ (z : Passed). z.lost) passes ∙ lost_after (drops o step.known id) y p step.lost step.known in
-      further L M o k leading d ps (p ∷ []) n 0 s r data_set packages map_heads map_room fragment_heads bodies set out data_set' packages' map_heads' map_room' fragment_heads' bodies' set' out' f
+      further L M o k leading d ps (p ∷ []) n 0 s r kept map_room bodies set out kept' map_room' bodies' set' out' f
       (rw knows seen.holding)
       (rw knows g.0)
       (rw knows g.1)

@@ -18,6 +18,7 @@ use Rattle.meaning.specs.declared.Step.TheVariants.{Skip}
 use Rattle.meaning.proofs.Writes.{wrote_none}
 use Rattle.meaning.proofs.CutLaws.{cut_packet}
 use Rattle.tlv.specs.Gaps.{GapTo}
+use Rattle.learning.specs.declared.Kept.{Kept}
 use Rattle.passing.specs.declared.Terms.{Terms}
 use Rattle.passing.specs.declared.Progress.{Progress}
 use Rattle.passing.specs.declared.Row.{Row}
@@ -29,17 +30,7 @@ use Rattle.passing.proofs.RunLaws.{Machine, machine, Moves, moves_then, moves_no
 
 -- Another progress, another output.
 abbrev pub with_out : Machine → Progress → Bytes → Machine
-with_out y r out = record {
-  progress = r;
-  data_set = y.data_set;
-  packages = y.packages;
-  map_heads = y.map_heads;
-  map_room = y.map_room;
-  fragment_heads = y.fragment_heads;
-  bodies = y.bodies;
-  set = y.set;
-  out = out;
-}
+with_out y r out = record y { progress = r; out = out }
 
 -- ---- what each step moves
 
@@ -57,8 +48,8 @@ module _ (t : Terms) (y : Machine) where
       let l : s.extent.lost ≡ s.extent.lost + 0 = omega arith in
       let u : s.counts.rewritten ≡ s.counts.rewritten + 0 = omega arith in
       let v : s.counts.skipped ≡ s.counts.skipped + 0 = omega arith in
-      further L M o k leading d ps qs n 0 s (with_row s (length qs) b) y.data_set y.packages y.map_heads y.map_room y.fragment_heads y.bodies y.set y.out
-      y.data_set y.packages y.map_heads y.map_room y.fragment_heads y.bodies y.set out' f (rw q f.holding) (rw q f.set_is) (rw q f.ready_is) (rw q l)
+      further L M o k leading d ps qs n 0 s (with_row s (length qs) b) y.kept y.map_room y.bodies y.set y.out
+      y.kept y.map_room y.bodies y.set out' f (rw q f.holding) (rw q f.set_is) (rw q f.ready_is) (rw q l)
       (sym (row_leads L (pass L M o k ps).known y.set s.ready qs s.extent.leading a))
       (rw q (λ i. record { bytes = b; accepted = s.counts.accepted + length qs; written = s.counts.written + length qs; rewritten = u i; skipped = v i; lost = s.counts.lost }))
       (rw (q, e) w)
@@ -70,8 +61,8 @@ module _ (t : Terms) (y : Machine) where
       let a : s.counts.accepted ≡ s.counts.accepted + 0 = omega arith in
       let w : s.counts.written ≡ s.counts.written + 0 = omega arith in
       let u : s.counts.rewritten ≡ s.counts.rewritten + 0 = omega arith in
-      further L t.modes t.options k leading d ps [] n m s (with_skipped s m) y.data_set y.packages y.map_heads y.map_room y.fragment_heads y.bodies y.set y.out
-      y.data_set y.packages y.map_heads y.map_room y.fragment_heads y.bodies y.set y.out f f.holding f.set_is f.ready_is l refl
+      further L t.modes t.options k leading d ps [] n m s (with_skipped s m) y.kept y.map_room y.bodies y.set y.out
+      y.kept y.map_room y.bodies y.set y.out f f.holding f.set_is f.ready_is l refl
       (λ i. record { bytes = s.counts.bytes; accepted = a i; written = w i; rewritten = u i; skipped = s.counts.skipped + m; lost = s.counts.lost })
       (wrote_none y.out s.counts.bytes)
 
@@ -86,8 +77,8 @@ module _ (t : Terms) (y : Machine) where
       let w : s.counts.written ≡ s.counts.written + 0 = omega arith in
       let u : s.counts.rewritten ≡ s.counts.rewritten + 0 = omega arith in
       let v : s.counts.skipped ≡ s.counts.skipped + 0 = omega arith in
-      further L M o k leading d ps (p ∷ []) n 0 s (with_withheld s) y.data_set y.packages y.map_heads y.map_room y.fragment_heads y.bodies y.set y.out
-      y.data_set y.packages y.map_heads y.map_room y.fragment_heads y.bodies y.set y.out f (rw q f.holding) (rw q f.set_is) (rw q f.ready_is) (rw q l)
+      further L M o k leading d ps (p ∷ []) n 0 s (with_withheld s) y.kept y.map_room y.bodies y.set y.out
+      y.kept y.map_room y.bodies y.set y.out f (rw q f.holding) (rw q f.set_is) (rw q f.ready_is) (rw q l)
       (sym (plain_leads L (pass L M o k ps).known p [] y.set s.ready true s.extent.leading h))
       (rw q (λ i. record { bytes = s.counts.bytes; accepted = s.counts.accepted + 1; written = w i; rewritten = u i; skipped = v i; lost = s.counts.lost }))
       (rw q (wrote_none y.out s.counts.bytes))
@@ -124,15 +115,15 @@ module _ (run : Bytes) (from : ℕ) (t : Terms) (set : Words) where
     forth = omega arith;
     inside = h;
     cut_is = ahead_none (cut t.limit (drop from run));
-    moved = λ data_set packages map_heads map_room fragment_heads bodies. moves_none t (machine s data_set packages map_heads map_room fragment_heads bodies set out);
+    moved = λ kept map_room bodies. moves_none t (machine s kept map_room bodies set out);
     fits = f;
     fits_more = λ m h. h;
   }
 
   module _ {s₀ s : Progress} {out₀ out : Bytes} {at : ℕ} (g : Along run from t s₀ set out₀ s at out) where
     along_on : (r : Progress) (to : ℕ) (out' : Bytes) (qs : List Bytes) (m : ℕ) → at ≤ to → to ≤ length run → cut t.limit (drop at run) ≡ ahead qs m (cut t.limit (drop to run))
-        → ((data_set packages map_heads map_room fragment_heads : List ℕ) (bodies : Bytes)
-        → Moves qs m t (machine s data_set packages map_heads map_room fragment_heads bodies set out) (machine r data_set packages map_heads map_room fragment_heads bodies set out'))
+        → ((kept : Kept) (map_room : List ℕ) (bodies : Bytes)
+        → Moves qs m t (machine s kept map_room bodies set out) (machine r kept map_room bodies set out'))
         → FitsMore s (length run - at) (length out) r (length run - to) (length out') → Along run from t s₀ set out₀ r to out'
     along_on r to out' qs m b h c v f = record {
       packets = g.packets ++ qs;
@@ -140,9 +131,9 @@ module _ (run : Bytes) (from : ℕ) (t : Terms) (set : Words) where
       forth = omega (arith, g.forth, b);
       inside = h;
       cut_is = g.cut_is ∙ ap (ahead g.packets g.skipped) c ∙ ahead_ahead g.packets qs g.skipped m (cut t.limit (drop to run));
-      moved = λ data_set packages map_heads map_room fragment_heads bodies.
-          moves_then t (machine s₀ data_set packages map_heads map_room fragment_heads bodies set out₀) (machine s data_set packages map_heads map_room fragment_heads bodies set out)
-          (machine r data_set packages map_heads map_room fragment_heads bodies set out') g.packets qs g.skipped m (g.moved data_set packages map_heads map_room fragment_heads bodies) (v data_set packages map_heads map_room fragment_heads bodies);
+      moved = λ kept map_room bodies.
+          moves_then t (machine s₀ kept map_room bodies set out₀) (machine s kept map_room bodies set out)
+          (machine r kept map_room bodies set out') g.packets qs g.skipped m (g.moved kept map_room bodies) (v kept map_room bodies);
       fits = fits_on f g.fits;
       fits_more = λ m h. f m (g.fits_more m h);
     }
@@ -153,8 +144,8 @@ module _ (run : Bytes) (from : ℕ) (t : Terms) (set : Words) where
         let h = i.row in
         let len = packet_length run at row.end h.forth h.inside in
         along_on (with_row s row.count b) row.end out' h.packets 0 h.forth h.inside h.cut_is
-        (λ data_set packages map_heads map_room fragment_heads bodies.
-        let y : Machine = machine s data_set packages map_heads map_room fragment_heads bodies set out in
+        (λ kept map_room bodies.
+        let y : Machine = machine s kept map_room bodies set out in
         subst (λ (n : ℕ). Moves h.packets 0 t y (with_out y (with_row s n b) out')) (sym h.many)
         (row_moves t y h.packets (packet_at run at row.end) out' b h.all_pass h.bytes_are w))
         (λ m f. record {
@@ -175,7 +166,7 @@ module _ (run : Bytes) (from : ℕ) (t : Terms) (set : Words) where
     gap_done : (to : ℕ) → GapTo t.limit run at to → Along run from t s₀ set out₀ (with_skipped s (to - at)) to out
     gap_done to h =
         along_on (with_skipped s (to - at)) to out [] (to - at) h.forth h.inside h.skips
-        (λ data_set packages map_heads map_room fragment_heads bodies. gap_moves t (machine s data_set packages map_heads map_room fragment_heads bodies set out) (to - at))
+        (λ kept map_room bodies. gap_moves t (machine s kept map_room bodies set out) (to - at))
         (λ m f. record {
           bytes_fit = omega (arith, f.bytes_fit, h.forth);
           accepted_fit = omega (arith, f.accepted_fit, h.forth);
@@ -191,7 +182,7 @@ module _ (run : Bytes) (from : ℕ) (t : Terms) (set : Words) where
     withheld_done : (end : ℕ) → PacketTo t.limit run at end → Plain (packet_at run at end) set s.ready true → Along run from t s₀ set out₀ (with_withheld s) end out
     withheld_done end p h =
         along_on (with_withheld s) end out (packet_at run at end ∷ []) 0 (omega (arith, p.forth)) p.inside (packet_cut t.limit run at end p)
-        (λ data_set packages map_heads map_room fragment_heads bodies. withheld_moves t (machine s data_set packages map_heads map_room fragment_heads bodies set out) (packet_at run at end) h)
+        (λ kept map_room bodies. withheld_moves t (machine s kept map_room bodies set out) (packet_at run at end) h)
         (λ m f. record {
           bytes_fit = omega (arith, f.bytes_fit, p.forth);
           accepted_fit = omega (arith, f.accepted_fit, p.forth, p.inside);
@@ -214,7 +205,7 @@ module _ (run : Bytes) (t : Terms) (x y : Machine) (at : ℕ) (g : Going run t x
       → Going run t x (with_out y r out') to
   going_along r to out' h l =
       going_on run t x y (with_out y r out') at to h.packets h.skipped g h.inside h.cut_is
-      (h.moved y.data_set y.packages y.map_heads y.map_room y.fragment_heads y.bodies) h.fits_more (record { map_room_same = refl; bodies_same = refl; out_same = l })
+      (h.moved y.kept y.map_room y.bodies) h.fits_more (record { map_room_same = refl; bodies_same = refl; out_same = l })
 
   -- the bytes still to come are the packet's and those behind it
   signal_fits : (end : ℕ) → PacketTo t.limit run at end → (m : ℕ) → Fits y.progress (length run - at + m) (length y.out)

@@ -23,6 +23,7 @@ use Rattle.meaning.specs.declared.Modes.{Modes}
 use Rattle.meaning.specs.declared.Counts.{Counts}
 use Rattle.meaning.proofs.Writes.{wrote_none}
 use Rattle.learning.specs.declared.Extent.{Extent}
+use Rattle.learning.specs.declared.Kept.{Kept}
 use Rattle.observing.specs.Observed.{Holding}
 use Rattle.rules.specs.Changes.{SetIs}
 use Rattle.passing.specs.declared.Progress.{Progress}
@@ -33,11 +34,11 @@ abbrev pub begun : Extent → Bool → Progress
 begun e is = record { extent = e; counts = counts_of 0; ready = is }
 
 module _ (L : Limits) (M : Modes) (o : Options) (k : Known) (d : Bytes) where
-  pub begins : (e : Extent) (is : Bool) (data_set packages map_heads map_room fragment_heads : List ℕ) (bodies : Bytes) (set : Words)
-      → Holding L.total k e data_set packages map_heads map_room fragment_heads bodies → SetIs (drops o k) set → is ≡ ready o.service k → e.lost ≡ 0
-      → Sofar L M o k e.leading d [] 0 (begun e is) data_set packages map_heads map_room fragment_heads bodies set d
+  pub begins : (e : Extent) (is : Bool) (kept : Kept) (map_room : List ℕ) (bodies : Bytes) (set : Words)
+      → Holding L.total k e kept map_room bodies → SetIs (drops o k) set → is ≡ ready o.service k → e.lost ≡ 0
+      → Sofar L M o k e.leading d [] 0 (begun e is) kept map_room bodies set d
   unfolding pass flatten leading_over
-  begins e is data_set packages map_heads map_room fragment_heads bodies set h t y l =
+  begins e is kept map_room bodies set h t y l =
       record { holding = h; set_is = t; ready_is = y; lost_is = l; leading_is = refl; counts_are = refl; written = wrote_none d 0 }
 
   -- With its lost maps, the counts of a call that ends.
@@ -52,8 +53,8 @@ module _ (L : Limits) (M : Modes) (o : Options) (k : Known) (d : Bytes) where
   }
 
   -- What a call over held bytes and chunk comes to.
-  pub record Ended (x : Outcome) (leading : ℕ) (p : Progress) (data_set packages map_heads map_room fragment_heads : List ℕ) (bodies out : Bytes) : Type 0 where
-    pub holding : Holding L.total x.state.known p.extent data_set packages map_heads map_room fragment_heads bodies
+  pub record Ended (x : Outcome) (leading : ℕ) (p : Progress) (kept : Kept) (map_room : List ℕ) (bodies out : Bytes) : Type 0 where
+    pub holding : Holding L.total x.state.known p.extent kept map_room bodies
     pub leading_is : p.extent.leading ≡ leading
     pub counts_are : ended p ≡ x.counts
     pub written : Wrote (flatten x.out) d 0 out x.counts.bytes
@@ -69,11 +70,11 @@ module _ (L : Limits) (M : Modes) (o : Options) (k : Known) (d : Bytes) where
     unfolding filtered
     held_same = ap (λ (c : Cut). c.held) (sym cut_same)
 
-    pub ends : (leading : ℕ) (p : Progress) (data_set packages map_heads map_room fragment_heads : List ℕ) (bodies : Bytes) (set : Words) (out : Bytes)
-        → Sofar L M o k leading d ([] ++ (cut limit (drop 0 run)).packets) (0 + (cut limit (drop 0 run)).skipped) p data_set packages map_heads map_room fragment_heads bodies set out
-        → Ended (filtered L M o st chunk) (leading_over L k (cut (packet_limit L.work) (held ++ chunk)).packets leading) p data_set packages map_heads map_room fragment_heads bodies out
+    pub ends : (leading : ℕ) (p : Progress) (kept : Kept) (map_room : List ℕ) (bodies : Bytes) (set : Words) (out : Bytes)
+        → Sofar L M o k leading d ([] ++ (cut limit (drop 0 run)).packets) (0 + (cut limit (drop 0 run)).skipped) p kept map_room bodies set out
+        → Ended (filtered L M o st chunk) (leading_over L k (cut (packet_limit L.work) (held ++ chunk)).packets leading) p kept map_room bodies out
     unfolding filtered
-    ends leading p data_set packages map_heads map_room fragment_heads bodies set out f =
+    ends leading p kept map_room bodies set out f =
         let c : Cut = cut limit (drop 0 run) in
         let x : Passed = pass L M o k c.packets in
         let z : 0 + c.skipped ≡ c.skipped = omega arith in

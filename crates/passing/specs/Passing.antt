@@ -1,5 +1,6 @@
 -- How far a run has come: arrays, rooms, set, counts and output are those of the definition's `pass` over the packets so far.
-use Rattle.std.specs.Prelude.{ℕ, ◌+◌, ◌-◌, ◌*◌, ◌≤◌, ◌≡◌, Bool, true, false, cond, not, ◌&&◌, ◌||◌, length, drop, eqb}
+use Rattle.std.specs.Prelude.{ℕ, ◌+◌, ◌-◌, ◌*◌, ◌≤◌, ◌≡◌, Bool, true, false, cond, not, ◌&&◌, ◌||◌, length, drop, eqb, Some, None}
+use Rattle.std.specs.Prelude as code
 use mathlib.Core.List.{List, ◌++◌, flatten}
 use Rattle.std.proofs.Math.Option.{Option, none, get_or}
 use Rattle.meaning.specs.Bytes.{Bytes}
@@ -18,10 +19,11 @@ use Rattle.meaning.specs.declared.Options.{Options}
 use Rattle.meaning.specs.declared.Modes.{Modes}
 use Rattle.meaning.specs.declared.Step.TheVariants.{Keep}
 use Rattle.meaning.specs.declared.Counts.{Counts}
-use Rattle.learning.specs.Kept.{Keeps}
 use Rattle.learning.specs.News.{lists_service}
 use Rattle.learning.specs.declared.Extent.{Extent}
+use Rattle.learning.specs.declared.Kept.{Kept}
 use Rattle.learning.specs.declared.News.{News}
+use Rattle.observing.specs.Steps.{KeepsIn}
 use Rattle.observing.specs.Observed.{Holding}
 use Rattle.rules.specs.Changes.{SetIs}
 use Rattle.passing.specs.declared.Terms.{Terms}
@@ -50,16 +52,21 @@ Spares o id n ps payload = cuts o id n ps ≡ false → narrow_payload o id payl
 -- Withheld, it is taken in; else it is written, narrowed where narrowing changes it.
 abbrev pub Emitted : Bool → Option Bytes → Bytes → Counts → Bytes → Counts → Bytes → Type 0
 Emitted true y p c d r d' =
-    (r ≡ record { bytes = c.bytes; accepted = c.accepted + 1; written = c.written; rewritten = c.rewritten; skipped = c.skipped; lost = c.lost }) × (d' ≡ d)
+    (r ≡ record c { accepted = c.accepted + 1 }) × (d' ≡ d)
 Emitted false y p c d r d' =
-    (r ≡ record { bytes = r.bytes; accepted = c.accepted + 1; written = c.written + 1; rewritten = c.rewritten + cond (is_some y) 1 0; skipped = c.skipped; lost = c.lost })
+    (r ≡ record c { bytes = r.bytes; accepted = c.accepted + 1; written = c.written + 1; rewritten = c.rewritten + cond (is_some y) 1 0 })
     × Wrote (get_or y p) d c.bytes d' r.bytes
 
+-- There is room for one packet more, of n bytes.
+abbrev pub FitsOne : Counts → ℕ → ℕ → Type 0
+FitsOne c n out_length =
+    (c.bytes + n ≤ out_length) × (c.accepted + 1 ≤ 18446744073709551615) × (c.written + 1 ≤ 18446744073709551615) × (c.rewritten + 1 ≤ 18446744073709551615)
+
 -- The set and readiness are worked out anew, or stay.
-abbrev pub Refreshed : Bool → Options → Extent → Bool → List ℕ → List ℕ → List ℕ → List ℕ → Words → Bool → Words → Type 0
-Refreshed true o e was data_set packages map_heads map_room set r set' =
-    (k : Known) → Keeps k e data_set packages map_heads map_room → SetIs (drops o k) set' × (r ≡ ready o.service k)
-Refreshed false o e was data_set packages map_heads map_room set r set' = (r ≡ was) × (set' ≡ set)
+abbrev pub Refreshed : Bool → Options → Extent → Bool → Kept → List ℕ → Words → Bool → Words → Type 0
+Refreshed true o e was kept map_room set r set' =
+    (k : Known) → KeepsIn k e kept map_room → SetIs (drops o k) set' × (r ≡ ready o.service k)
+Refreshed false o e was kept map_room set r set' = (r ≡ was) × (set' ≡ set)
 
 -- ---- how far a run has come
 
@@ -83,8 +90,8 @@ counts_for x accepted skipped =
     record { bytes = length (flatten x.out); accepted = accepted; written = length x.out; rewritten = x.rewritten; skipped = skipped; lost = 0 }
 
 -- From k, with so many fragments leading, over the packets ps and so many skipped bytes, with d as the output before.
-pub record Sofar (L : Limits) (M : Modes) (o : Options) (k : Known) (leading : ℕ) (d : Bytes) (ps : List Bytes) (skipped : ℕ) (s : Progress) (data_set packages map_heads map_room fragment_heads : List ℕ) (bodies : Bytes) (set : Words) (out : Bytes) : Type 0 where
-  pub holding : Holding L.total (pass L M o k ps).known s.extent data_set packages map_heads map_room fragment_heads bodies
+pub record Sofar (L : Limits) (M : Modes) (o : Options) (k : Known) (leading : ℕ) (d : Bytes) (ps : List Bytes) (skipped : ℕ) (s : Progress) (kept : Kept) (map_room : List ℕ) (bodies : Bytes) (set : Words) (out : Bytes) : Type 0 where
+  pub holding : Holding L.total (pass L M o k ps).known s.extent kept map_room bodies
   pub set_is : SetIs (drops o (pass L M o k ps).known) set
   pub ready_is : s.ready ≡ ready o.service (pass L M o k ps).known
   pub lost_is : s.extent.lost ≡ (pass L M o k ps).lost
@@ -92,50 +99,38 @@ pub record Sofar (L : Limits) (M : Modes) (o : Options) (k : Known) (leading : �
   pub counts_are : s.counts ≡ counts_for (pass L M o k ps) (length ps) skipped
   pub written : Wrote (flatten (pass L M o k ps).out) d 0 out s.counts.bytes
 
-abbrev pub SofarSome : Terms → Progress → List ℕ → List ℕ → List ℕ → List ℕ → List ℕ → Bytes → Words → Bytes → Type 0
-SofarSome t s data_set packages map_heads map_room fragment_heads bodies set out =
+abbrev pub SofarSome : Terms → Progress → Kept → List ℕ → Bytes → Words → Bytes → Type 0
+SofarSome t s kept map_room bodies set out =
     (L : Limits) × (k : Known) × (leading : ℕ) × (d : Bytes) × (ps : List Bytes) × (n : ℕ) × (L.most ≡ t.most)
-    × Sofar L t.modes t.options k leading d ps n s data_set packages map_heads map_room fragment_heads bodies set out
+    × Sofar L t.modes t.options k leading d ps n s kept map_room bodies set out
 
 -- Whatever run it was, it has come further by these packets and skipped bytes.
-abbrev pub SofarAfter : List Bytes → ℕ → Terms → Progress → List ℕ → List ℕ → List ℕ → List ℕ → List ℕ → Bytes → Words → Bytes
-    → Progress → List ℕ → List ℕ → List ℕ → List ℕ → List ℕ → Bytes → Words → Bytes → Type 0
-SofarAfter qs m t s data_set packages map_heads map_room fragment_heads bodies set out r data_set' packages' map_heads' map_room' fragment_heads' bodies' set' out' =
+abbrev pub SofarAfter : List Bytes → ℕ → Terms → Progress → Kept → List ℕ → Bytes → Words → Bytes
+    → Progress → Kept → List ℕ → Bytes → Words → Bytes → Type 0
+SofarAfter qs m t s kept map_room bodies set out r kept' map_room' bodies' set' out' =
     (L : Limits) (k : Known) (leading : ℕ) (d : Bytes) (ps : List Bytes) (n : ℕ) → L.most ≡ t.most
-    → Sofar L t.modes t.options k leading d ps n s data_set packages map_heads map_room fragment_heads bodies set out
-    → Sofar L t.modes t.options k leading d (ps ++ qs) (n + m) r data_set' packages' map_heads' map_room' fragment_heads' bodies' set' out'
+    → Sofar L t.modes t.options k leading d ps n s kept map_room bodies set out
+    → Sofar L t.modes t.options k leading d (ps ++ qs) (n + m) r kept' map_room' bodies' set' out'
 
 -- ---- the steps by number
 
 abbrev pub with_skipped : Progress → ℕ → Progress
-with_skipped s n = record {
-  extent = s.extent;
-  counts = record { bytes = s.counts.bytes; accepted = s.counts.accepted; written = s.counts.written; rewritten = s.counts.rewritten; skipped = s.counts.skipped + n; lost = s.counts.lost };
-  ready = s.ready;
-}
+with_skipped s n = record s { counts = record s.counts { skipped = s.counts.skipped + n } }
 
 abbrev pub with_withheld : Progress → Progress
-with_withheld s = record {
-  extent = s.extent;
-  counts = record { bytes = s.counts.bytes; accepted = s.counts.accepted + 1; written = s.counts.written; rewritten = s.counts.rewritten; skipped = s.counts.skipped; lost = s.counts.lost };
-  ready = s.ready;
-}
+with_withheld s = record s { counts = record s.counts { accepted = s.counts.accepted + 1 } }
 
 -- A row of so many packets, written up to `bytes`.
 abbrev pub with_row : Progress → ℕ → ℕ → Progress
-with_row s count bytes = record {
-  extent = s.extent;
-  counts = record { bytes = bytes; accepted = s.counts.accepted + count; written = s.counts.written + count; rewritten = s.counts.rewritten; skipped = s.counts.skipped; lost = s.counts.lost };
-  ready = s.ready;
-}
+with_row s count bytes =
+    record s { counts = record s.counts { bytes = bytes; accepted = s.counts.accepted + count; written = s.counts.written + count } }
 
 -- ---- packets that teach nothing
 
--- What stands behind them.
-abbrev pub AheadIs : ℕ → Bytes → ℕ → Ahead → Type 0
-AheadIs limit run at Ahead.Rest = step_of limit (drop at run) ≡ Keep
-AheadIs limit run at (Ahead.Signalling here end s) =
-    (here ≡ at) × PacketTo limit run here end × SignalsSome (packet_at run here end) s.id s.rewritable
+-- What stands behind them: a signalling packet, or bytes to keep.
+abbrev pub AheadIs : ℕ → Bytes → ℕ → code.Option Ahead → Type 0
+AheadIs limit run at None = step_of limit (drop at run) ≡ Keep
+AheadIs limit run at (Some a) = PacketTo limit run at a.end × SignalsSome (packet_at run at a.end) a.signal.id a.signal.rewritable
 
 -- From one offset of a run to another: whatever was learned before stays, and whatever run it was has come further.
 pub record Along (run : Bytes) (from : ℕ) (t : Terms) (s : Progress) (set : Words) (out : Bytes) (r : Progress) (at : ℕ) (out' : Bytes) : Type 0 where
@@ -144,18 +139,18 @@ pub record Along (run : Bytes) (from : ℕ) (t : Terms) (s : Progress) (set : Wo
   pub forth : from ≤ at
   pub inside : at ≤ length run
   pub cut_is : cut t.limit (drop from run) ≡ ahead packets skipped (cut t.limit (drop at run))
-  pub moved : (data_set packages map_heads map_room fragment_heads : List ℕ) (bodies : Bytes)
-      → SofarAfter packets skipped t s data_set packages map_heads map_room fragment_heads bodies set out r data_set packages map_heads map_room fragment_heads bodies set out'
+  pub moved : (kept : Kept) (map_room : List ℕ) (bodies : Bytes)
+      → SofarAfter packets skipped t s kept map_room bodies set out r kept map_room bodies set out'
   pub fits : Fits r (length run - at) (length out')
   pub fits_more : FitsMore s (length run - from) (length out) r (length run - at) (length out')
 
 -- ---- a run
 
 -- All its packets, and where the bytes to keep begin.
-abbrev pub ScannedAs : Bytes → Terms → Progress → List ℕ → List ℕ → List ℕ → List ℕ → List ℕ → Bytes → Words → Bytes
-    → Scanned → List ℕ → List ℕ → List ℕ → List ℕ → List ℕ → Bytes → Words → Bytes → Type 0
-ScannedAs run t s data_set packages map_heads map_room fragment_heads bodies set out r data_set' packages' map_heads' map_room' fragment_heads' bodies' set' out' =
-    SofarAfter (cut t.limit run).packets (cut t.limit run).skipped t s data_set packages map_heads map_room fragment_heads bodies set out
-    r.progress data_set' packages' map_heads' map_room' fragment_heads' bodies' set' out'
+abbrev pub ScannedAs : Bytes → Terms → Progress → Kept → List ℕ → Bytes → Words → Bytes
+    → Scanned → Kept → List ℕ → Bytes → Words → Bytes → Type 0
+ScannedAs run t s kept map_room bodies set out r kept' map_room' bodies' set' out' =
+    SofarAfter (cut t.limit run).packets (cut t.limit run).skipped t s kept map_room bodies set out
+    r.progress kept' map_room' bodies' set' out'
     × (drop r.at run ≡ (cut t.limit run).held) × (r.at ≤ length run)
     × FitsMore s (length run) (length out) r.progress (length run - r.at) (length out')

@@ -65,8 +65,8 @@ StopIs limit ws ready run from at Stop.Keep = step_of limit (drop at run) ≡ Ke
 StopIs limit ws ready run from at Stop.More = from < at
 StopIs limit ws ready run from at Stop.Skip = step_of limit (drop at run) ≡ Skip
 StopIs limit ws ready run from at (Stop.Withhold end) = PacketTo limit run at end × Plain (packet_at run at end) ws ready true
-StopIs limit ws ready run from at (Stop.Signalling end s) =
-    PacketTo limit run at end × SignalsSome (packet_at run at end) s.id s.rewritable
+StopIs limit ws ready run from at (Stop.Signalling a) =
+    PacketTo limit run at a.end × SignalsSome (packet_at run at a.end) a.signal.id a.signal.rewritable
 
 -- `count` packets that go out as they are, from one offset to another.
 pub record Rowing (limit : ℕ) (ws : Words) (ready : Bool) (run : Bytes) (from at count : ℕ) : Type 0 where

@@ -9,16 +9,17 @@ ghost use Rattle.meaning.specs.Mmtp.{mmtp_of};
 ghost use Rattle.meaning.specs.Narrow.{packet_for, narrow_packet};
 ghost use Rattle.meaning.specs.Learn.{Known};
 ghost use Rattle.narrowing.specs.Answers.{signal_of};
-ghost use Rattle.learning.specs.Kept.{Keeps, pairs_in};
+ghost use Rattle.learning.specs.Kept.{pairs_in};
+ghost use Rattle.observing.specs.Steps.{KeepsIn};
 ghost use Rattle.passing.specs.Verdicts.{VerdictIs, Signals, SignalsSome, RowIs};
-ghost use Rattle.passing.specs.Passing.{cuts_plt, cuts, Spares, Emitted, Refreshed, Fits, SofarSome, SofarAfter, AheadIs, Along, ScannedAs, with_skipped, with_withheld, with_row};
+ghost use Rattle.passing.specs.Passing.{cuts_plt, cuts, Spares, Emitted, Refreshed, FitsOne, Fits, SofarSome, SofarAfter, AheadIs, Along, ScannedAs, with_skipped, with_withheld, with_row};
 
 use learning::packages::lists_service;
-use learning::{Extent, no_news, with_news};
+use learning::{Extent, Kept, no_news, with_news};
 use meaning::{Counts, Modes, Options, Service, Step};
 use narrowing::narrow::rewrite;
 use observing::observe::observe;
-use octets::{copy, has};
+use octets::{IdSet, copy};
 use rules::{decide, ready};
 use tables::fields::End;
 use tlv::{Mmtp, gap_end, mmtp_of, next, packet_payload};
@@ -55,8 +56,8 @@ pub enum Verdict {
     Signalling(Signal),
 }
 
-fn verdict_of(p: &[u8], set: &[u64; 1024], is_ready: bool) -> Verdict
-    ensures { VerdictIs p.now set.now is_ready result }
+fn verdict_of(p: &[u8], set: &IdSet, is_ready: bool) -> Verdict
+    ensures { VerdictIs p.now set.now.words is_ready result }
 {
     let Mmtp::Read {
         identifier,
@@ -75,7 +76,7 @@ fn verdict_of(p: &[u8], set: &[u64; 1024], is_ready: bool) -> Verdict
     if !is_ready {
         return Verdict::Withhold;
     }
-    if has(set, identifier) {
+    if set.has(identifier) {
         return Verdict::Withhold;
     }
     Verdict::Pass
@@ -83,18 +84,27 @@ fn verdict_of(p: &[u8], set: &[u64; 1024], is_ready: bool) -> Verdict
 
 // ---- a signalling packet
 
-// One more taken in, and written up to `bytes` of the output.
-fn sent(c: Counts, bytes: usize, rewritten: usize) -> Counts
-    requires { (c.accepted + 1 ≤ 18446744073709551615) × (c.written + 1 ≤ 18446744073709551615) × (c.rewritten + rewritten ≤ 18446744073709551615) }
-    ensures { result ≡ record { bytes = bytes; accepted = c.accepted + 1; written = c.written + 1; rewritten = c.rewritten + rewritten; skipped = c.skipped; lost = c.lost } }
+// `n` more taken in.
+fn taken_in(c: Counts, n: usize) -> Counts
+    requires { c.accepted + n ≤ 18446744073709551615 }
+    ensures { result ≡ record c { accepted = c.accepted + n } }
+{
+    Counts {
+        accepted: c.accepted + n,
+        ..c
+    }
+}
+
+// `n` more taken in, and written up to `bytes` of the output.
+fn sent(c: Counts, n: usize, bytes: usize, rewritten: usize) -> Counts
+    requires { (c.accepted + n ≤ 18446744073709551615) × (c.written + n ≤ 18446744073709551615) × (c.rewritten + rewritten ≤ 18446744073709551615) }
+    ensures { result ≡ record c { bytes = bytes; accepted = c.accepted + n; written = c.written + n; rewritten = c.rewritten + rewritten } }
 {
     Counts {
         bytes,
-        accepted: c.accepted + 1,
-        written: c.written + 1,
+        written: c.written + n,
         rewritten: c.rewritten + rewritten,
-        skipped: c.skipped,
-        lost: c.lost,
+        ..taken_in(c, n)
     }
 }
 
@@ -102,16 +112,13 @@ fn sent(c: Counts, bytes: usize, rewritten: usize) -> Counts
 fn against(there: bool, wanted: bool) -> bool
     ensures { result ≡ (there && not wanted) }
 {
-    if there {
-        return !wanted;
-    }
-    false
+    there && !wanted
 }
 
 // Whether the wanted service may stand in a PLT of the payload: in one on identifier 0 that changed what is known, or of which not all
 // packages are listed; else only if it is listed.
 fn cuts_plt(service: Service, id: u16, e: Extent, packages: &[u32; 255]) -> bool
-    requires { (e.package_count ≤ 255) × (length packages.now ≡ 255) }
+    requires { e.package_count ≤ 255 }
     ensures { result ≡ cuts_plt service id e.news (pairs_in e.package_count packages.now) }
 {
     let Service::Only(wanted) = service else {
@@ -120,11 +127,10 @@ fn cuts_plt(service: Service, id: u16, e: Extent, packages: &[u32; 255]) -> bool
     if id != 0 {
         return false;
     }
-    let n = e.news;
-    if n.changed {
+    if e.news.changed {
         return true;
     }
-    if n.unlisted {
+    if e.news.unlisted {
         return true;
     }
     lists_service(packages, e.package_count, wanted)
@@ -132,7 +138,7 @@ fn cuts_plt(service: Service, id: u16, e: Extent, packages: &[u32; 255]) -> bool
 
 // Whether a wish is against anything that stands in a payload's tables.
 fn cuts(o: Options, id: u16, e: Extent, packages: &[u32; 255]) -> bool
-    requires { (e.package_count ≤ 255) × (length packages.now ≡ 255) }
+    requires { e.package_count ≤ 255 }
     ensures { result ≡ cuts o id e.news (pairs_in e.package_count packages.now) }
 {
     let n = e.news;
@@ -145,8 +151,7 @@ fn cuts(o: Options, id: u16, e: Extent, packages: &[u32; 255]) -> bool
     if against(n.carousel, o.carousel) {
         return true;
     }
-    let service = o.service;
-    cuts_plt(service, id, e, packages)
+    cuts_plt(o.service, id, e, packages)
 }
 
 // Narrowed, or as it is where narrowing leaves it. Learning has been through the tables already: narrowing is asked only where a wish is
@@ -154,52 +159,52 @@ fn cuts(o: Options, id: u16, e: Extent, packages: &[u32; 255]) -> bool
 fn narrowed(
     p: &[u8],
     payload: &[u8],
-    s: Signal,
-    e: Extent,
+    signal: Signal,
+    s: Progress,
+    t: Terms,
     packages: &[u32; 255],
-    o: Options,
-    modes: Modes,
-    c: Counts,
     out: &mut [u8],
 ) -> Counts
-    requires { (mmtp_of p.now ≡ some (signal_of s.id s.rewritable payload.now)) × Spares o s.id e.news (pairs_in e.package_count packages.now) payload.now × (e.package_count ≤ 255) × (length packages.now ≡ 255) × (c.bytes + length p.now ≤ length out.old) × (c.accepted + 1 ≤ 18446744073709551615) × (c.written + 1 ≤ 18446744073709551615) × (c.rewritten + 1 ≤ 18446744073709551615) }
-    ensures { Emitted false (packet_for modes o p.now (some (signal_of s.id s.rewritable payload.now))) p.now c out.old result out.new }
+    requires { (mmtp_of p.now ≡ some (signal_of signal.id signal.rewritable payload.now)) × Spares t.options signal.id s.extent.news (pairs_in s.extent.package_count packages.now) payload.now × (s.extent.package_count ≤ 255) × FitsOne s.counts (length p.now) (length out.old) }
+    ensures { Emitted false (packet_for t.modes t.options p.now (some (signal_of signal.id signal.rewritable payload.now))) p.now s.counts out.old result out.new }
 {
-    if cuts(o, s.id, e, packages) {
-        if let End::At(last) = rewrite(p, payload, s.id, s.rewritable, o, modes, out, c.bytes) {
-            return sent(c, last, 1);
+    let o = t.options;
+    let c = s.counts;
+    if cuts(o, signal.id, s.extent, packages) {
+        if let End::At(last) = rewrite(
+            p,
+            payload,
+            signal.id,
+            signal.rewritable,
+            o,
+            t.modes,
+            out,
+            c.bytes,
+        ) {
+            return sent(c, 1, last, 1);
         }
     }
-    sent(c, copy(p, out, c.bytes), 0)
+    sent(c, 1, copy(p, out, c.bytes), 0)
 }
 
 // A signalling packet, after it was learned from: withheld where the set has it, else written.
 fn emit(
     p: &[u8],
     payload: &[u8],
-    s: Signal,
-    e: Extent,
+    signal: Signal,
+    s: Progress,
+    t: Terms,
     packages: &[u32; 255],
-    o: Options,
-    modes: Modes,
-    c: Counts,
-    set: &[u64; 1024],
+    set: &IdSet,
     out: &mut [u8],
 ) -> Counts
-    requires { Signals p.now payload.now s.id s.rewritable × Spares o s.id e.news (pairs_in e.package_count packages.now) payload.now × (e.package_count ≤ 255) × (length packages.now ≡ 255) × (c.bytes + length p.now ≤ length out.old) × (c.accepted + 1 ≤ 18446744073709551615) × (c.written + 1 ≤ 18446744073709551615) × (c.rewritten + 1 ≤ 18446744073709551615) }
-    ensures { Emitted (in_set set.now s.id) (narrow_packet modes o p.now) p.now c out.old result out.new }
+    requires { Signals p.now payload.now signal.id signal.rewritable × Spares t.options signal.id s.extent.news (pairs_in s.extent.package_count packages.now) payload.now × (s.extent.package_count ≤ 255) × FitsOne s.counts (length p.now) (length out.old) }
+    ensures { Emitted (in_set set.now.words signal.id) (narrow_packet t.modes t.options p.now) p.now s.counts out.old result out.new }
 {
-    if has(set, s.id) {
-        return Counts {
-            bytes: c.bytes,
-            accepted: c.accepted + 1,
-            written: c.written,
-            rewritten: c.rewritten,
-            skipped: c.skipped,
-            lost: c.lost,
-        };
+    if set.has(signal.id) {
+        return taken_in(s.counts, 1);
     }
-    narrowed(p, payload, s, e, packages, o, modes, c, out)
+    narrowed(p, payload, signal, s, t, packages, out)
 }
 
 // Readiness after a packet; the drop set is worked out again only where something changed.
@@ -207,22 +212,18 @@ fn refreshed(
     e: Extent,
     was: bool,
     o: Options,
-    data_set: &[u64; 1024],
-    packages: &[u32; 255],
-    map_heads: &[u32; 64],
+    kept: &Kept,
     map_room: &[u16],
-    set: &mut [u64; 1024],
+    set: &mut IdSet,
 ) -> bool
-    requires { (k : Known) × Keeps k e data_set.now packages.now map_heads.now map_room.now }
-    ensures { Refreshed e.news.changed o e was data_set.now packages.now map_heads.now map_room.now set.old result set.new }
+    requires { (k : Known) × KeepsIn k e kept.now map_room.now }
+    ensures { Refreshed e.news.changed o e was kept.now map_room.now set.old.words result set.new.words }
 {
-    let news = e.news;
-    if !news.changed {
+    if !e.news.changed {
         return was;
     }
-    decide(o, e, data_set, packages, map_heads, map_room, set);
-    let service = o.service;
-    ready(service, e, packages, map_heads)
+    decide(o, e, kept, map_room, set);
+    ready(o.service, e, kept)
 }
 
 // A signalling packet: learned from, then withheld or written.
@@ -231,44 +232,37 @@ fn signalling(
     signal: Signal,
     s: Progress,
     t: Terms,
-    data_set: &mut [u64; 1024],
-    packages: &mut [u32; 255],
-    map_heads: &mut [u32; 64],
+    kept: &mut Kept,
     map_room: &mut [u16],
-    fragment_heads: &mut [u64; 256],
     bodies: &mut [u8],
-    set: &mut [u64; 1024],
+    set: &mut IdSet,
     out: &mut [u8],
 ) -> Progress
-    requires { SignalsSome p.now signal.id signal.rewritable × Fits s (length p.now) (length out.old) × SofarSome t s data_set.old packages.old map_heads.old map_room.old fragment_heads.old bodies.old set.old out.old }
-    ensures { SofarAfter (p.now ∷ []) 0 t s data_set.old packages.old map_heads.old map_room.old fragment_heads.old bodies.old set.old out.old result data_set.new packages.new map_heads.new map_room.new fragment_heads.new bodies.new set.new out.new × ((m : ℕ) → Fits s (length p.now + m) (length out.old) → Fits result m (length out.new)) }
+    requires { SignalsSome p.now signal.id signal.rewritable × Fits s (length p.now) (length out.old) × SofarSome t s kept.old map_room.old bodies.old set.old.words out.old }
+    ensures { SofarAfter (p.now ∷ []) 0 t s kept.old map_room.old bodies.old set.old.words out.old result kept.new map_room.new bodies.new set.new.words out.new × ((m : ℕ) → Fits s (length p.now + m) (length out.old) → Fits result m (length out.new)) }
 {
-    let o = t.options;
-    let c = s.counts;
     let before = with_news(s.extent, no_news());
     let payload = packet_payload(p);
-    let e = observe(
-        payload,
-        signal.id,
-        t.most,
-        before,
-        data_set,
-        packages,
-        map_heads,
-        map_room,
-        fragment_heads,
-        bodies,
-    );
-    let is_ready = refreshed(e, s.ready, o, data_set, packages, map_heads, map_room, set);
-    let d = emit(p, payload, signal, e, packages, o, t.modes, c, set, out);
+    let extent = observe(payload, signal.id, t.most, before, kept, map_room, bodies);
+    let learned = Progress {
+        extent,
+        ready: refreshed(extent, s.ready, t.options, kept, map_room, set),
+        ..s
+    };
     Progress {
-        extent: e,
-        counts: d,
-        ready: is_ready,
+        counts: emit(p, payload, signal, learned, t, &kept.packages, set, out),
+        ..learned
     }
 }
 
 // ---- rows
+
+// A signalling packet that stands ahead: where it ends, and what it is.
+#[derive(Clone, Copy)]
+pub struct Ahead {
+    pub end: usize,
+    pub signal: Signal,
+}
 
 // What ends a row of packets that go to the output as they are.
 #[derive(Clone, Copy)]
@@ -277,7 +271,7 @@ pub enum Stop {
     More,
     Skip,
     Withhold(usize),
-    Signalling(usize, Signal),
+    Signalling(Ahead),
 }
 
 // `count` packets that go to the output as they are, up to `end`, and what stands there.
@@ -295,9 +289,9 @@ fn row_to(end: usize, count: usize, stop: Stop) -> Row
 }
 
 // A row is cut where it has 256 bytes: a longer one is read too far ahead of its copying.
-fn row_at(run: &[u8], from: usize, limit: usize, set: &[u64; 1024], is_ready: bool) -> Row
+fn row_at(run: &[u8], from: usize, limit: usize, set: &IdSet, is_ready: bool) -> Row
     requires { from ≤ length run.now }
-    ensures { RowIs limit set.now is_ready run.now from result }
+    ensures { RowIs limit set.now.words is_ready run.now from result }
 {
     let mut at = from;
     let mut count: usize = 0;
@@ -311,7 +305,11 @@ fn row_at(run: &[u8], from: usize, limit: usize, set: &[u64; 1024], is_ready: bo
                         count += 1;
                     }
                     Verdict::Withhold => return row_to(here, count, Stop::Withhold(at)),
-                    Verdict::Signalling(s) => return row_to(here, count, Stop::Signalling(at, s)),
+                    Verdict::Signalling(signal) => return row_to(
+                        here,
+                        count,
+                        Stop::Signalling(Ahead { end: at, signal }),
+                    ),
                 }
             }
             Step::Skip => return row_to(here, count, Stop::Skip),
@@ -327,19 +325,12 @@ fn with_skipped(s: Progress, n: usize) -> Progress
     requires { s.counts.skipped + n ≤ 18446744073709551615 }
     ensures { result ≡ with_skipped s n }
 {
-    let c = s.counts;
-    let e = s.extent;
     Progress {
-        extent: e,
         counts: Counts {
-            bytes: c.bytes,
-            accepted: c.accepted,
-            written: c.written,
-            rewritten: c.rewritten,
-            skipped: c.skipped + n,
-            lost: c.lost,
+            skipped: s.counts.skipped + n,
+            ..s.counts
         },
-        ready: s.ready,
+        ..s
     }
 }
 
@@ -347,19 +338,9 @@ fn with_withheld(s: Progress) -> Progress
     requires { s.counts.accepted + 1 ≤ 18446744073709551615 }
     ensures { result ≡ with_withheld s }
 {
-    let c = s.counts;
-    let e = s.extent;
     Progress {
-        extent: e,
-        counts: Counts {
-            bytes: c.bytes,
-            accepted: c.accepted + 1,
-            written: c.written,
-            rewritten: c.rewritten,
-            skipped: c.skipped,
-            lost: c.lost,
-        },
-        ready: s.ready,
+        counts: taken_in(s.counts, 1),
+        ..s
     }
 }
 
@@ -368,47 +349,23 @@ fn with_row(s: Progress, count: usize, bytes: usize) -> Progress
     requires { (s.counts.accepted + count ≤ 18446744073709551615) × (s.counts.written + count ≤ 18446744073709551615) }
     ensures { result ≡ with_row s count bytes }
 {
-    let c = s.counts;
-    let e = s.extent;
     Progress {
-        extent: e,
-        counts: Counts {
-            bytes,
-            accepted: c.accepted + count,
-            written: c.written + count,
-            rewritten: c.rewritten,
-            skipped: c.skipped,
-            lost: c.lost,
-        },
-        ready: s.ready,
+        counts: sent(s.counts, count, bytes, 0),
+        ..s
     }
-}
-
-fn bytes_so_far(s: Progress) -> usize
-    ensures { result ≡ s.counts.bytes }
-{
-    let c = s.counts;
-    c.bytes
 }
 
 // ---- packets that teach nothing
 
-// What stands behind them: bytes to keep, or a signalling packet from one offset to another.
-#[derive(Clone, Copy)]
-pub enum Ahead {
-    Rest,
-    Signalling(usize, usize, Signal),
-}
-
-// How far they go.
+// How far they go; no signalling packet stands ahead where bytes to keep do.
 #[derive(Clone, Copy)]
 pub struct Stretch {
     pub progress: Progress,
     pub at: usize,
-    pub ahead: Ahead,
+    pub ahead: Option<Ahead>,
 }
 
-fn stretch_to(progress: Progress, at: usize, ahead: Ahead) -> Stretch
+fn stretch_to(progress: Progress, at: usize, ahead: Option<Ahead>) -> Stretch
     ensures { result ≡ record { progress = progress; at = at; ahead = ahead } }
 {
     Stretch {
@@ -424,22 +381,21 @@ fn plain_packets(
     from: usize,
     first: Progress,
     t: Terms,
-    set: &[u64; 1024],
+    set: &IdSet,
     out: &mut [u8],
 ) -> Stretch
     requires { (from ≤ length run.now) × Fits first (length run.now - from) (length out.old) }
-    ensures { Along run.now from t first set.now out.old result.progress result.at out.new × AheadIs t.limit run.now result.at result.ahead }
+    ensures { Along run.now from t first set.now.words out.old result.progress result.at out.new × AheadIs t.limit run.now result.at result.ahead }
 {
     let mut s = first;
     let mut at = from;
     loop {
         let x = row_at(run, at, t.limit, set, s.ready);
         let here = x.end;
-        let bytes = copy(&run[at..here], out, bytes_so_far(s));
+        let bytes = copy(&run[at..here], out, s.counts.bytes);
         s = with_row(s, x.count, bytes);
-        let stop = x.stop;
-        match stop {
-            Stop::Keep => return stretch_to(s, here, Ahead::Rest),
+        match x.stop {
+            Stop::Keep => return stretch_to(s, here, None),
             Stop::More => {
                 at = here;
             }
@@ -451,9 +407,7 @@ fn plain_packets(
                 at = end;
                 s = with_withheld(s);
             }
-            Stop::Signalling(end, signal) => {
-                return stretch_to(s, here, Ahead::Signalling(here, end, signal));
-            }
+            Stop::Signalling(ahead) => return stretch_to(s, here, Some(ahead)),
         }
     }
 }
@@ -467,52 +421,38 @@ pub struct Scanned {
     pub at: usize,
 }
 
-fn scanned_to(x: Stretch) -> Scanned
-    ensures { result ≡ record { progress = x.progress; at = x.at } }
-{
-    let s = x.progress;
-    Scanned {
-        progress: s,
-        at: x.at,
-    }
-}
-
 // The packets of a run.
 pub fn packets(
     run: &[u8],
     first: Progress,
     t: Terms,
-    data_set: &mut [u64; 1024],
-    packages: &mut [u32; 255],
-    map_heads: &mut [u32; 64],
+    kept: &mut Kept,
     map_room: &mut [u16],
-    fragment_heads: &mut [u64; 256],
     bodies: &mut [u8],
-    set: &mut [u64; 1024],
+    set: &mut IdSet,
     out: &mut [u8],
 ) -> Scanned
-    requires { Fits first (length run.now) (length out.old) × SofarSome t first data_set.old packages.old map_heads.old map_room.old fragment_heads.old bodies.old set.old out.old }
-    ensures { ScannedAs run.now t first data_set.old packages.old map_heads.old map_room.old fragment_heads.old bodies.old set.old out.old result data_set.new packages.new map_heads.new map_room.new fragment_heads.new bodies.new set.new out.new }
+    requires { Fits first (length run.now) (length out.old) × SofarSome t first kept.old map_room.old bodies.old set.old.words out.old }
+    ensures { ScannedAs run.now t first kept.old map_room.old bodies.old set.old.words out.old result kept.new map_room.new bodies.new set.new.words out.new }
 {
     let mut s = first;
     let mut at: usize = 0;
     loop {
         let x = plain_packets(run, at, s, t, set, out);
-        let ahead = x.ahead;
-        let Ahead::Signalling(here, end, signal) = ahead else {
-            return scanned_to(x);
+        let Some(next) = x.ahead else {
+            return Scanned {
+                progress: x.progress,
+                at: x.at,
+            };
         };
-        at = end;
+        at = next.end;
         s = signalling(
-            &run[here..end],
-            signal,
+            &run[x.at..at],
+            next.signal,
             x.progress,
             t,
-            data_set,
-            packages,
-            map_heads,
+            kept,
             map_room,
-            fragment_heads,
             bodies,
             set,
             out,

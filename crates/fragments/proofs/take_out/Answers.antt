@@ -1,9 +1,20 @@
-use native.Mathlib.Omega.{arith}
+use mathlib.Core.Path.{refl}
+use borrow.Author.Tests.{lt-ltb, le-ltb}
+use Rattle.fragments.specs.Fragments.{others_of}
 use Rattle.fragments.proofs.RoomLaws.{taken_out, none_out}
+use native.Mathlib.Omega.{arith}
 use Rattle.fragments.proofs.take_out.Goals as goal
 
-pub returns-then-index-n : goal.returns-then-index-n
-returns-then-index-n c = taken_out c.args.index c.args.n c.args.fragment_heads.now _ (omega arith) (omega arith) c.close_slot.ensures
+pub returns-then-index-n-clause-out : goal.returns-then-index-n-clause-out
+returns-then-index-n-clause-out c = taken_out c.args.index c.args.n c.args.fragment_heads.now _ (omega arith) (omega arith) c.close_slot.ensures
 
-pub returns-else-index-n : goal.returns-else-index-n
-returns-else-index-n c = none_out c.args.index c.args.n c.args.fragment_heads.now (omega arith)
+pub returns-clause-out : goal.returns-clause-out
+returns-clause-out c = none_out c.args.index c.args.n c.args.fragment_heads.now (omega arith)
+
+pub returns-then-index-n-clause-count : goal.returns-then-index-n-clause-count
+unfolding others_of
+returns-then-index-n-clause-count c = rw (lt-ltb c.args.index c.args.n (omega arith)) refl
+
+pub returns-clause-count : goal.returns-clause-count
+unfolding others_of
+returns-clause-count c = rw (le-ltb c.args.index c.args.n (omega arith)) refl

@@ -10,17 +10,17 @@ returns-then-id-ne0 c =
     let a = c.args in
     plt_elsewhere a.service a.id a.e.news (pairs_in a.e.package_count a.packages.now) _ c.in-Only.is c.if-id-ne0.true
 
-pub returns-then-n : goal.returns-then-n
-returns-then-n c =
+pub returns-then-e : goal.returns-then-e
+returns-then-e c =
     let a = c.args in
-    plt_changed a.service a.id a.e.news (pairs_in a.e.package_count a.packages.now) _ c.in-Only.is c.if-id-ne0.false c.if-n.true
+    plt_changed a.service a.id a.e.news (pairs_in a.e.package_count a.packages.now) _ c.in-Only.is c.if-id-ne0.false c.if-e.true
 
-pub returns-then-n-2 : goal.returns-then-n-2
-returns-then-n-2 c =
+pub returns-then-e-2 : goal.returns-then-e-2
+returns-then-e-2 c =
     let a = c.args in
-    plt_unlisted a.service a.id a.e.news (pairs_in a.e.package_count a.packages.now) _ c.in-Only.is c.if-id-ne0.false c.if-n.false c.if-n-2.true
+    plt_unlisted a.service a.id a.e.news (pairs_in a.e.package_count a.packages.now) _ c.in-Only.is c.if-id-ne0.false c.if-e.false c.if-e-2.true
 
 pub returns : goal.returns
 returns c =
     let a = c.args in
-    plt_listed a.service a.id a.e.news (pairs_in a.e.package_count a.packages.now) _ c.in-Only.is c.if-id-ne0.false c.if-n.false c.if-n-2.false _ c.lists_service.ensures
+    plt_listed a.service a.id a.e.news (pairs_in a.e.package_count a.packages.now) _ c.in-Only.is c.if-id-ne0.false c.if-e.false c.if-e-2.false _ c.lists_service.ensures

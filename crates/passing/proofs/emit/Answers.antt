@@ -3,9 +3,9 @@ use Rattle.passing.proofs.SignalLaws.{narrows_as}
 use Rattle.passing.proofs.emit.Goals as goal
 
 pub returns-then-has : goal.returns-then-has
-returns-then-has c = rw (sym c.has.ensures ∙ c.if-has.true) (refl, refl)
+returns-then-has c = rw (sym c.has.ensures ∙ c.if-has.true) (c.taken_in.ensures, refl)
 
 pub returns : goal.returns
 returns c =
     let a = c.args in
-    rw (sym c.has.ensures ∙ c.if-has.false, narrows_as a.modes a.o c.requires.0) c.narrowed.ensures
+    rw (sym c.has.ensures ∙ c.if-has.false, narrows_as a.t.modes a.t.options c.requires.0) c.narrowed.ensures

@@ -13,7 +13,7 @@ pub returns-in-At : goal.returns-in-At
 returns-in-At c =
     let a = c.args in
     let h = rw c.in-At.is at c.rewrite.ensures in
-    sent_narrowed _ a.p.now a.c _ _ _ _ h.0 h.1 h.2 c.sent.ensures
+    sent_narrowed _ a.p.now a.s.counts _ _ _ _ h.0 h.1 h.2 c.sent.ensures
 
 pub copy-requires : goal.copy-requires
 copy-requires c =
@@ -36,9 +36,9 @@ shape_of-out c =
 pub returns : goal.returns
 returns c =
     let a = c.args in
-    let stays : (packet_for a.modes a.o a.p.now (some (signal_of a.s.id a.s.rewritable a.payload.now)) ≡ none) × (c.if-cuts.out ≡ a.out.now) =
+    let stays : (packet_for a.t.modes a.t.options a.p.now (some (signal_of a.signal.id a.signal.rewritable a.payload.now)) ≡ none) × (c.if-cuts.out ≡ a.out.now) =
     elim c.if-cuts.branch [
       | then-cuts+in_default x ↦ let h = rw x.in_default.is at x.rewrite.ensures in (h.0, x.out-is ∙ h.1)
-      | else-cuts x ↦ (packet_spared a.modes a.o a.p.now (signal_of a.s.id a.s.rewritable a.payload.now) (c.requires.1 (sym c.cuts.ensures ∙ x.if-cuts.false)), x.out-is)
+      | else-cuts x ↦ (packet_spared a.t.modes a.t.options a.p.now (signal_of a.signal.id a.signal.rewritable a.payload.now) (c.requires.1 (sym c.cuts.ensures ∙ x.if-cuts.false)), x.out-is)
     ] in
-    sent_plain _ a.p.now a.c _ _ _ _ stays.0 (rw stays.1 at c.copy.ensures) c.sent-2.ensures
+    sent_plain _ a.p.now a.s.counts _ _ _ _ stays.0 (rw stays.1 at c.copy.ensures) c.sent-2.ensures

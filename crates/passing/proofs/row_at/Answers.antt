@@ -33,7 +33,7 @@ returns-in-Withhold c =
 pub returns-in-Signalling : goal.returns-in-Signalling
 returns-in-Signalling c =
     rw c.row_to-in-Signalling.ensures
-    (row_stops _ _ _ _ _ _ _ (Stop.Signalling _ _) ((packet_to c.args.limit c.args.run.now c.loop-at.at c.in-Packet.n (sym c.next.ensures ∙ c.in-Packet.is)), rw c.in-Signalling.is at c.verdict_of.ensures) c.loop-at.invariant)
+    (row_stops _ _ _ _ _ _ _ (Stop.Signalling _) ((packet_to c.args.limit c.args.run.now c.loop-at.at c.in-Packet.n (sym c.next.ensures ∙ c.in-Packet.is)), rw c.in-Signalling.is at c.verdict_of.ensures) c.loop-at.invariant)
 
 pub returns-in-Skip : goal.returns-in-Skip
 returns-in-Skip c = rw c.row_to-in-Skip.ensures (row_stops _ _ _ _ _ _ _ Stop.Skip (sym c.next.ensures ∙ c.in-Skip.is) c.loop-at.invariant)

@@ -1,0 +1,22 @@
+use native.Mathlib.Omega.{arith}
+use Rattle.fragments.proofs.GrowLaws.{pack_numbers, put}
+use Rattle.fragments.proofs.Held.put_behind.Goals as goal
+
+pub pack-requires : goal.pack-requires
+pack-requires c =
+    let a = c.args in
+    let pre = c.requires in
+    pack_numbers a.self.count a.fragment_heads.now a.bodies.now a.place pre.1 pre.2
+
+pub overflow_sub-place : goal.overflow_sub-place
+overflow_sub-place c =
+    let a = c.args in
+    let pre = c.requires in
+    omega (arith, (pack_numbers a.self.count a.fragment_heads.now a.bodies.now a.place pre.1 pre.2).0)
+
+pub returns : goal.returns
+returns c =
+    let a = c.args in
+    let pre = c.requires in
+    let w = c.copy in
+    put a.place a.id a.flags a.body.now a.self.count a.fragment_heads.now a.bodies.now pre.0 pre.1 pre.2 pre.3 _ _ _ _ _ _ c.take_out-count.ensures.count w.auto.out c.pack.ensures w.ensures c.take_out-count.ensures.out c.fragment_head.ensures
