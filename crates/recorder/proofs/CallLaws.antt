@@ -62,7 +62,7 @@ module _ (n at r m : ℕ) (rest work work₁ work₂ : Bytes) (inside : at ≤ n
 -- ---- a call begins
 
 module _ (t : Terms) (e : Extent) (first : Progress) (kept : Kept) (map_room : List ℕ) (bodies : Bytes) (set : Words) (out : Bytes)
-    (decided : DecidedAs t.options e data_set packages map_heads map_room set first) (lost : e.lost ≡ 0) where
+    (decided : DecidedAs t.options e kept.data_set.words kept.packages kept.map_heads map_room set first) (lost : e.lost ≡ 0) where
   begun_is : first ≡ begun e first.ready
   begun_is = λ i. record { extent = decided.extent_is i; counts = decided.counts_are i; ready = first.ready }
 

@@ -211,7 +211,7 @@ pub fn call_answer(
     kept: &Kept,
     n: Lengths,
 ) -> Answer
-    ensures { answer_number result ≡ cond (parts_sound b.limits b.options b.held_count b.extent kept.now n.work n.bodies n.map_room) (length_refusal n.work b.held_count n.chunk n.out) 4 }
+    ensures { answer_number result ≡ cond (parts_sound b.limits b.options b.held_count b.extent kept.now.packages kept.now.map_heads kept.now.fragment_heads n.work n.bodies n.map_room) (length_refusal n.work b.held_count n.chunk n.out) 4 }
 {
     let w = n.work;
     if !parts_sound(

@@ -71,8 +71,8 @@ pub fn decided(
     map_room: &[u16],
     set: &mut IdSet,
 ) -> Progress
-    requires { ((k : Known) × (ds : Words) × Keeps k e ds packages.now map_heads.now map_room.now) × (length set.old ≡ 1024) }
-    ensures { (ds : Words) → SetIs (λ q. not o.carousel && in_set ds q) set.old → DecidedAs o e ds packages.now map_heads.now map_room.now set.new result }
+    requires { ((k : Known) × (ds : Words) × Keeps k e ds kept.now.packages kept.now.map_heads map_room.now) }
+    ensures { (ds : Words) → SetIs (λ q. not o.carousel && in_set ds q) set.old.words → DecidedAs o e ds kept.now.packages kept.now.map_heads map_room.now set.new.words result }
 {
     decide_on(o, e, kept, map_room, set);
     Progress {

@@ -28,12 +28,9 @@ unsafe extern "C" {
         lists: usize,
         fragments: usize,
         leading: usize,
-        carousels: &mut Set,
-        packages: &mut [u32; 255],
-        maps: &mut [u32; 64],
+        kept: &mut Kept,
         room: *mut u16,
         room_length: usize,
-        heads: &mut [u64; 256],
         bodies: *mut u8,
         bodies_length: usize,
         after: &mut [usize; 7],
@@ -46,13 +43,20 @@ unsafe extern "C" {
         lists: usize,
         fragments: usize,
         leading: usize,
-        carousels: &Set,
-        packages: &[u32; 255],
-        maps: &[u32; 64],
+        kept: &Kept,
         room: *const u16,
         room_length: usize,
         set: &mut Set,
     );
+}
+
+/// What is kept: the data set, packages, heads of lists and of fragments, laid out as the proved code has them.
+#[repr(C)]
+struct Kept {
+    carousels: Set,
+    packages: [u32; 255],
+    maps: [u32; 64],
+    heads: [u64; 256],
 }
 
 /// How much is known: whether a PLT was seen, how many packages, lists and fragments there are, and how many of these lead.
@@ -67,11 +71,8 @@ struct Extent {
 
 pub struct Known {
     extent: Extent,
-    carousels: Box<Set>,
-    packages: Box<[u32; 255]>,
-    maps: Box<[u32; 64]>,
+    kept: Box<Kept>,
     room: Vec<u16>,
-    heads: Box<[u64; 256]>,
     bodies: Vec<u8>,
     drop: Box<Set>,
 }
@@ -80,11 +81,13 @@ impl Known {
     pub fn new() -> Self {
         Self {
             extent: Extent::default(),
-            carousels: Box::new([0; 1024]),
-            packages: Box::new([0; 255]),
-            maps: Box::new([0; 64]),
+            kept: Box::new(Kept {
+                carousels: [0; 1024],
+                packages: [0; 255],
+                maps: [0; 64],
+                heads: [0; 256],
+            }),
             room: vec![0; MAP_ROOM],
-            heads: Box::new([0; 256]),
             bodies: vec![0; TOTAL],
             drop: Box::new([0; 1024]),
         }
@@ -105,12 +108,9 @@ impl Known {
                 self.extent.lists,
                 self.extent.fragments,
                 self.extent.leading,
-                &mut self.carousels,
-                &mut self.packages,
-                &mut self.maps,
+                &mut self.kept,
                 self.room.as_mut_ptr(),
                 self.room.len(),
-                &mut self.heads,
                 self.bodies.as_mut_ptr(),
                 self.bodies.len(),
                 &mut after,
@@ -139,9 +139,7 @@ impl Known {
                 self.extent.lists,
                 self.extent.fragments,
                 self.extent.leading,
-                &self.carousels,
-                &self.packages,
-                &self.maps,
+                &self.kept,
                 self.room.as_ptr(),
                 self.room.len(),
                 &mut self.drop,
@@ -153,12 +151,12 @@ impl Known {
     pub fn learned(&self) -> Learned {
         Learned {
             plt_seen: self.extent.seen,
-            packages: self.packages[..self.extent.services]
+            packages: self.kept.packages[..self.extent.services]
                 .iter()
                 .map(|package| ((package >> 16) as u16, *package as u16))
                 .collect(),
             maps: (0..self.extent.lists).map(|nth| self.list(nth)).collect(),
-            data: members(&self.carousels),
+            data: members(&self.kept.carousels),
             pieces: self.pieces(),
         }
     }
@@ -169,7 +167,7 @@ impl Known {
 
     /// A list: its identifier, and the identifiers and kinds of its assets.
     fn list(&self, nth: usize) -> (u16, Vec<(u16, Part)>) {
-        let (identifier, count) = (self.maps[nth] >> 16, self.maps[nth] & 0xffff);
+        let (identifier, count) = (self.kept.maps[nth] >> 16, self.kept.maps[nth] & 0xffff);
         let numbers = &self.room[LIST * nth..][..2 * count as usize];
         let asset = |pair: &[u16]| (pair[0], part(pair[1]));
         (identifier as u16, numbers.chunks(2).map(asset).collect())
@@ -178,7 +176,7 @@ impl Known {
     /// The fragments: their identifiers, flags and bodies. Those that lead stand one after the other at the front of the
     /// room, the others so at its end.
     fn pieces(&self) -> BTreeMap<u16, (u8, Vec<u8>)> {
-        let heads = &self.heads[..self.extent.fragments];
+        let heads = &self.kept.heads[..self.extent.fragments];
         let (leading, others) = heads.split_at(self.extent.leading.min(heads.len()));
         let behind: usize = others.iter().map(length).sum();
         let end = self.bodies.len() - behind;
