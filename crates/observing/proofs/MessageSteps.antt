@@ -20,36 +20,21 @@ use Rattle.meaning.proofs.Framed.{walk_none, walk_some}
 use Rattle.tables.specs.Answers.{FrameIs}
 use Rattle.tables.specs.declared.messages.Frame.{Frame}
 use Rattle.learning.specs.News.{also, change_news}
-use Rattle.learning.specs.Learnt.{with_news}
 use Rattle.learning.specs.declared.Extent.{Extent}
 use Rattle.learning.specs.declared.Kept.{Kept}
 use Rattle.learning.specs.declared.News.{News}
-use Rattle.learning.proofs.AlsoLaws.{also_none, now_changed, also_changed}
+use Rattle.learning.proofs.AlsoLaws.{also_none}
 use Rattle.observing.specs.News.{news_tables, news_message, news_messages}
 use Rattle.observing.specs.Steps.{IndicatorIs, DataLearnt, KeepsIn, KeepsSome, After, Learns}
 use Rattle.observing.specs.declared.messages.Indicator.{Indicator}
 use Rattle.observing.proofs.StepLaws.{after_none}
 use Rattle.observing.proofs.FoldLaws.{Folds, LearntTo, and_none, and_last, to_begin, to_next, to_done}
 
--- ---- 0x8003
-
-abbrev told : Extent → Bool → Extent
-told e new = with_news e (also e.news (change_news new))
-
-pub data_old : (q : ℕ) (e : Extent) (ws : List ℕ) → in_set ws q ≡ true → e ≡ told e (not (in_set ws q))
-data_old q e ws h = ap (with_news e) (also_none e.news) ∙ ap (λ (b : Bool). told e (not b)) (sym h)
-
-pub data_new : (q : ℕ) (e : Extent) (ws : List ℕ) → in_set ws q ≡ false → with_news e (now_changed e.news) ≡ told e (not (in_set ws q))
-data_new q e ws h = ap (with_news e) (also_changed e.news) ∙ ap (λ (b : Bool). told e (not b)) (sym h)
+-- ---- a message, by its number
 
 -- a part is no longer than the whole
-pub part_few : (lost : ℕ) (s : Bytes) (a e : ℕ) → lost + length s ≤ 18446744073709551615 → lost + length (take (e - a) (drop a s)) ≤ 18446744073709551615
-part_few lost s a e h = omega (arith, length-take (e - a) (drop a s), length-drop a s)
-
 pub part_lost : (lost : ℕ) (s : Bytes) (a e r : ℕ) → r ≤ lost + length (take (e - a) (drop a s)) → r ≤ lost + length s
 part_lost lost s a e r h = omega (arith, length-take (e - a) (drop a s), length-drop a s)
-
--- ---- a message, by its number
 
 with_length : (ws : List ℕ) (q : ℕ) → length (with_id ws q) ≡ length ws
 unfolding with_id
@@ -142,10 +127,6 @@ module _ (s : Bytes) (long : Bool) (q : ℕ) (known : Extent) (a₀ : Kept) (o�
       to_begin (part_step q) (part_new q) (λ fs. learn_messages q (read_each fs)) (λ fs. news_messages q (read_each fs)) (parts_fold q) (parts long) s 0 known a₀ o₀ (omega arith) x
 
   module _ (e : Extent) (at : ℕ) (a : Kept) (o : List ℕ) (i : PartsSofar s long q known a₀ o₀ e at a o) where
-    pub parts_room : known.lost + length s ≤ 18446744073709551615 → (from to : ℕ) → FrameIs (message_body long (drop at s)) s at (Frame.Part from to)
-        → (e.lost + length (take (to - from) (drop from s)) ≤ 18446744073709551615) × KeepsSome e a o
-    parts_room few from to f = (omega (arith, i.countable, f.0, f.1, f.2, length-take (to - from) (drop from s), length-drop from s), i.some_known)
-
     pub parts_next : (from to : ℕ) (f : FrameIs (message_body long (drop at s)) s at (Frame.Part from to)) (r : Extent) (b : Kept) (o' : List ℕ) → length o' ≡ length o
         → Learns (part_step q (take (to - from) (drop from s))) (part_new q (take (to - from) (drop from s))) e a o r b o' → r.lost ≤ e.lost + length (take (to - from) (drop from s))
         → PartsSofar s long q known a₀ o₀ r to b o'

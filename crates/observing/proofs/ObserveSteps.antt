@@ -12,10 +12,9 @@ use Rattle.meaning.specs.Sets.{in_set}
 use Rattle.meaning.specs.Readers.{Out, byte, u16, walk}
 use Rattle.meaning.specs.Messages.{Message, indicator, aggregated, long_lengths, message, message_body, read_each, in_body, messages}
 use Rattle.meaning.specs.Tables.{Mpt, mpt, Package, plt, Table, is_plt, is_mpt, pa}
-use Rattle.meaning.specs.Learn.{Fragment, Known, learnt, listed, place_for, with_list, mpt_from, learn_mpt, plt_from, learn_plt, learn_table, learn_tables, pa_tables, with_data, learn_message, learn_messages, with_fragments, without, fragment_of, hold_first, middle, joined, last, by_indicator, observe}
+use Rattle.meaning.specs.Learn.{Fragment, Known, learnt, listed, place_for, with_list, mpt_from, learn_mpt, plt_from, learn_plt, learn_table, learn_tables, pa_tables, with_data, learn_message, learn_messages, with_fragments, without, fragment_of, joined, last, by_indicator, observe}
 use Rattle.meaning.specs.Leading.{leading_after, leading_observed}
 use Rattle.meaning.specs.declared.Limits.{Limits}
-use Rattle.meaning.proofs.ListLaws.{or_true, or_false}
 use Rattle.fragments.specs.Fragments.{HeldAfter, GrewAt, GaveUp, GivesBack, GrowsWithin}
 use Rattle.fragments.specs.declared.Held.{Held}
 use Rattle.fragments.specs.declared.Grown.{Grown}
@@ -25,11 +24,10 @@ use Rattle.learning.specs.News.{no_news, also}
 use Rattle.learning.specs.Learnt.{with_news}
 use Rattle.learning.specs.declared.Extent.{Extent}
 use Rattle.learning.specs.declared.Kept.{Kept}
-use Rattle.learning.specs.declared.News.{News}
 use Rattle.learning.proofs.AlsoLaws.{also_none}
 use Rattle.observing.specs.News.{news_messages, news_last, news_by, anything, news}
 use Rattle.observing.specs.Steps.{KeepsIn, After}
-use Rattle.observing.specs.Observed.{Holding, HoldingSome, Observed, lead_by, with_held, whole_step, whole_new, last_step, last_new, by_step, by_new}
+use Rattle.observing.specs.Observed.{Holding, HoldingSome, Observed, lead_by, with_held, last_step, by_step, by_new}
 use Rattle.observing.proofs.StepLaws.{keeps_news}
 
 -- ---- tables and messages leave the fragments
@@ -121,16 +119,6 @@ module _ (T q : ℕ) (k : Known) (fs : List Fragment) (e : Extent) (h : Held) (a
   fragments_observed x =
       record { holding = record { tables_kept = keeps_with k fs e h a o x; fragments_kept = f.kept }; lost_is = omega arith; news_are = also_none e.news; leading_is = f.leading_is }
 
--- what is not read may be anything
-pub also_anything : (n : News) → record { changed = n.changed; caption = true; carousel = true; other = true; unlisted = true } ≡ also n anything
-also_anything n i = record {
-  changed = sym (or_false n.changed) i;
-  caption = sym (or_true n.caption) i;
-  carousel = sym (or_true n.carousel) i;
-  other = sym (or_true n.other) i;
-  unlisted = sym (or_true n.unlisted) i;
-}
-
 -- nothing
 pub nothing_observed : (T : ℕ) (k : Known) (e : Extent) (a : Kept) (o : List ℕ) (bodies : Bytes) → Holding T k e a o bodies → Observed T (learnt k) no_news e.leading e e a o bodies
 nothing_observed T k e a o bodies h = record { holding = h; lost_is = omega arith; news_are = also_none e.news; leading_is = refl }
@@ -140,10 +128,6 @@ nothing_observed T k e a o bodies h = record { holding = h; lost_is = omega arit
 pub keeps_fragments : (k : Known) (fs : List Fragment) (e : Extent) (a : Kept) (o : List ℕ) → KeepsIn k e a o → KeepsIn (with_fragments fs k) e a o
 keeps_fragments k fs e a o h =
     record { seen = h.seen; packages_kept = h.packages_kept; maps_kept = h.maps_kept; data_set_is = h.data_set_is; data_set_all = h.data_set_all; map_room_is = h.map_room_is; map_room_all = h.map_room_all }
-
--- the part of a room is no longer than the room
-pub part_within : (lost : ℕ) (bodies : Bytes) (a e T most : ℕ) → length bodies ≡ T → lost + T ≤ most → lost + length (take (e - a) (drop a bodies)) ≤ most
-part_within lost bodies a e T most l h = omega (arith, length-take (e - a) (drop a bodies), length-drop a bodies)
 
 pub lost_within : (lost r : ℕ) (bodies : Bytes) (a e T : ℕ) → length bodies ≡ T → r ≤ lost + length (take (e - a) (drop a bodies)) → r ≤ lost + T
 lost_within lost r bodies a e T l h = omega (arith, length-take (e - a) (drop a bodies), length-drop a bodies)
@@ -239,19 +223,3 @@ module _ (L : Limits) (q : ℕ) (k : Known) (e r : Extent) (a : Kept) (o : List 
   unfolding observe news leading_observed
   payload_by [] z b d x = absurd (z refl)
   payload_by (f ∷ s) z b d x = rw (fresh, by_same L q f s k (indicator f) refl, new_same L q f s k (indicator f) refl) (rw d at x)
-
-module _ (L : Limits) (q flags : ℕ) (b : Bytes) (k : Known) (e r : Extent) (a : Kept) (o : List ℕ) (bodies : Bytes) where
-  abbrev By : Type 0
-  By = Observed L.total (by_step q flags b L k) (by_new q flags b L k) (lead_by q (by_step q flags b) L k e.leading) e r a o bodies
-
-  pub by_whole : indicator flags ≡ 0 → Observed L.total (whole_step q flags b L k) (whole_new q flags b L k) (lead_by q (whole_step q flags b) L k e.leading) e r a o bodies → By
-  by_whole i x = rw i x
-
-  pub by_first : indicator flags ≡ 1 → Observed L.total (learnt (with_fragments (hold_first L q flags b k.fragments) k)) no_news (leading_after q k.fragments (hold_first L q flags b k.fragments) e.leading) e r a o bodies → By
-  by_first i x = rw i x
-
-  pub by_middle : indicator flags ≡ 2 → Observed L.total (learnt (with_fragments (middle L q b k.fragments) k)) no_news (leading_after q k.fragments (middle L q b k.fragments) e.leading) e r a o bodies → By
-  by_middle i x = rw i x
-
-  pub by_last : indicator flags ≡ 3 → Observed L.total (last_step q b L k) (last_new q b L k) (lead_by q (last_step q b) L k e.leading) e r a o bodies → By
-  by_last i x = rw i x

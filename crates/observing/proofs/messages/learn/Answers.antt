@@ -9,24 +9,12 @@ returns-in_default c =
     let none_there = messages_none a.flags a.s.now c.from.result c.from.ensures c.in_default.not-Whole in
     ((λ k h. rw none_there (no_messages a.id k a.e _ _ h)), omega arith)
 
-pub learn_message-requires : goal.learn_message-requires
-learn_message-requires c = c.requires
-
-pub shape_of-map_room-then-flags-eq0 : goal.shape_of-map_room-then-flags-eq0
-shape_of-map_room-then-flags-eq0 c = c.learn_message.auto.map_room
-
 pub returns-then-flags-eq0 : goal.returns-then-flags-eq0
 returns-then-flags-eq0 c =
     let a = c.args in
     let one = messages_one a.flags a.s.now (rw c.in-Whole.is at c.from.ensures) (omega (arith, c.if-flags-eq0.true, and_mask a.flags 1)) in
     let y = c.learn_message in
     ((λ k h. rw one (y.ensures.0 k h)), y.ensures.1)
-
-pub learn_aggregate-requires : goal.learn_aggregate-requires
-learn_aggregate-requires c = c.requires
-
-pub shape_of-map_room : goal.shape_of-map_room
-shape_of-map_room c = c.learn_aggregate.auto.map_room
 
 pub returns : goal.returns
 returns c =

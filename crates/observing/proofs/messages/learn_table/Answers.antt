@@ -3,15 +3,6 @@ use Rattle.observing.specs.Steps.{table_in}
 use Rattle.observing.proofs.StepLaws.{table_plt, table_mpt, table_other}
 use Rattle.observing.proofs.messages.learn_table.Goals as goal
 
-pub mpt-requires : goal.mpt-requires
-mpt-requires c =
-    let pre = c.requires in
-    let h = pre.2.1 in
-    (pre.1, h.map_room_all, (pre.2.0.map_heads, h.maps_kept))
-
-pub shape_of-map_room-then-is_mpt : goal.shape_of-map_room-then-is_mpt
-shape_of-map_room-then-is_mpt c = c.mpt.auto.map_room
-
 pub returns-then-is_mpt : goal.returns-then-is_mpt
 returns-then-is_mpt c k h =
     let a = c.args in
@@ -32,11 +23,6 @@ returns-then-id-ne0 c k h =
     let x = c.is_mpt.ensures in
     table_other a.id (table_in a.t.now) k a.e a.e a.kept.now a.map_room.now h
     (sym x ∙ c.if-is_mpt.false) (λ n z. c.if-id-ne0.true z)
-
-pub plt-requires : goal.plt-requires
-plt-requires c =
-    let pre = c.requires in
-    (pre.2.0.packages, pre.2.1.packages_kept)
 
 pub returns : goal.returns
 returns c k h =

@@ -1,9 +1,8 @@
-use Rattle.observing.proofs.ObserveSteps.{keeps_fragments, part_within, lost_within, grew_some, last_grew, last_gave, last_absent}
+use Rattle.observing.proofs.ObserveSteps.{keeps_fragments, lost_within, grew_some, last_grew, last_gave, last_absent}
 use Rattle.fragments.proofs.GrowLaws.{grew_numbers}
 use Rattle.meaning.specs.Learn.{with_fragments, without}
 use lib.ListN.{length}
 use native.Mathlib.Omega.{arith}
-use Prim.Native.Nat.{◌+◌, ◌≤◌}
 use mathlib.Core.Path.{◌≡◌, ap}
 use Rattle.observing.proofs.observe.last.Goals as goal
 
@@ -24,23 +23,11 @@ slice_bounds-learn-end c =
     let g = grew_some _ a.p.most _ _ _ _ _ c.requires.1 _ _ _ _ _ _ (rw (c.held_of.ensures, c.in-At.is) at c.grow.ensures) in
     omega (arith, g.ordered, g.inside)
 
-pub learn-known-requires : goal.learn-known-requires
-learn-known-requires c =
-    let a = c.args in
-    let x = c.requires.1 in
-    let g = grew_some _ a.p.most _ _ _ _ _ x _ _ _ _ _ _ (rw (c.held_of.ensures, c.in-At.is) at c.grow.ensures) in
-    let t : length a.bodies.now ≡ x.0 = x.2.fragments_kept.total in
-    let pre : a.e.lost + x.0 ≤ 18446744073709551615 = omega (arith, c.requires.0, t) in
-    (part_within a.e.lost _ c.in-At.start c.in-At.end x.0 18446744073709551615 g.kept.total pre, (x.1, x.2.tables_kept))
-
 pub give_back-requires : goal.give_back-requires
 give_back-requires c =
     let a = c.args in
     let g = grew_some _ a.p.most _ _ _ _ _ c.requires.1 _ _ _ _ _ _ (rw (c.held_of.ensures, c.in-At.is) at c.grow.ensures) in
     grew_numbers _ a.p.id a.body.now _ _ _ _ _ _ _ g
-
-pub shape_of-bodies-in-At : goal.shape_of-bodies-in-At
-shape_of-bodies-in-At c = c.grow.auto.bodies
 
 pub returns-in-At : goal.returns-in-At
 returns-in-At c =

@@ -20,10 +20,6 @@ returns-then-has c =
       once_none a.bodies.now (drop 2 a.payload.now),
     )
 
-pub by_indicator-requires : goal.by_indicator-requires
-by_indicator-requires c =
-    (omega (arith, c.requires.0, length-drop 2 c.args.payload.now, ap length c.body_of-body.ensures), c.requires.1)
-
 pub returns : goal.returns
 returns c =
     let a = c.args in
