@@ -8,6 +8,8 @@ ghost use Rattle.learning.specs.Learnt.{with_news};
 pub mod lists;
 pub mod packages;
 
+use octets::IdSet;
+
 // What a payload brings: whether what is known changed, and what stands in its tables: assets of each kind, and, in a PLT on identifier 0,
 // packages that are not listed. Where no wish is against what stands there, narrowing has nothing to do.
 #[derive(Clone, Copy)]
@@ -31,6 +33,15 @@ pub struct Extent {
     pub lost: usize,
     pub seen: bool,
     pub news: News,
+}
+
+// What a record keeps of a broadcast beside its numbers: the data set, packages and map heads as pairs packed in one number, fragment heads.
+#[derive(Clone, Copy)]
+pub struct Kept {
+    pub data_set: IdSet,
+    pub packages: [u32; 255],
+    pub map_heads: [u32; 64],
+    pub fragment_heads: [u64; 256],
 }
 
 pub fn no_news() -> News

@@ -19,16 +19,16 @@ use Rattle.meaning.proofs.Local.{message_body_local}
 use Rattle.meaning.proofs.Framed.{walk_none, walk_some}
 use Rattle.tables.specs.Answers.{FrameIs}
 use Rattle.tables.specs.declared.messages.Frame.{Frame}
-use Rattle.learning.specs.Kept.{Keeps}
 use Rattle.learning.specs.News.{also, change_news}
 use Rattle.learning.specs.Learnt.{with_news}
 use Rattle.learning.specs.declared.Extent.{Extent}
+use Rattle.learning.specs.declared.Kept.{Kept}
 use Rattle.learning.specs.declared.News.{News}
 use Rattle.learning.proofs.AlsoLaws.{also_none, now_changed, also_changed}
 use Rattle.observing.specs.News.{news_tables, news_message, news_messages}
-use Rattle.observing.specs.Steps.{DataLearnt, After, KeepsSome, Learns}
+use Rattle.observing.specs.Steps.{DataLearnt, KeepsIn, KeepsSome, After, Learns}
 use Rattle.observing.proofs.StepLaws.{after_none}
-use Rattle.observing.proofs.FoldLaws.{Folds, Reached, and_none, and_last, reach_begin, reach_next, reach_done}
+use Rattle.observing.proofs.FoldLaws.{Folds, LearntTo, and_none, and_last, to_begin, to_next, to_done}
 
 -- ---- 0x8003
 
@@ -54,15 +54,15 @@ with_length : (ws : List ℕ) (q : ℕ) → length (with_id ws q) ≡ length ws
 unfolding with_id
 with_length ws q = simp length-set
 
-module _ (q : ℕ) (x : Message) (k : Known) (e : Extent) (c p m o : List ℕ) (h : Keeps k e c p m o) where
-  pub message_pa : x.number ≡ 0 → (r : Extent) (p' m' o' : List ℕ) → After (learn_tables q (pa_tables (pa x.body)) k) (news_tables q (pa_tables (pa x.body)) k) e r c p' m' o'
-      → After (learn_message q x k) (news_message q x k) e r c p' m' o'
+module _ (q : ℕ) (x : Message) (k : Known) (e : Extent) (a : Kept) (o : List ℕ) (h : KeepsIn k e a o) where
+  pub message_pa : x.number ≡ 0 → (r : Extent) (b : Kept) (o' : List ℕ) → After (learn_tables q (pa_tables (pa x.body)) k) (news_tables q (pa_tables (pa x.body)) k) e r a b o'
+      → After (learn_message q x k) (news_message q x k) e r a b o'
   unfolding learn_message news_message
-  message_pa n r p' m' o' a = rw (eq-eqb x.number 0 n) a
+  message_pa n r b o' f = rw (eq-eqb x.number 0 n) f
 
-  pub message_data : (x.number ≡ 0 → ⊥) → x.number ≡ 0x8003 → (r : Extent) (c' : List ℕ) → DataLearnt q e c r c' → After (learn_message q x k) (news_message q x k) e r c' p m o
+  pub message_data : (x.number ≡ 0 → ⊥) → x.number ≡ 0x8003 → (r : Extent) (ws : List ℕ) → DataLearnt q e a.data_set r ws → After (learn_message q x k) (news_message q x k) e r a (record a { data_set = ws }) o
   unfolding learn_message news_message
-  message_data z n r c' d =
+  message_data z n r ws d =
       rw (ne_eqb x.number 0 z, eq-eqb x.number 0x8003 n)
       (record {
         keeps =
@@ -70,35 +70,36 @@ module _ (q : ℕ) (x : Message) (k : Known) (e : Extent) (c p m o : List ℕ) (
               seen = ap (λ y. y.seen) d.1 ∙ h.seen;
               packages_kept = rw (ap (λ y. y.package_count) d.1) h.packages_kept;
               maps_kept = rw (ap (λ y. y.map_count) d.1) h.maps_kept;
-              data_set_is = d.0 ∙ ap (λ (ws : List ℕ). with_id ws q) h.data_set_is;
-              data_set_all = ap length d.0 ∙ with_length c q ∙ h.data_set_all;
+              data_set_is = d.0 ∙ ap (λ (vs : List ℕ). with_id vs q) h.data_set_is;
+              data_set_all = ap length d.0 ∙ with_length a.data_set q ∙ h.data_set_all;
               map_room_is = h.map_room_is;
               map_room_all = h.map_room_all;
             };
         lost_is = omega (arith, ap (λ y. y.lost) d.1);
-        news_are = ap (λ y. y.news) d.1 ∙ ap (λ (ws : List ℕ). also e.news (change_news (not (in_set ws q)))) h.data_set_is;
+        news_are = ap (λ y. y.news) d.1 ∙ ap (λ (vs : List ℕ). also e.news (change_news (not (in_set vs q)))) h.data_set_is;
         fragments_same = ap (λ y. y.fragment_count) d.1;
         leading_same = ap (λ y. y.leading) d.1;
+        heads_same = refl;
       })
 
-  pub message_other : (x.number ≡ 0 → ⊥) → (x.number ≡ 0x8003 → ⊥) → After (learn_message q x k) (news_message q x k) e e c p m o
+  pub message_other : (x.number ≡ 0 → ⊥) → (x.number ≡ 0x8003 → ⊥) → After (learn_message q x k) (news_message q x k) e e a a o
   unfolding learn_message news_message
-  message_other z n = rw (ne_eqb x.number 0 z, ne_eqb x.number 0x8003 n) (after_none k e c p m o h)
+  message_other z n = rw (ne_eqb x.number 0 z, ne_eqb x.number 0x8003 n) (after_none k e a o h)
 
 -- one message alone
-one_after : (q : ℕ) (x : Message) (k : Known) (e r : Extent) (c p m o : List ℕ) → After (learn_message q x k) (news_message q x k) e r c p m o
-    → After (learn_messages q (x ∷ []) k) (news_messages q (x ∷ []) k) e r c p m o
+one_after : (q : ℕ) (x : Message) (k : Known) (e r : Extent) (a b : Kept) (o : List ℕ) → After (learn_message q x k) (news_message q x k) e r a b o
+    → After (learn_messages q (x ∷ []) k) (news_messages q (x ∷ []) k) e r a b o
 unfolding learn_messages news_messages
-one_after q x k e r c p m o a = rw (and_last (learn_message q x k), ← also_none (news_message q x k)) a
+one_after q x k e r a b o f = rw (and_last (learn_message q x k), ← also_none (news_message q x k)) f
 
-module _ (q : ℕ) (s : Bytes) (k : Known) (e r : Extent) (c p m o : List ℕ) where
-  pub found_none : message s ≡ none → Keeps k e c p m o → After (learn_messages q (cons_message (message s) []) k) (news_messages q (cons_message (message s) []) k) e e c p m o
+module _ (q : ℕ) (s : Bytes) (k : Known) (e r : Extent) (a b : Kept) (o : List ℕ) where
+  pub found_none : message s ≡ none → KeepsIn k e a o → After (learn_messages q (cons_message (message s) []) k) (news_messages q (cons_message (message s) []) k) e e a a o
   unfolding learn_messages news_messages
-  found_none n h = rw n (after_none k e c p m o h)
+  found_none n h = rw n (after_none k e a o h)
 
-  pub found_after : (x : Message) (rest : Bytes) → message s ≡ some (x, rest) → After (learn_message q x k) (news_message q x k) e r c p m o
-      → After (learn_messages q (cons_message (message s) []) k) (news_messages q (cons_message (message s) []) k) e r c p m o
-  found_after x rest n a = rw n (one_after q x k e r c p m o a)
+  pub found_after : (x : Message) (rest : Bytes) → message s ≡ some (x, rest) → After (learn_message q x k) (news_message q x k) e r a b o
+      → After (learn_messages q (cons_message (message s) []) k) (news_messages q (cons_message (message s) []) k) e r a b o
+  found_after x rest n f = rw n (one_after q x k e r a b o f)
 
 -- ---- the parts of an aggregate, each a message or nothing
 
@@ -131,59 +132,39 @@ abbrev pub parts : Bool → Bytes → List Bytes
 parts long r = (walk (message_body long) r).found
 
 -- those before `at` are learned
-pub record PartsSofar (s : Bytes) (long : Bool) (q : ℕ) (known : Extent) (c₀ p₀ m₀ o₀ : List ℕ) (e : Extent) (at : ℕ) (c p m o : List ℕ) : Type 0 where
-  pub in_s : at ≤ length s
-  pub countable : e.lost + (length s - at) ≤ known.lost + length s
-  pub some_known : KeepsSome e c p m o
-  pub same : length o ≡ length o₀
-  pub reached : (k : Known) → Keeps k known c₀ p₀ m₀ o₀
-      → Reached (λ fs. learn_messages q (read_each fs)) (λ fs. news_messages q (read_each fs)) (parts long s) (parts long (drop at s)) k known e c p m o
+abbrev pub PartsSofar : Bytes → Bool → ℕ → Extent → Kept → List ℕ → Extent → ℕ → Kept → List ℕ → Type 0
+PartsSofar s long q known a₀ o₀ e at a o = LearntTo (λ fs. learn_messages q (read_each fs)) (λ fs. news_messages q (read_each fs)) (parts long) s 0 known a₀ o₀ e at a o
 
-module _ (s : Bytes) (long : Bool) (q : ℕ) (known : Extent) (c₀ p₀ m₀ o₀ : List ℕ) where
-  pub parts_begin : KeepsSome known c₀ p₀ m₀ o₀ → PartsSofar s long q known c₀ p₀ m₀ o₀ known 0 c₀ p₀ m₀ o₀
+module _ (s : Bytes) (long : Bool) (q : ℕ) (known : Extent) (a₀ : Kept) (o₀ : List ℕ) where
+  pub parts_begin : KeepsSome known a₀ o₀ → PartsSofar s long q known a₀ o₀ known 0 a₀ o₀
   parts_begin x =
-      record {
-        in_s = omega arith;
-        countable = omega arith;
-        some_known = x;
-        same = refl;
-        reached = λ k h. reach_begin (part_step q) (part_new q) (λ fs. learn_messages q (read_each fs)) (λ fs. news_messages q (read_each fs)) (parts_fold q) (parts long s) k known c₀ p₀ m₀ o₀ h;
-      }
+      to_begin (part_step q) (part_new q) (λ fs. learn_messages q (read_each fs)) (λ fs. news_messages q (read_each fs)) (parts_fold q) (parts long) s 0 known a₀ o₀ (omega arith) x
 
-  module _ (e : Extent) (at : ℕ) (c p m o : List ℕ) (i : PartsSofar s long q known c₀ p₀ m₀ o₀ e at c p m o) where
-    pub parts_room : known.lost + length s ≤ 18446744073709551615 → (a to : ℕ) → FrameIs (message_body long (drop at s)) s at (Frame.Part a to)
-        → (e.lost + length (take (to - a) (drop a s)) ≤ 18446744073709551615) × KeepsSome e c p m o
-    parts_room few a to f = (omega (arith, i.countable, f.0, f.1, f.2, length-take (to - a) (drop a s), length-drop a s), i.some_known)
+  module _ (e : Extent) (at : ℕ) (a : Kept) (o : List ℕ) (i : PartsSofar s long q known a₀ o₀ e at a o) where
+    pub parts_room : known.lost + length s ≤ 18446744073709551615 → (from to : ℕ) → FrameIs (message_body long (drop at s)) s at (Frame.Part from to)
+        → (e.lost + length (take (to - from) (drop from s)) ≤ 18446744073709551615) × KeepsSome e a o
+    parts_room few from to f = (omega (arith, i.countable, f.0, f.1, f.2, length-take (to - from) (drop from s), length-drop from s), i.some_known)
 
-    pub parts_next : (a to : ℕ) (f : FrameIs (message_body long (drop at s)) s at (Frame.Part a to)) (r : Extent) (c' p' m' o' : List ℕ) → length o' ≡ length o
-        → Learns (part_step q (take (to - a) (drop a s))) (part_new q (take (to - a) (drop a s))) e c p m o r c' p' m' o' → r.lost ≤ e.lost + length (take (to - a) (drop a s))
-        → PartsSofar s long q known c₀ p₀ m₀ o₀ r to c' p' m' o'
-    parts_next a to f r c' p' m' o' l g n =
-        let x = i.some_known in
-        let next_parts : parts long (drop at s) ≡ take (to - a) (drop a s) ∷ parts long (drop to s) =
-        ap (λ w. w.found) (walk_some (message_body_local long) (body_nil long) (drop at s) (take (to - a) (drop a s)) (drop to s) f.3) in
-        record {
-          in_s = f.2;
-          countable = omega (arith, i.countable, n, f.0, f.1, f.2, length-take (to - a) (drop a s), length-drop a s);
-          some_known = ((part_step q (take (to - a) (drop a s)) x.0).known, (g x.0 x.1).keeps);
-          same = l ∙ i.same;
-          reached = λ k h.
-              let y = subst (λ (fs : List Bytes). Reached (λ gs. learn_messages q (read_each gs)) (λ gs. news_messages q (read_each gs)) (parts long s) fs k known e c p m o) next_parts (i.reached k h) in
-              reach_next (part_step q) (part_new q) (λ fs. learn_messages q (read_each fs)) (λ fs. news_messages q (read_each fs)) (parts_fold q) (parts long s) k known
-              (take (to - a) (drop a s)) (parts long (drop to s)) e r c p m o c' p' m' o' y (g y.so.known y.after.keeps);
-        }
+    pub parts_next : (from to : ℕ) (f : FrameIs (message_body long (drop at s)) s at (Frame.Part from to)) (r : Extent) (b : Kept) (o' : List ℕ) → length o' ≡ length o
+        → Learns (part_step q (take (to - from) (drop from s))) (part_new q (take (to - from) (drop from s))) e a o r b o' → r.lost ≤ e.lost + length (take (to - from) (drop from s))
+        → PartsSofar s long q known a₀ o₀ r to b o'
+    parts_next from to f r b o' l g n =
+        let part = take (to - from) (drop from s) in
+        let next_parts : parts long (drop at s) ≡ part ∷ parts long (drop to s) =
+        ap (λ w. w.found) (walk_some (message_body_local long) (body_nil long) (drop at s) part (drop to s) f.3) in
+        to_next (part_step q) (part_new q) (λ fs. learn_messages q (read_each fs)) (λ fs. news_messages q (read_each fs)) (parts_fold q) (parts long) s 0 known a₀ o₀ e at a o i
+        part to (omega (arith, f.0, f.1)) f.2 next_parts r b o' l g (omega (arith, n, f.0, f.1, f.2, length-take (to - from) (drop from s), length-drop from s))
 
-    pub parts_done : message_body long (drop at s) ≡ none → Learns (λ k. learn_messages q (read_each (parts long s)) k) (λ k. news_messages q (read_each (parts long s)) k) known c₀ p₀ m₀ o₀ e c p m o
-    parts_done f k h =
-        let none_left : parts long (drop at s) ≡ [] = ap (λ w. w.found) (walk_none (message_body long) (drop at s) f) in
-        let y = subst (λ (fs : List Bytes). Reached (λ gs. learn_messages q (read_each gs)) (λ gs. news_messages q (read_each gs)) (parts long s) fs k known e c p m o) none_left (i.reached k h) in
-        reach_done (part_step q) (part_new q) (λ fs. learn_messages q (read_each fs)) (λ fs. news_messages q (read_each fs)) (parts_fold q) (parts long s) k known e c p m o y
+    pub parts_done : message_body long (drop at s) ≡ none → Learns (λ k. learn_messages q (read_each (parts long s)) k) (λ k. news_messages q (read_each (parts long s)) k) known a₀ o₀ e a o
+    parts_done f =
+        to_done (part_step q) (part_new q) (λ fs. learn_messages q (read_each fs)) (λ fs. news_messages q (read_each fs)) (parts_fold q) (parts long) s 0 known a₀ o₀ e at a o i
+        (ap (λ w. w.found) (walk_none (message_body long) (drop at s) f))
 
 -- ---- a payload's messages, by its first byte
 
-pub no_messages : (q : ℕ) (k : Known) (e : Extent) (c p m o : List ℕ) → Keeps k e c p m o → After (learn_messages q [] k) (news_messages q [] k) e e c p m o
+pub no_messages : (q : ℕ) (k : Known) (e : Extent) (a : Kept) (o : List ℕ) → KeepsIn k e a o → After (learn_messages q [] k) (news_messages q [] k) e e a a o
 unfolding learn_messages news_messages
-no_messages q k e c p m o h = after_none k e c p m o h
+no_messages q k e a o h = after_none k e a o h
 
 module _ (flags : ℕ) (s : Bytes) where
   pub messages_none : flags < 256 → (flags / 64 ≡ 0 → ⊥) → messages (flags ∷ 0 ∷ s) ≡ []

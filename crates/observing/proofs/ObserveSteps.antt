@@ -21,14 +21,14 @@ use Rattle.fragments.specs.Fragments.{HeldAfter, GrewAt, GaveUp, GivesBack}
 use Rattle.fragments.specs.declared.Held.{Held}
 use Rattle.fragments.proofs.FragmentLaws.{not_found, leading_none}
 use Rattle.fragments.proofs.GrowLaws.{joined_gone}
-use Rattle.learning.specs.Kept.{Keeps}
 use Rattle.learning.specs.News.{no_news, also}
 use Rattle.learning.specs.Learnt.{with_news}
 use Rattle.learning.specs.declared.Extent.{Extent}
+use Rattle.learning.specs.declared.Kept.{Kept}
 use Rattle.learning.specs.declared.News.{News}
 use Rattle.learning.proofs.AlsoLaws.{also_none}
 use Rattle.observing.specs.News.{news_messages, news_last, news_by, anything, news}
-use Rattle.observing.specs.Steps.{After}
+use Rattle.observing.specs.Steps.{KeepsIn, After}
 use Rattle.observing.specs.Observed.{Holding, Observed, lead_by, with_held, whole_step, whole_new, last_step, last_new, by_step, by_new}
 use Rattle.observing.proofs.StepLaws.{keeps_news}
 
@@ -76,33 +76,33 @@ messages_fragments q (m ∷ ms) k = messages_fragments q ms (learn_message q m k
 
 -- ---- the fragments are told apart from the rest
 
-pub keeps_with : (k : Known) (fs : List Fragment) (e : Extent) (h : Held) (c p m o : List ℕ) → Keeps k e c p m o → Keeps (with_fragments fs k) (with_held e h) c p m o
-keeps_with k fs e h c p m o x =
+pub keeps_with : (k : Known) (fs : List Fragment) (e : Extent) (h : Held) (a : Kept) (o : List ℕ) → KeepsIn k e a o → KeepsIn (with_fragments fs k) (with_held e h) a o
+keeps_with k fs e h a o x =
     record { seen = x.seen; packages_kept = x.packages_kept; maps_kept = x.maps_kept; data_set_is = x.data_set_is; data_set_all = x.data_set_all; map_room_is = x.map_room_is; map_room_all = x.map_room_all }
 
-module _ (T q : ℕ) (k : Known) (fs : List Fragment) (e : Extent) (h : Held) (c p m o fragment_heads : List ℕ) (bodies : Bytes)
-    (f : HeldAfter T q k.fragments fs e.leading h fragment_heads bodies) where
+module _ (T q : ℕ) (k : Known) (fs : List Fragment) (e : Extent) (h : Held) (a : Kept) (o : List ℕ) (bodies : Bytes)
+    (f : HeldAfter T q k.fragments fs e.leading h a.fragment_heads bodies) where
   -- messages learned where these fragments are held
-  pub messages_observed : (ms : List Message) (r : Extent)
-      → After (learn_messages q ms (with_fragments fs k)) (news_messages q ms (with_fragments fs k)) (with_held e h) r c p m o
+  pub messages_observed : (ms : List Message) (r : Extent) (b : Kept)
+      → After (learn_messages q ms (with_fragments fs k)) (news_messages q ms (with_fragments fs k)) (with_held e h) r a b o
       → Observed T (learn_messages q ms (with_fragments fs k)) (news_messages q ms (with_fragments fs k)) (leading_after q k.fragments (learn_messages q ms (with_fragments fs k)).known.fragments e.leading) e r
-      c p m o fragment_heads bodies
-  messages_observed ms r a =
+      b o bodies
+  messages_observed ms r b x =
       let same = messages_fragments q ms (with_fragments fs k) in
       record {
-        holding = record { tables_kept = a.keeps; fragments_kept = rw (same, a.fragments_same, a.leading_same) f.kept };
-        lost_is = a.lost_is;
-        news_are = a.news_are;
-        leading_is = a.leading_same ∙ f.leading_is ∙ ap (λ (l : List Fragment). leading_after q k.fragments l e.leading) (sym same);
+        holding = record { tables_kept = x.keeps; fragments_kept = rw (same, x.fragments_same, x.leading_same, x.heads_same) f.kept };
+        lost_is = x.lost_is;
+        news_are = x.news_are;
+        leading_is = x.leading_same ∙ f.leading_is ∙ ap (λ (l : List Fragment). leading_after q k.fragments l e.leading) (sym same);
       }
 
   -- the same, where they are told afterwards
-  pub messages_then : (ms : List Message) (r : Extent) → After (learn_messages q ms (with_fragments fs k)) (news_messages q ms (with_fragments fs k)) e r c p m o
+  pub messages_then : (ms : List Message) (r : Extent) → KeepsIn (learn_messages q ms (with_fragments fs k)).known r a o
+      → r.lost ≡ e.lost + (learn_messages q ms (with_fragments fs k)).lost → r.news ≡ also e.news (news_messages q ms (with_fragments fs k))
       → Observed T (learn_messages q ms (with_fragments fs k)) (news_messages q ms (with_fragments fs k)) (leading_after q k.fragments (learn_messages q ms (with_fragments fs k)).known.fragments e.leading) e
-      (with_held r h) c p m o fragment_heads bodies
-  messages_then ms r a =
+      (with_held r h) a o bodies
+  messages_then ms r x l n =
       let same = messages_fragments q ms (with_fragments fs k) in
-      let x = a.keeps in
       record {
         holding =
             record {
@@ -110,16 +110,16 @@ module _ (T q : ℕ) (k : Known) (fs : List Fragment) (e : Extent) (h : Held) (c
                   record { seen = x.seen; packages_kept = x.packages_kept; maps_kept = x.maps_kept; data_set_is = x.data_set_is; data_set_all = x.data_set_all; map_room_is = x.map_room_is; map_room_all = x.map_room_all };
               fragments_kept = rw same f.kept;
             };
-        lost_is = a.lost_is;
-        news_are = a.news_are;
+        lost_is = l;
+        news_are = n;
         leading_is = f.leading_is ∙ ap (λ (l : List Fragment). leading_after q k.fragments l e.leading) (sym same);
       }
 
   -- fragments alone
-  pub fragments_observed : Keeps k e c p m o
-      → Observed T (learnt (with_fragments fs k)) no_news (leading_after q k.fragments fs e.leading) e (with_held e h) c p m o fragment_heads bodies
+  pub fragments_observed : KeepsIn k e a o
+      → Observed T (learnt (with_fragments fs k)) no_news (leading_after q k.fragments fs e.leading) e (with_held e h) a o bodies
   fragments_observed x =
-      record { holding = record { tables_kept = keeps_with k fs e h c p m o x; fragments_kept = f.kept }; lost_is = omega arith; news_are = also_none e.news; leading_is = f.leading_is }
+      record { holding = record { tables_kept = keeps_with k fs e h a o x; fragments_kept = f.kept }; lost_is = omega arith; news_are = also_none e.news; leading_is = f.leading_is }
 
 -- what is not read may be anything
 pub also_anything : (n : News) → record { changed = n.changed; caption = true; carousel = true; other = true; unlisted = true } ≡ also n anything
@@ -132,13 +132,13 @@ also_anything n i = record {
 }
 
 -- nothing
-pub nothing_observed : (T : ℕ) (k : Known) (e : Extent) (c p m o fragment_heads : List ℕ) (bodies : Bytes) → Holding T k e c p m o fragment_heads bodies → Observed T (learnt k) no_news e.leading e e c p m o fragment_heads bodies
-nothing_observed T k e c p m o fragment_heads bodies h = record { holding = h; lost_is = omega arith; news_are = also_none e.news; leading_is = refl }
+pub nothing_observed : (T : ℕ) (k : Known) (e : Extent) (a : Kept) (o : List ℕ) (bodies : Bytes) → Holding T k e a o bodies → Observed T (learnt k) no_news e.leading e e a o bodies
+nothing_observed T k e a o bodies h = record { holding = h; lost_is = omega arith; news_are = also_none e.news; leading_is = refl }
 
 -- ---- a last fragment
 
-pub keeps_fragments : (k : Known) (fs : List Fragment) (e : Extent) (c p m o : List ℕ) → Keeps k e c p m o → Keeps (with_fragments fs k) e c p m o
-keeps_fragments k fs e c p m o h =
+pub keeps_fragments : (k : Known) (fs : List Fragment) (e : Extent) (a : Kept) (o : List ℕ) → KeepsIn k e a o → KeepsIn (with_fragments fs k) e a o
+keeps_fragments k fs e a o h =
     record { seen = h.seen; packages_kept = h.packages_kept; maps_kept = h.maps_kept; data_set_is = h.data_set_is; data_set_all = h.data_set_all; map_room_is = h.map_room_is; map_room_all = h.map_room_all }
 
 -- the part of a room is no longer than the room
@@ -149,31 +149,31 @@ pub lost_within : (lost r : ℕ) (bodies : Bytes) (a e T : ℕ) → length bodie
 lost_within lost r bodies a e T l h = omega (arith, length-take (e - a) (drop a bodies), length-drop a bodies)
 
 module _ (L : Limits) (q : ℕ) (b : Bytes) (k : Known) (e : Extent) where
-  abbrev Last : Extent → List ℕ → List ℕ → List ℕ → List ℕ → List ℕ → Bytes → Type 0
-  Last r c p m o fragment_heads bodies =
-      Observed L.total (last L q b k) (news_last (fragment_of q k.fragments) L q b k) (lead_by q (last_step q b) L k e.leading) e r c p m o fragment_heads bodies
+  abbrev Last : Extent → Kept → List ℕ → Bytes → Type 0
+  Last r a o bodies =
+      Observed L.total (last L q b k) (news_last (fragment_of q k.fragments) L q b k) (lead_by q (last_step q b) L k e.leading) e r a o bodies
 
-  pub last_grew : (start end flags : ℕ) (h : Held) (h₁ : List ℕ) (bodies : Bytes) → GrewAt L q b k.fragments start end flags h h₁ bodies
-      → (r : Extent) (h' : Held) (c p m o fragment_heads : List ℕ)
+  pub last_grew : (start end flags : ℕ) (h : Held) (a : Kept) (bodies : Bytes) → GrewAt L q b k.fragments start end flags h a.fragment_heads bodies
+      → (r : Extent) (h' : Held) (a' : Kept) (o heads : List ℕ)
       → After (learn_messages q (messages (flags ∷ 0 ∷ take (end - start) (drop start bodies))) (with_fragments (without q k.fragments) k))
-      (news_messages q (messages (flags ∷ 0 ∷ take (end - start) (drop start bodies))) (with_fragments (without q k.fragments) k)) e r c p m o
-      → GivesBack h.count h.leading h₁ h' fragment_heads → Last (with_held r h') c p m o fragment_heads bodies
+      (news_messages q (messages (flags ∷ 0 ∷ take (end - start) (drop start bodies))) (with_fragments (without q k.fragments) k)) e r a a' o
+      → GivesBack h.count h.leading a'.fragment_heads h' heads → Last (with_held r h') (record a' { fragment_heads = heads }) o bodies
   unfolding last joined
-  last_grew start end flags h h₁ bodies g r h' c p m o fragment_heads a w =
+  last_grew start end flags h a bodies g r h' a' o heads f w =
       let ms : messages (flags ∷ 0 ∷ take (end - start) (drop start bodies)) ≡ messages (joined g.fragment b) =
       ap₂ (λ (x : ℕ) (y : Bytes). messages (x ∷ 0 ∷ y)) g.flags_are g.body_is in
-      let f = joined_gone L q b k.fragments start end flags h h₁ bodies g h' fragment_heads e.leading w in
-      rw (g.found, g.fitting) (messages_then L.total q k (without q k.fragments) e h' c p m o fragment_heads bodies f (messages (joined g.fragment b)) r (rw ms at a))
+      let left = joined_gone L q b k.fragments start end flags h a.fragment_heads bodies g h' heads e.leading (rw f.heads_same at w) in
+      let x = rw ms at f in
+      rw (g.found, g.fitting) (messages_then L.total q k (without q k.fragments) e h' (record a' { fragment_heads = heads }) o bodies left (messages (joined g.fragment b)) r x.keeps x.lost_is x.news_are)
 
-  pub last_gave : (h : Held) (fragment_heads : List ℕ) (bodies : Bytes) → GaveUp L q b k.fragments e.leading h fragment_heads bodies → (c p m o : List ℕ) → Keeps k e c p m o
-      → Last (with_held e h) c p m o fragment_heads bodies
+  pub last_gave : (h : Held) (a : Kept) (bodies : Bytes) → GaveUp L q b k.fragments e.leading h a.fragment_heads bodies → (o : List ℕ) → KeepsIn k e a o
+      → Last (with_held e h) a o bodies
   unfolding last
-  last_gave h fragment_heads bodies g c p m o x = rw (g.found, g.fitting) (fragments_observed L.total q k (without q k.fragments) e h c p m o fragment_heads bodies g.left x)
+  last_gave h a bodies g o x = rw (g.found, g.fitting) (fragments_observed L.total q k (without q k.fragments) e h a o bodies g.left x)
 
-  pub last_absent : fragment_of q k.fragments ≡ none → (c p m o fragment_heads : List ℕ) (bodies : Bytes) → Holding L.total k e c p m o fragment_heads bodies
-      → Last e c p m o fragment_heads bodies
+  pub last_absent : fragment_of q k.fragments ≡ none → (a : Kept) (o : List ℕ) (bodies : Bytes) → Holding L.total k e a o bodies → Last e a o bodies
   unfolding last
-  last_absent f c p m o fragment_heads bodies h =
+  last_absent f a o bodies h =
       rw f
       (record { holding = h; lost_is = omega arith; news_are = also_none e.news; leading_is = sym (leading_none q k.fragments e.leading (not_found q k.fragments f)) })
 
@@ -205,20 +205,20 @@ module _ (L : Limits) (q flags : ℕ) (s : Bytes) (k : Known) where
   new_same (suc (suc zero)) i = refl
   new_same (suc (suc (suc n))) i = refl
 
-module _ (L : Limits) (q : ℕ) (k : Known) (e : Extent) (c p m o fragment_heads : List ℕ) (bodies : Bytes) (h : Holding L.total k e c p m o fragment_heads bodies) where
-  pub see_nothing : (s : Bytes) → length s ≡ 0 → Observed L.total (observe L q s k) (news L q s k) (leading_observed L q s k e.leading) e e c p m o fragment_heads bodies
+module _ (L : Limits) (q : ℕ) (k : Known) (e : Extent) (a : Kept) (o : List ℕ) (bodies : Bytes) (h : Holding L.total k e a o bodies) where
+  pub see_nothing : (s : Bytes) → length s ≡ 0 → Observed L.total (observe L q s k) (news L q s k) (leading_observed L q s k e.leading) e e a o bodies
   unfolding observe news leading_observed
-  see_nothing [] z = nothing_observed L.total k e c p m o fragment_heads bodies h
+  see_nothing [] z = nothing_observed L.total k e a o bodies h
   see_nothing (x ∷ s) z = absurd (omega arith)
 
   pub see_carousel : (s : Bytes) → (length s ≡ 0 → ⊥) → in_set k.data_set q ≡ true
-      → Observed L.total (observe L q s k) (news L q s k) (leading_observed L q s k e.leading) e (with_news e (also e.news anything)) c p m o fragment_heads bodies
+      → Observed L.total (observe L q s k) (news L q s k) (leading_observed L q s k e.leading) e (with_news e (also e.news anything)) a o bodies
   unfolding observe news leading_observed
   see_carousel [] n z = absurd (n refl)
   see_carousel (x ∷ s) n z =
       rw z
       (record {
-        holding = record { tables_kept = keeps_news k e (also e.news anything) c p m o h.tables_kept; fragments_kept = h.fragments_kept };
+        holding = record { tables_kept = keeps_news k e (also e.news anything) a o h.tables_kept; fragments_kept = h.fragments_kept };
         lost_is = omega arith;
         news_are = refl;
         leading_is = refl;
@@ -227,9 +227,9 @@ module _ (L : Limits) (q : ℕ) (k : Known) (e : Extent) (c p m o fragment_heads
 -- ---- the payload as the code has it
 
 -- the bytes from 2 on
-module _ (L : Limits) (q : ℕ) (k : Known) (e r : Extent) (c p m o fragment_heads : List ℕ) (bodies : Bytes) (fresh : in_set k.data_set q ≡ false) where
-  pub payload_by : (y : Bytes) → (length y ≡ 0 → ⊥) → (b : Bytes) → b ≡ drop 2 y → Observed L.total (by_step q (get_or y 0 0) b L k) (by_new q (get_or y 0 0) b L k) (lead_by q (by_step q (get_or y 0 0) b) L k e.leading) e r c p m o fragment_heads bodies
-      → Observed L.total (observe L q y k) (news L q y k) (leading_observed L q y k e.leading) e r c p m o fragment_heads bodies
+module _ (L : Limits) (q : ℕ) (k : Known) (e r : Extent) (a : Kept) (o : List ℕ) (bodies : Bytes) (fresh : in_set k.data_set q ≡ false) where
+  pub payload_by : (y : Bytes) → (length y ≡ 0 → ⊥) → (b : Bytes) → b ≡ drop 2 y → Observed L.total (by_step q (get_or y 0 0) b L k) (by_new q (get_or y 0 0) b L k) (lead_by q (by_step q (get_or y 0 0) b) L k e.leading) e r a o bodies
+      → Observed L.total (observe L q y k) (news L q y k) (leading_observed L q y k e.leading) e r a o bodies
   unfolding observe news leading_observed
   payload_by [] z b d x = absurd (z refl)
   payload_by (f ∷ s) z b d x = rw (fresh, by_same L q f s k (indicator f) refl, new_same L q f s k (indicator f) refl) (rw d at x)
@@ -238,20 +238,20 @@ top : (f n : ℕ) → f / 64 ≡ n → n < 4 → indicator f ≡ n
 unfolding indicator
 top f n e l = ap (λ (z : ℕ). z % 4) e ∙ mod-eq_of_lt l
 
-module _ (L : Limits) (q flags : ℕ) (b : Bytes) (k : Known) (e r : Extent) (c p m o fragment_heads : List ℕ) (bodies : Bytes) where
+module _ (L : Limits) (q flags : ℕ) (b : Bytes) (k : Known) (e r : Extent) (a : Kept) (o : List ℕ) (bodies : Bytes) where
   abbrev By : Type 0
-  By = Observed L.total (by_step q flags b L k) (by_new q flags b L k) (lead_by q (by_step q flags b) L k e.leading) e r c p m o fragment_heads bodies
+  By = Observed L.total (by_step q flags b L k) (by_new q flags b L k) (lead_by q (by_step q flags b) L k e.leading) e r a o bodies
 
-  pub by_whole : flags / 64 ≡ 0 → Observed L.total (whole_step q flags b L k) (whole_new q flags b L k) (lead_by q (whole_step q flags b) L k e.leading) e r c p m o fragment_heads bodies → By
+  pub by_whole : flags / 64 ≡ 0 → Observed L.total (whole_step q flags b L k) (whole_new q flags b L k) (lead_by q (whole_step q flags b) L k e.leading) e r a o bodies → By
   by_whole i x = rw (top flags 0 i (omega arith)) x
 
-  pub by_first : flags / 64 ≡ 1 → Observed L.total (learnt (with_fragments (hold_first L q flags b k.fragments) k)) no_news (leading_after q k.fragments (hold_first L q flags b k.fragments) e.leading) e r c p m o fragment_heads bodies → By
+  pub by_first : flags / 64 ≡ 1 → Observed L.total (learnt (with_fragments (hold_first L q flags b k.fragments) k)) no_news (leading_after q k.fragments (hold_first L q flags b k.fragments) e.leading) e r a o bodies → By
   by_first i x = rw (top flags 1 i (omega arith)) x
 
-  pub by_middle : flags / 64 ≡ 2 → Observed L.total (learnt (with_fragments (middle L q b k.fragments) k)) no_news (leading_after q k.fragments (middle L q b k.fragments) e.leading) e r c p m o fragment_heads bodies → By
+  pub by_middle : flags / 64 ≡ 2 → Observed L.total (learnt (with_fragments (middle L q b k.fragments) k)) no_news (leading_after q k.fragments (middle L q b k.fragments) e.leading) e r a o bodies → By
   by_middle i x = rw (top flags 2 i (omega arith)) x
 
-  pub by_last : flags / 64 ≡ 3 → Observed L.total (last_step q b L k) (last_new q b L k) (lead_by q (last_step q b) L k e.leading) e r c p m o fragment_heads bodies → By
+  pub by_last : flags / 64 ≡ 3 → Observed L.total (last_step q b L k) (last_new q b L k) (lead_by q (last_step q b) L k e.leading) e r a o bodies → By
   by_last i x = rw (top flags 3 i (omega arith)) x
 
 -- a byte's top bits are the last value where they are no other

@@ -17,12 +17,12 @@ use Rattle.tables.specs.Answers.{TableIs, PaHeadIs}
 use Rattle.tables.specs.declared.fields.End.TheVariants.{At}
 use Rattle.tables.specs.declared.pa.Table.TheVariants.{To}
 use Rattle.tables.proofs.WalkLaws.{table_at, walk_next, walk_stops}
-use Rattle.learning.specs.Kept.{Keeps}
 use Rattle.learning.specs.declared.Extent.{Extent}
+use Rattle.learning.specs.declared.Kept.{Kept}
 use Rattle.observing.specs.News.{news_table, news_tables}
-use Rattle.observing.specs.Steps.{After, KeepsSome, LearnsTables, table_in}
+use Rattle.observing.specs.Steps.{KeepsIn, KeepsSome, After, Learns, table_in}
 use Rattle.observing.proofs.StepLaws.{after_none}
-use Rattle.observing.proofs.FoldLaws.{Folds, Reached, reach_begin, reach_next, reach_done}
+use Rattle.observing.proofs.FoldLaws.{Folds, LearntTo, to_begin, to_next, to_done}
 
 -- ---- one table
 
@@ -77,60 +77,40 @@ module _ (s : Bytes) (at e : ℕ) (h : TableIs (table (drop at s)) s at (To e)) 
 abbrev pub found : Bytes → List (Table × Bytes)
 found r = (walk (raw table) r).found
 
-pub record TablesSofar (s : Bytes) (q tables : ℕ) (known : Extent) (p₀ m₀ o₀ : List ℕ) (e : Extent) (at : ℕ) (p m o : List ℕ) : Type 0 where
-  pub in_s : at ≤ length s
-  pub countable : e.lost + (length s - at) ≤ known.lost + length s
-  pub some_known : (c : List ℕ) × KeepsSome e c p m o
-  pub same : length o ≡ length o₀
-  pub reached : (c : List ℕ) (k : Known) → Keeps k known c p₀ m₀ o₀ → Reached (learn_tables q) (news_tables q) (found (drop tables s)) (found (drop at s)) k known e c p m o
+abbrev pub TablesSofar : Bytes → ℕ → ℕ → Extent → Kept → List ℕ → Extent → ℕ → Kept → List ℕ → Type 0
+TablesSofar s q tables known a₀ o₀ e at a o = LearntTo (learn_tables q) (news_tables q) found s tables known a₀ o₀ e at a o
 
-module _ (s : Bytes) (q tables : ℕ) (known : Extent) (p₀ m₀ o₀ : List ℕ) where
-  pub tables_begin : tables ≤ length s → (c : List ℕ) × KeepsSome known c p₀ m₀ o₀ → TablesSofar s q tables known p₀ m₀ o₀ known tables p₀ m₀ o₀
-  tables_begin l x =
-      record {
-        in_s = l;
-        countable = omega arith;
-        some_known = x;
-        same = refl;
-        reached = λ c k h. reach_begin (λ t. learn_table q t.0) (λ t. news_table q t.0) (learn_tables q) (news_tables q) (tables_fold q) (found (drop tables s)) k known c p₀ m₀ o₀ h;
-      }
+module _ (s : Bytes) (q tables : ℕ) (known : Extent) (a₀ : Kept) (o₀ : List ℕ) where
+  pub tables_begin : tables ≤ length s → KeepsSome known a₀ o₀ → TablesSofar s q tables known a₀ o₀ known tables a₀ o₀
+  tables_begin l x = to_begin (λ t. learn_table q t.0) (λ t. news_table q t.0) (learn_tables q) (news_tables q) (tables_fold q) found s tables known a₀ o₀ l x
 
-  module _ (e : Extent) (at : ℕ) (p m o : List ℕ) (i : TablesSofar s q tables known p₀ m₀ o₀ e at p m o) where
+  module _ (e : Extent) (at : ℕ) (a : Kept) (o : List ℕ) (i : TablesSofar s q tables known a₀ o₀ e at a o) where
     pub tables_room : known.lost + length s ≤ 18446744073709551615 → (to : ℕ) → TableIs (table (drop at s)) s at (To to)
-        → (4 ≤ length (take (to - at) (drop at s))) × (e.lost < 18446744073709551615) × ((c : List ℕ) × KeepsSome e c p m o)
+        → (4 ≤ length (take (to - at) (drop at s))) × (e.lost < 18446744073709551615) × KeepsSome e a o
     tables_room few to t =
         let n = length-take-le (to - at) (drop at s) (omega (arith, length-drop at s, t.0, t.1)) in
         (omega (arith, n, t.0), omega (arith, i.countable, few, t.0, t.1), i.some_known)
 
-    pub tables_next : (to : ℕ) (t : TableIs (table (drop at s)) s at (To to)) (r : Extent) (p' m' o' : List ℕ) → length o' ≡ length o
-        → LearnsTables (learn_table q (table_in (take (to - at) (drop at s)))) (news_table q (table_in (take (to - at) (drop at s)))) e p m o r p' m' o'
-        → TablesSofar s q tables known p₀ m₀ o₀ r to p' m' o'
-    tables_next to t r p' m' o' l f =
+    pub tables_next : (to : ℕ) (t : TableIs (table (drop at s)) s at (To to)) (r : Extent) (b : Kept) (o' : List ℕ) → length o' ≡ length o
+        → Learns (learn_table q (table_in (take (to - at) (drop at s)))) (news_table q (table_in (take (to - at) (drop at s)))) e a o r b o'
+        → TablesSofar s q tables known a₀ o₀ r to b o'
+    tables_next to t r b o' l f =
         let x = i.some_known in
-        let one = f x.0 x.1.0 x.1.1 in
-        let few = table_lost q (table_in (take (to - at) (drop at s))) x.1.0 in
-        record {
-          in_s = t.1;
-          countable = omega (arith, i.countable, one.lost_is, few, t.0, t.1);
-          some_known = (x.0, ((learn_table q (table_in (take (to - at) (drop at s))) x.1.0).known, one.keeps));
-          same = l ∙ i.same;
-          reached = λ c k h.
-              let y = subst (λ (ts : List (Table × Bytes)). Reached (learn_tables q) (news_tables q) (found (drop tables s)) ts k known e c p m o) (ap (λ w. w.found) (walk_next s at to t)) (i.reached c k h) in
-              reach_next (λ u. learn_table q u.0) (λ u. news_table q u.0) (learn_tables q) (news_tables q) (tables_fold q) (found (drop tables s)) k known
-              (table_at s at to, take (to - at) (drop at s)) (found (drop to s)) e r c p m o c p' m' o' y
-              (rw (table_in_lem s at to t) at (f c y.so.known y.after.keeps));
-        }
+        let one = f x.0 x.1 in
+        let few = table_lost q (table_in (take (to - at) (drop at s))) x.0 in
+        to_next (λ u. learn_table q u.0) (λ u. news_table q u.0) (learn_tables q) (news_tables q) (tables_fold q) found s tables known a₀ o₀ e at a o i
+        (table_at s at to, take (to - at) (drop at s)) to (omega (arith, t.0)) t.1 (ap (λ w. w.found) (walk_next s at to t)) r b o' l (rw (table_in_lem s at to t) at f)
+        (omega (arith, one.lost_is, few, t.0))
 
-    pub tables_done : table (drop at s) ≡ none → LearnsTables (learn_tables q (found (drop tables s))) (news_tables q (found (drop tables s))) known p₀ m₀ o₀ e p m o
-    tables_done t c k h =
-        let y = subst (λ (ts : List (Table × Bytes)). Reached (learn_tables q) (news_tables q) (found (drop tables s)) ts k known e c p m o) (walk_stops s at t) (i.reached c k h) in
-        reach_done (λ u. learn_table q u.0) (λ u. news_table q u.0) (learn_tables q) (news_tables q) (tables_fold q) (found (drop tables s)) k known e c p m o y
+    pub tables_done : table (drop at s) ≡ none → Learns (learn_tables q (found (drop tables s))) (news_tables q (found (drop tables s))) known a₀ o₀ e a o
+    tables_done t =
+        to_done (λ u. learn_table q u.0) (λ u. news_table q u.0) (learn_tables q) (news_tables q) (tables_fold q) found s tables known a₀ o₀ e at a o i (walk_stops s at t)
 
 -- ---- the body
 
-pub no_tables : (q : ℕ) (k : Known) (e : Extent) (c p m o : List ℕ) → Keeps k e c p m o → After (learn_tables q [] k) (news_tables q [] k) e e c p m o
+pub no_tables : (q : ℕ) (k : Known) (e : Extent) (a : Kept) (o : List ℕ) → KeepsIn k e a o → After (learn_tables q [] k) (news_tables q [] k) e e a a o
 unfolding learn_tables news_tables
-no_tables q k e c p m o h = after_none k e c p m o h
+no_tables q k e a o h = after_none k e a o h
 
 pub pa_none : (s : Bytes) → pa_head s ≡ none → pa_tables (pa s) ≡ []
 unfolding pa

@@ -7,6 +7,7 @@ use Rattle.meaning.specs.Learn.{Known, Learnt}
 use Rattle.learning.specs.Kept.{Keeps}
 use Rattle.learning.specs.News.{also, change_news}
 use Rattle.learning.specs.declared.Extent.{Extent}
+use Rattle.learning.specs.declared.Kept.{Kept}
 use Rattle.learning.specs.declared.News.{News}
 
 -- ---- a data-carousel identifier
@@ -18,27 +19,27 @@ DataLearnt p e ws r ws' =
 
 -- ---- tables and messages
 
--- The arrays hold some state.
-abbrev pub KeepsSome : Extent → List ℕ → List ℕ → List ℕ → List ℕ → Type 0
-KeepsSome e data_set packages map_heads map_room = (k : Known) × Keeps k e data_set packages map_heads map_room
+-- What is kept holds this state, but for the fragments.
+abbrev pub KeepsIn : Known → Extent → Kept → List ℕ → Type 0
+KeepsIn k e kept map_room = Keeps k e kept.data_set kept.packages kept.map_heads map_room
 
--- After a step: the state that is held, how many maps were lost, what is new.
-pub record After (l : Learnt) (new : News) (e r : Extent) (data_set packages map_heads map_room : List ℕ) : Type 0 where
-  pub keeps : Keeps l.known r data_set packages map_heads map_room
+-- It holds some state.
+abbrev pub KeepsSome : Extent → Kept → List ℕ → Type 0
+KeepsSome e kept map_room = (k : Known) × KeepsIn k e kept map_room
+
+-- After a step: the state that is held, how many maps were lost, what is new. Fragments are as they were.
+pub record After (l : Learnt) (new : News) (e r : Extent) (kept kept' : Kept) (map_room' : List ℕ) : Type 0 where
+  pub keeps : KeepsIn l.known r kept' map_room'
   pub lost_is : r.lost ≡ e.lost + l.lost
   pub news_are : r.news ≡ also e.news new
   pub fragments_same : r.fragment_count ≡ e.fragment_count
   pub leading_same : r.leading ≡ e.leading
+  pub heads_same : kept'.fragment_heads ≡ kept.fragment_heads
 
--- A step of learning, whatever state the arrays hold.
-abbrev pub Learns : (Known → Learnt) → (Known → News) → Extent → List ℕ → List ℕ → List ℕ → List ℕ → Extent → List ℕ → List ℕ → List ℕ → List ℕ → Type 0
-Learns step new e data_set packages map_heads map_room r data_set' packages' map_heads' map_room' =
-    (k : Known) → Keeps k e data_set packages map_heads map_room → After (step k) (new k) e r data_set' packages' map_heads' map_room'
-
--- A step that leaves the data-carousel identifiers as they are.
-abbrev pub LearnsTables : (Known → Learnt) → (Known → News) → Extent → List ℕ → List ℕ → List ℕ → Extent → List ℕ → List ℕ → List ℕ → Type 0
-LearnsTables step new e packages map_heads map_room r packages' map_heads' map_room' =
-    (data_set : List ℕ) → Learns step new e data_set packages map_heads map_room r data_set packages' map_heads' map_room'
+-- A step of learning, whatever state is held.
+abbrev pub Learns : (Known → Learnt) → (Known → News) → Extent → Kept → List ℕ → Extent → Kept → List ℕ → Type 0
+Learns step new e kept map_room r kept' map_room' =
+    (k : Known) → KeepsIn k e kept map_room → After (step k) (new k) e r kept kept' map_room'
 
 -- The table whose bytes these are.
 abbrev pub table_in : Bytes → Table

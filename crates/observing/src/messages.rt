@@ -1,15 +1,15 @@
 // Tables and messages in order: what each adds to what is known.
-ghost use Rattle.std.specs.Prelude.{◌≡◌, ℕ, ◌+◌, ◌-◌, ◌≤◌, ◌<◌, List, [], ◌∷◌, length};
+ghost use Rattle.std.specs.Prelude.{◌≡◌, ◌+◌, ◌-◌, ◌≤◌, ◌<◌, [], ◌∷◌, length};
 ghost use Rattle.meaning.specs.Readers.{walk};
 ghost use Rattle.meaning.specs.Messages.{long_lengths, cons_message, message, message_body, read_each, messages};
 ghost use Rattle.meaning.specs.Tables.{pa};
 ghost use Rattle.meaning.specs.Learn.{learn_table, learn_tables, pa_tables, learn_messages};
 ghost use Rattle.observing.specs.News.{news_table, news_tables, news_messages};
-ghost use Rattle.observing.specs.Steps.{KeepsSome, DataLearnt, Learns, LearnsTables, table_in};
+ghost use Rattle.observing.specs.Steps.{KeepsSome, DataLearnt, Learns, table_in};
 
 use learning::lists::mpt;
 use learning::packages::plt;
-use learning::{Extent, changed, with_news};
+use learning::{Extent, Kept, changed, with_news};
 use octets::{has, insert};
 use tables::fields::End;
 use tables::messages::{Found, Frame, frame_at, message};
@@ -20,17 +20,16 @@ fn learn_table(
     t: &[u8],
     id: u16,
     e: Extent,
-    packages: &mut [u32; 255],
-    map_heads: &mut [u32; 64],
+    kept: &mut Kept,
     map_room: &mut [u16],
 ) -> Extent
-    requires { (4 ≤ length t.now) × (e.lost < 18446744073709551615) × ((c : List ℕ) × KeepsSome e c packages.old map_heads.old map_room.old) }
-    ensures { LearnsTables (learn_table id (table_in t.now)) (news_table id (table_in t.now)) e packages.old map_heads.old map_room.old result packages.new map_heads.new map_room.new }
+    requires { (4 ≤ length t.now) × (e.lost < 18446744073709551615) × KeepsSome e kept.old map_room.old }
+    ensures { Learns (learn_table id (table_in t.now)) (news_table id (table_in t.now)) e kept.old map_room.old result kept.new map_room.new }
 {
     let number = t[0];
     let b = &t[4..];
     if is_mpt(number) {
-        return mpt(b, id, e, map_heads, map_room);
+        return mpt(b, id, e, &mut kept.map_heads, map_room);
     }
     if number != 0x80 {
         return e;
@@ -38,7 +37,7 @@ fn learn_table(
     if id != 0 {
         return e;
     }
-    plt(b, e, packages)
+    plt(b, e, &mut kept.packages)
 }
 
 // The tables of a PA message's body, walked by their own heads.
@@ -46,12 +45,11 @@ fn learn_pa(
     s: &[u8],
     id: u16,
     known: Extent,
-    packages: &mut [u32; 255],
-    map_heads: &mut [u32; 64],
+    kept: &mut Kept,
     map_room: &mut [u16],
 ) -> Extent
-    requires { (known.lost + length s.now ≤ 18446744073709551615) × ((c : List ℕ) × KeepsSome known c packages.old map_heads.old map_room.old) }
-    ensures { (LearnsTables (learn_tables id (pa_tables (pa s.now))) (news_tables id (pa_tables (pa s.now))) known packages.old map_heads.old map_room.old result packages.new map_heads.new map_room.new) × (result.lost ≤ known.lost + length s.now) }
+    requires { (known.lost + length s.now ≤ 18446744073709551615) × KeepsSome known kept.old map_room.old }
+    ensures { (Learns (learn_tables id (pa_tables (pa s.now))) (news_tables id (pa_tables (pa s.now))) known kept.old map_room.old result kept.new map_room.new) × (result.lost ≤ known.lost + length s.now) }
 {
     let mut e = known;
     let End::At(tables) = pa_tables(s) else {
@@ -64,7 +62,7 @@ fn learn_pa(
             return e;
         };
         at = end;
-        e = learn_table(&s[from..end], id, e, packages, map_heads, map_room);
+        e = learn_table(&s[from..end], id, e, kept, map_room);
     }
 }
 
@@ -86,22 +84,20 @@ fn learn_message(
     s: &[u8],
     id: u16,
     e: Extent,
-    data_set: &mut [u64; 1024],
-    packages: &mut [u32; 255],
-    map_heads: &mut [u32; 64],
+    kept: &mut Kept,
     map_room: &mut [u16],
 ) -> Extent
-    requires { (e.lost + length s.now ≤ 18446744073709551615) × KeepsSome e data_set.old packages.old map_heads.old map_room.old }
-    ensures { (Learns (learn_messages id (cons_message (message s.now) [])) (news_messages id (cons_message (message s.now) [])) e data_set.old packages.old map_heads.old map_room.old result data_set.new packages.new map_heads.new map_room.new) × (result.lost ≤ e.lost + length s.now) }
+    requires { (e.lost + length s.now ≤ 18446744073709551615) × KeepsSome e kept.old map_room.old }
+    ensures { (Learns (learn_messages id (cons_message (message s.now) [])) (news_messages id (cons_message (message s.now) [])) e kept.old map_room.old result kept.new map_room.new) × (result.lost ≤ e.lost + length s.now) }
 {
     let Found::Message { number, start, end } = message(s) else {
         return e;
     };
     if number == 0 {
-        return learn_pa(&s[start..end], id, e, packages, map_heads, map_room);
+        return learn_pa(&s[start..end], id, e, kept, map_room);
     }
     if number == 0x8003 {
-        return learn_data(id, e, data_set);
+        return learn_data(id, e, &mut kept.data_set);
     }
     e
 }
@@ -112,13 +108,11 @@ fn learn_aggregate(
     long: bool,
     id: u16,
     known: Extent,
-    data_set: &mut [u64; 1024],
-    packages: &mut [u32; 255],
-    map_heads: &mut [u32; 64],
+    kept: &mut Kept,
     map_room: &mut [u16],
 ) -> Extent
-    requires { (known.lost + length s.now ≤ 18446744073709551615) × KeepsSome known data_set.old packages.old map_heads.old map_room.old }
-    ensures { (Learns (learn_messages id (read_each (walk (message_body long) s.now).found)) (news_messages id (read_each (walk (message_body long) s.now).found)) known data_set.old packages.old map_heads.old map_room.old result data_set.new packages.new map_heads.new map_room.new) × (result.lost ≤ known.lost + length s.now) }
+    requires { (known.lost + length s.now ≤ 18446744073709551615) × KeepsSome known kept.old map_room.old }
+    ensures { (Learns (learn_messages id (read_each (walk (message_body long) s.now).found)) (news_messages id (read_each (walk (message_body long) s.now).found)) known kept.old map_room.old result kept.new map_room.new) × (result.lost ≤ known.lost + length s.now) }
 {
     let mut e = known;
     let mut at: usize = 0;
@@ -127,15 +121,7 @@ fn learn_aggregate(
             return e;
         };
         at = end;
-        e = learn_message(
-            &s[start..end],
-            id,
-            e,
-            data_set,
-            packages,
-            map_heads,
-            map_room,
-        );
+        e = learn_message(&s[start..end], id, e, kept, map_room);
     }
 }
 
@@ -153,28 +139,17 @@ pub fn learn(
     s: &[u8],
     id: u16,
     e: Extent,
-    data_set: &mut [u64; 1024],
-    packages: &mut [u32; 255],
-    map_heads: &mut [u32; 64],
+    kept: &mut Kept,
     map_room: &mut [u16],
 ) -> Extent
-    requires { (e.lost + length s.now ≤ 18446744073709551615) × KeepsSome e data_set.old packages.old map_heads.old map_room.old }
-    ensures { (Learns (learn_messages id (messages (flags ∷ 0 ∷ s.now))) (news_messages id (messages (flags ∷ 0 ∷ s.now))) e data_set.old packages.old map_heads.old map_room.old result data_set.new packages.new map_heads.new map_room.new) × (result.lost ≤ e.lost + length s.now) }
+    requires { (e.lost + length s.now ≤ 18446744073709551615) × KeepsSome e kept.old map_room.old }
+    ensures { (Learns (learn_messages id (messages (flags ∷ 0 ∷ s.now))) (news_messages id (messages (flags ∷ 0 ∷ s.now))) e kept.old map_room.old result kept.new map_room.new) × (result.lost ≤ e.lost + length s.now) }
 {
     if flags >> 6 != 0 {
         return e;
     }
     if flags & 1 == 0 {
-        return learn_message(s, id, e, data_set, packages, map_heads, map_room);
+        return learn_message(s, id, e, kept, map_room);
     }
-    learn_aggregate(
-        s,
-        long_lengths(flags),
-        id,
-        e,
-        data_set,
-        packages,
-        map_heads,
-        map_room,
-    )
+    learn_aggregate(s, long_lengths(flags), id, e, kept, map_room)
 }

@@ -10,7 +10,7 @@ ghost use Rattle.observing.specs.Observed.{HoldingSome, Observes, lead_by, with_
 
 use crate::messages::learn;
 use fragments::{Grown, Held, drop_fragment, give_back, grow, hold_first};
-use learning::{Extent, News, with_news};
+use learning::{Extent, Kept, News, with_news};
 use octets::has;
 
 // A payload's bytes from 2 on.
@@ -27,15 +27,10 @@ fn body_of(payload: &[u8]) -> &[u8]
 fn with_held(e: Extent, h: Held) -> Extent
     ensures { result ≡ with_held e h }
 {
-    let news = e.news;
     Extent {
-        seen: e.seen,
-        package_count: e.package_count,
-        map_count: e.map_count,
         fragment_count: h.count,
         leading: h.leading,
-        lost: e.lost,
-        news,
+        ..e
     }
 }
 
@@ -52,20 +47,17 @@ fn whole(
     body: &[u8],
     p: Piece,
     e: Extent,
-    data_set: &mut [u64; 1024],
-    packages: &mut [u32; 255],
-    map_heads: &mut [u32; 64],
+    kept: &mut Kept,
     map_room: &mut [u16],
-    fragment_heads: &mut [u64; 256],
     bodies: &mut [u8],
 ) -> Extent
-    requires { (e.lost + length body.now + length bodies.old ≤ 18446744073709551615) × HoldingSome e data_set.old packages.old map_heads.old map_room.old fragment_heads.old bodies.old }
-    ensures { Observes (whole_step p.id p.flags body.now) (whole_new p.id p.flags body.now) (lead_by p.id (whole_step p.id p.flags body.now)) p.most e data_set.old packages.old map_heads.old map_room.old fragment_heads.old bodies.old result data_set.new packages.new map_heads.new map_room.new fragment_heads.new bodies.new × (result.lost ≤ e.lost + length body.now) × MovedOnce bodies.old body.now bodies.new }
+    requires { (e.lost + length body.now + length bodies.old ≤ 18446744073709551615) × HoldingSome e kept.old map_room.old bodies.old }
+    ensures { Observes (whole_step p.id p.flags body.now) (whole_new p.id p.flags body.now) (lead_by p.id (whole_step p.id p.flags body.now)) p.most e kept.old map_room.old bodies.old result kept.new map_room.new bodies.new × (result.lost ≤ e.lost + length body.now) × MovedOnce bodies.old body.now bodies.new }
 {
-    let held = drop_fragment(p.id, e.fragment_count, e.leading, fragment_heads, bodies);
+    let held = drop_fragment(p.id, e.fragment_count, e.leading, &mut kept.fragment_heads, bodies);
     let known = with_held(e, held);
     learn(
-        p.flags, body, p.id, known, data_set, packages, map_heads, map_room,
+        p.flags, body, p.id, known, kept, map_room,
     )
 }
 
@@ -104,26 +96,22 @@ fn middle(
 // A last fragment: joined, its message is learned where it lies, and its room is given back.
 fn last(
     body: &[u8],
+    p: Piece,
     e: Extent,
-    id: u16,
-    most: usize,
-    data_set: &mut [u64; 1024],
-    packages: &mut [u32; 255],
-    map_heads: &mut [u32; 64],
+    kept: &mut Kept,
     map_room: &mut [u16],
-    fragment_heads: &mut [u64; 256],
     bodies: &mut [u8],
 ) -> Extent
-    requires { (e.lost + length body.now + length bodies.old ≤ 18446744073709551615) × HoldingSome e data_set.old packages.old map_heads.old map_room.old fragment_heads.old bodies.old }
-    ensures { Observes (last_step id body.now) (last_new id body.now) (lead_by id (last_step id body.now)) most e data_set.old packages.old map_heads.old map_room.old fragment_heads.old bodies.old result data_set.new packages.new map_heads.new map_room.new fragment_heads.new bodies.new × (result.lost ≤ e.lost + length bodies.old) × MovedOnce bodies.old body.now bodies.new }
+    requires { (e.lost + length body.now + length bodies.old ≤ 18446744073709551615) × HoldingSome e kept.old map_room.old bodies.old }
+    ensures { Observes (last_step p.id body.now) (last_new p.id body.now) (lead_by p.id (last_step p.id body.now)) p.most e kept.old map_room.old bodies.old result kept.new map_room.new bodies.new × (result.lost ≤ e.lost + length bodies.old) × MovedOnce bodies.old body.now bodies.new }
 {
     match grow(
-        id,
+        p.id,
         body,
-        most,
+        p.most,
         e.fragment_count,
         e.leading,
-        fragment_heads,
+        &mut kept.fragment_heads,
         bodies,
     ) {
         Grown::At {
@@ -135,14 +123,12 @@ fn last(
             let known = learn(
                 flags,
                 &bodies[start..end],
-                id,
+                p.id,
                 e,
-                data_set,
-                packages,
-                map_heads,
+                kept,
                 map_room,
             );
-            with_held(known, give_back(held.count, held.leading, fragment_heads))
+            with_held(known, give_back(held.count, held.leading, &mut kept.fragment_heads))
         }
         Grown::Discarded(held) => with_held(e, held),
         Grown::Absent => e,
@@ -154,40 +140,30 @@ fn by_indicator(
     body: &[u8],
     e: Extent,
     p: Piece,
-    data_set: &mut [u64; 1024],
-    packages: &mut [u32; 255],
-    map_heads: &mut [u32; 64],
+    kept: &mut Kept,
     map_room: &mut [u16],
-    fragment_heads: &mut [u64; 256],
     bodies: &mut [u8],
 ) -> Extent
-    requires { (e.lost + length body.now + length bodies.old ≤ 18446744073709551615) × HoldingSome e data_set.old packages.old map_heads.old map_room.old fragment_heads.old bodies.old }
-    ensures { Observes (by_step p.id p.flags body.now) (by_new p.id p.flags body.now) (lead_by p.id (by_step p.id p.flags body.now)) p.most e data_set.old packages.old map_heads.old map_room.old fragment_heads.old bodies.old result data_set.new packages.new map_heads.new map_room.new fragment_heads.new bodies.new × (result.lost ≤ e.lost + length body.now + length bodies.old) × MovedOnce bodies.old body.now bodies.new }
+    requires { (e.lost + length body.now + length bodies.old ≤ 18446744073709551615) × HoldingSome e kept.old map_room.old bodies.old }
+    ensures { Observes (by_step p.id p.flags body.now) (by_new p.id p.flags body.now) (lead_by p.id (by_step p.id p.flags body.now)) p.most e kept.old map_room.old bodies.old result kept.new map_room.new bodies.new × (result.lost ≤ e.lost + length body.now + length bodies.old) × MovedOnce bodies.old body.now bodies.new }
 {
     match p.flags >> 6 {
         0 => whole(
             body,
             p,
             e,
-            data_set,
-            packages,
-            map_heads,
+            kept,
             map_room,
-            fragment_heads,
             bodies,
         ),
-        1 => first(body, p, e, fragment_heads, bodies),
-        2 => middle(body, p, e, fragment_heads, bodies),
+        1 => first(body, p, e, &mut kept.fragment_heads, bodies),
+        2 => middle(body, p, e, &mut kept.fragment_heads, bodies),
         _ => last(
             body,
+            p,
             e,
-            p.id,
-            p.most,
-            data_set,
-            packages,
-            map_heads,
+            kept,
             map_room,
-            fragment_heads,
             bodies,
         ),
     }
@@ -198,11 +174,11 @@ fn unread(n: News) -> News
     ensures { result ≡ also n anything }
 {
     News {
-        changed: n.changed,
         caption: true,
         carousel: true,
         other: true,
         unlisted: true,
+        ..n
     }
 }
 
@@ -212,20 +188,17 @@ pub fn observe(
     id: u16,
     most: usize,
     e: Extent,
-    data_set: &mut [u64; 1024],
-    packages: &mut [u32; 255],
-    map_heads: &mut [u32; 64],
+    kept: &mut Kept,
     map_room: &mut [u16],
-    fragment_heads: &mut [u64; 256],
     bodies: &mut [u8],
 ) -> Extent
-    requires { (e.lost + length payload.now + length bodies.old ≤ 18446744073709551615) × HoldingSome e data_set.old packages.old map_heads.old map_room.old fragment_heads.old bodies.old }
-    ensures { Observes (λ L k. observe L id payload.now k) (λ L k. news L id payload.now k) (λ L k. leading_observed L id payload.now k) most e data_set.old packages.old map_heads.old map_room.old fragment_heads.old bodies.old result data_set.new packages.new map_heads.new map_room.new fragment_heads.new bodies.new × (result.lost ≤ e.lost + length payload.now + length bodies.old) × MovedOnce bodies.old (drop 2 payload.now) bodies.new }
+    requires { (e.lost + length payload.now + length bodies.old ≤ 18446744073709551615) × HoldingSome e kept.old map_room.old bodies.old }
+    ensures { Observes (λ L k. observe L id payload.now k) (λ L k. news L id payload.now k) (λ L k. leading_observed L id payload.now k) most e kept.old map_room.old bodies.old result kept.new map_room.new bodies.new × (result.lost ≤ e.lost + length payload.now + length bodies.old) × MovedOnce bodies.old (drop 2 payload.now) bodies.new }
 {
     if payload.len() == 0 {
         return e;
     }
-    if has(data_set, id) {
+    if has(&kept.data_set, id) {
         return with_news(e, unread(e.news));
     }
     let flags = payload[0];
@@ -235,11 +208,8 @@ pub fn observe(
         body,
         e,
         p,
-        data_set,
-        packages,
-        map_heads,
+        kept,
         map_room,
-        fragment_heads,
         bodies,
     )
 }

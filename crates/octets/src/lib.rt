@@ -1,11 +1,14 @@
-// Reading and moving bytes, and sets of packet identifiers: the leaves that every other crate calls.
+// Reading and moving bytes, and sets of packet identifiers: the leaves that every other crate calls. What is meant is said in Bytes.antt,
+// Writing.antt and Sets.antt of `meaning`.
 #![tactic(auto)]
 
 ghost use Rattle.std.specs.Prelude.{◌≡◌, ◌+◌, ◌-◌, ◌%◌, ◌≤◌, ◌<◌, ◌^◌, [], ◌∷◌, length, take, drop, get_or};
 ghost use Rattle.meaning.specs.Bytes.{be16, be16_at, be32_at, put16, put32};
 ghost use Rattle.meaning.specs.Writing.{Wrote};
-ghost use Rattle.meaning.specs.Sets.{bit_at, in_set, with_id, without_id, how_many};
-ghost use Rattle.std.specs.Int.Count.{ones};
+
+mod sets;
+
+pub use sets::IdSet;
 
 // A byte as a size.
 pub fn wide(b: u8) -> usize
@@ -146,65 +149,4 @@ pub fn move_up(lent: &mut [u8], from: usize, n: usize, to: usize) -> usize
         lent[to + left] = lent[from + left];
     }
     to + n
-}
-
-// Bit `k` of a word, 0 or 1.
-fn word_bit(w: u64, k: u64) -> u64
-    requires { k < 64 }
-    ensures { result ≡ bit_at w k }
-{
-    (w >> k) & 1
-}
-
-// Whether `id` is in the set.
-pub fn has(words: &[u64; 1024], id: u16) -> bool
-    ensures { result ≡ in_set words.now id }
-{
-    let p = id as usize;
-    let w = words[p / 64];
-    let k = (p % 64) as u64;
-    word_bit(w, k) == 1
-}
-
-// Puts `id` into the set.
-pub fn insert(words: &mut [u64; 1024], id: u16)
-    ensures { words.new ≡ with_id words.old id }
-{
-    let p = id as usize;
-    let i = p / 64;
-    let w = words[i];
-    let k = (p % 64) as u64;
-    words[i] = w | (1u64 << k);
-}
-
-// Takes `id` out of the set.
-pub fn remove(words: &mut [u64; 1024], id: u16)
-    ensures { words.new ≡ without_id words.old id }
-{
-    let p = id as usize;
-    let i = p / 64;
-    let w = words[i];
-    let k = (p % 64) as u64;
-    words[i] = w - (word_bit(w, k) << k);
-}
-
-// The ones of a word.
-fn word_ones(w: u64) -> u32
-    ensures { (result ≡ ones w) × (result ≤ 64) × (w < 2 ^ 64) }
-{
-    u64::count_ones(w)
-}
-
-// How many identifiers the set holds. An array behind a reference does not tell its own length, so the contract does.
-pub fn count(words: &[u64; 1024]) -> u32
-    requires { length words.now ≡ 1024 }
-    ensures { result ≡ how_many (in_set words.now) 65536 }
-{
-    let mut n: u32 = 0;
-    let mut i: usize = 0;
-    while i < 1024 {
-        n += word_ones(words[i]);
-        i += 1;
-    }
-    n
 }

@@ -7,7 +7,7 @@ pub returns-then-flags-ne0 : goal.returns-then-flags-ne0
 returns-then-flags-ne0 c =
     let a = c.args in
     let none_there = messages_none a.flags a.s.now (omega (arith, c.ranges.flags)) c.if-flags-ne0.true in
-    ((λ k h. rw none_there (no_messages a.id k a.e _ _ _ _ h)), omega arith)
+    ((λ k h. rw none_there (no_messages a.id k a.e _ _ h)), omega arith)
 
 pub learn_message-requires : goal.learn_message-requires
 learn_message-requires c = c.requires

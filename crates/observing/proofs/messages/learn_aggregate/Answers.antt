@@ -5,7 +5,7 @@ use Rattle.observing.proofs.messages.learn_aggregate.Goals as goal
 pub loop-start-init : goal.loop-start-init
 loop-start-init c =
     let a = c.args in
-    parts_begin a.s.now a.long a.id a.known a.data_set.now a.packages.now a.map_heads.now a.map_room.now c.requires.1
+    parts_begin a.s.now a.long a.id a.known a.kept.now a.map_room.now c.requires.1
 
 pub shape_of-map_room-in_default : goal.shape_of-map_room-in_default
 shape_of-map_room-in_default c = c.loop-start.invariant.same
@@ -15,7 +15,7 @@ returns-in_default c =
     let a = c.args in
     let l = c.loop-start in
     let done = rw c.in_default.is at c.frame_at.ensures in
-    (parts_done a.s.now a.long a.id a.known a.data_set.now a.packages.now a.map_heads.now a.map_room.now l.e l.at l.data_set l.packages l.map_heads l.map_room l.invariant done, omega (arith, l.invariant.countable))
+    (parts_done a.s.now a.long a.id a.known a.kept.now a.map_room.now l.e l.at l.kept l.map_room l.invariant done, omega (arith, l.invariant.countable))
 
 pub slice_bounds-learn_message-count : goal.slice_bounds-learn_message-count
 slice_bounds-learn_message-count c = let x = rw c.in-Part.is at c.frame_at.ensures in omega (arith, x.0, x.1, x.2)
@@ -31,7 +31,7 @@ learn_message-e-requires c =
     let a = c.args in
     let l = c.loop-start in
     let x = rw c.in-Part.is at c.frame_at.ensures in
-    parts_room a.s.now a.long a.id a.known a.data_set.now a.packages.now a.map_heads.now a.map_room.now l.e l.at l.data_set l.packages l.map_heads l.map_room l.invariant c.requires.0 _ _ x
+    parts_room a.s.now a.long a.id a.known a.kept.now a.map_room.now l.e l.at l.kept l.map_room l.invariant c.requires.0 _ _ x
 
 pub loop-start-smaller : goal.loop-start-smaller
 loop-start-smaller c = let x = rw c.in-Part.is at c.frame_at.ensures in omega (arith, x.0, x.1, x.2)
@@ -42,4 +42,4 @@ loop-start-preserved c =
     let l = c.loop-start in
     let x = rw c.in-Part.is at c.frame_at.ensures in
     let y = c.learn_message-e in
-    parts_next a.s.now a.long a.id a.known a.data_set.now a.packages.now a.map_heads.now a.map_room.now l.e l.at l.data_set l.packages l.map_heads l.map_room l.invariant _ _ x _ _ _ _ _ y.auto.map_room y.ensures.0 y.ensures.1
+    parts_next a.s.now a.long a.id a.known a.kept.now a.map_room.now l.e l.at l.kept l.map_room l.invariant _ _ x _ _ _ y.auto.map_room y.ensures.0 y.ensures.1

@@ -8,14 +8,14 @@ pub returns-in_default : goal.returns-in_default
 returns-in_default c =
     let a = c.args in
     let none_there = rw c.in_default.is at c.pa_tables.ensures in
-    ((λ data_set k h. rw (pa_none a.s.now none_there) (no_tables a.id k a.known data_set _ _ _ h)), omega arith)
+    ((λ k h. rw (pa_none a.s.now none_there) (no_tables a.id k a.known _ _ h)), omega arith)
 
 pub loop-end-init : goal.loop-end-init
 loop-end-init c =
     let a = c.args in
     let pre = c.requires in
     let x = rw c.in-At.is at c.pa_tables.ensures in
-    tables_begin a.s.now a.id _ a.known a.packages.now a.map_heads.now a.map_room.now x.1 pre.1
+    tables_begin a.s.now a.id _ a.known a.kept.now a.map_room.now x.1 pre.1
 
 pub shape_of-map_room-in_default-table_at : goal.shape_of-map_room-in_default-table_at
 shape_of-map_room-in_default-table_at c = c.loop-end.invariant.same
@@ -26,8 +26,8 @@ returns-in_default-table_at c =
     let l = c.loop-end in
     let x = rw c.in-At.is at c.pa_tables.ensures in
     let stop = no_table a.s.now l.at c.table_at.result (opened c.in_default-table_at.in_default-table_at-own.keys2) c.table_at.ensures in (
-      (λ data_set k h. rw (pa_found a.s.now _ x)
-          (tables_done a.s.now a.id _ a.known a.packages.now a.map_heads.now a.map_room.now l.e l.at l.packages l.map_heads l.map_room l.invariant stop data_set k h)),
+      (λ k h. rw (pa_found a.s.now _ x)
+          (tables_done a.s.now a.id _ a.known a.kept.now a.map_room.now l.e l.at l.kept l.map_room l.invariant stop k h)),
       omega (arith, l.invariant.countable),
     )
 
@@ -45,7 +45,7 @@ learn_table-e-requires c =
     let a = c.args in
     let l = c.loop-end in
     let k = rw c.in-To.is at c.table_at.ensures in
-    tables_room a.s.now a.id _ a.known a.packages.now a.map_heads.now a.map_room.now l.e l.at l.packages l.map_heads l.map_room l.invariant c.requires.0 _ k
+    tables_room a.s.now a.id _ a.known a.kept.now a.map_room.now l.e l.at l.kept l.map_room l.invariant c.requires.0 _ k
 
 pub loop-end-smaller : goal.loop-end-smaller
 loop-end-smaller c = let k = rw c.in-To.is at c.table_at.ensures in omega (arith, k.0, k.1)
@@ -55,5 +55,5 @@ loop-end-preserved c =
     let a = c.args in
     let l = c.loop-end in
     let k = rw c.in-To.is at c.table_at.ensures in
-    tables_next a.s.now a.id _ a.known a.packages.now a.map_heads.now a.map_room.now l.e l.at l.packages l.map_heads l.map_room l.invariant _ k
-    _ _ _ _ c.learn_table-e.auto.map_room c.learn_table-e.ensures
+    tables_next a.s.now a.id _ a.known a.kept.now a.map_room.now l.e l.at l.kept l.map_room l.invariant _ k
+    _ _ _ c.learn_table-e.auto.map_room c.learn_table-e.ensures

@@ -2,7 +2,7 @@ use Rattle.meaning.specs.Sets.{in_set}
 use Prim.Native.Nat.{ℕ}
 use mathlib.Core.Path.{ap}
 use lib.Dec.{eqb}
-use Rattle.octets.proofs.has.Goals as goal
+use Rattle.octets.proofs.sets.IdSet.has.Goals as goal
 
 pub returns : goal.returns
 unfolding in_set
