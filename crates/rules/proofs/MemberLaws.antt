@@ -9,29 +9,11 @@ use lib.Dec.{eqb}
 use lib.ListN.{length, get_or, replicate, length-set}
 use borrow.Author.Tests.{eqb-true, eqb-false}
 use Rattle.meaning.specs.Sets.{Words, in_set, with_id, without_id}
-use Rattle.meaning.proofs.ListLaws.{or_true, or_false, and_true, and_false, or_assoc}
+use Rattle.meaning.proofs.ListLaws.{or_true, or_false, and_true, and_false}
 use Rattle.meaning.proofs.SetLaws.{insert_same, insert_other, remove_same, remove_other}
-use Rattle.rules.specs.Changes.{Changed, comes, goes, Inserts, Removes}
-
--- ---- Bool
-
-and_not_or : (a b c : Bool) → ((a && not b) && not c) ≡ (a && not (b || c))
-and_not_or true true c = refl
-and_not_or true false c = refl
-and_not_or false b c = refl
+use Rattle.rules.specs.Changes.{Changed, Way, Inserts, Removes}
 
 -- ---- either way of changing a set
-
--- What does not pass stays; two tests one after the other are one.
-pub record Way (way : Bool → Bool → Bool) : Type 0 where
-  pub stays : (a : Bool) → way a false ≡ a
-  pub both : (a b c : Bool) → way (way a b) c ≡ way a (b || c)
-
-pub inserting : Way comes
-inserting = record { stays = or_false; both = or_assoc }
-
-pub removing : Way goes
-removing = record { stays = and_true; both = and_not_or }
 
 -- tests that agree
 pub changed_same : {way : Bool → Bool → Bool} {f g : ℕ → Bool} {ws ws' : Words} → ((q : ℕ) → f q ≡ g q) → Changed way f ws ws' → Changed way g ws ws'
