@@ -1,11 +1,11 @@
 -- A message by its number, and the parts of an aggregate one after the other, as `learn_message` and `learn_aggregate` meet them. Rests on
 -- StepLaws and FoldLaws.
-use Prim.Native.Nat.{ℕ, zero, suc, ◌+◌, ◌-◌, ◌/◌, ◌%◌, ◌≤◌, ◌<◌}
-use mathlib.Core.Path.{◌≡◌, refl, sym, ap, ◌∙◌, subst}
+use Prim.Native.Nat.{ℕ, zero, suc, ◌+◌, ◌-◌, ◌%◌, ◌≤◌, ◌<◌}
+use mathlib.Core.Path.{◌≡◌, refl, sym, ap, ◌∙◌}
 use mathlib.Core.Bool.{Bool, true, false, not}
 use mathlib.Core.List.{List, [], ◌∷◌}
 use mathlib.Core.Option.{none, some}
-use native.Mathlib.Nat.{add-zero, mod-eq_of_lt}
+use native.Mathlib.Nat.{add-zero}
 use native.Mathlib.Omega.{arith}
 use lib.ListN.{length, take, drop, length-take, length-drop, length-set}
 use borrow.Author.Tests.{eq-eqb, ne_eqb}
@@ -26,7 +26,8 @@ use Rattle.learning.specs.declared.Kept.{Kept}
 use Rattle.learning.specs.declared.News.{News}
 use Rattle.learning.proofs.AlsoLaws.{also_none, now_changed, also_changed}
 use Rattle.observing.specs.News.{news_tables, news_message, news_messages}
-use Rattle.observing.specs.Steps.{DataLearnt, KeepsIn, KeepsSome, After, Learns}
+use Rattle.observing.specs.Steps.{IndicatorIs, DataLearnt, KeepsIn, KeepsSome, After, Learns}
+use Rattle.observing.specs.declared.messages.Indicator.{Indicator}
 use Rattle.observing.proofs.StepLaws.{after_none}
 use Rattle.observing.proofs.FoldLaws.{Folds, LearntTo, and_none, and_last, to_begin, to_next, to_done}
 
@@ -60,7 +61,7 @@ module _ (q : ℕ) (x : Message) (k : Known) (e : Extent) (a : Kept) (o : List �
   unfolding learn_message news_message
   message_pa n r b o' f = rw (eq-eqb x.number 0 n) f
 
-  pub message_data : (x.number ≡ 0 → ⊥) → x.number ≡ 0x8003 → (r : Extent) (ws : List ℕ) → DataLearnt q e a.data_set r ws → After (learn_message q x k) (news_message q x k) e r a (record a { data_set = ws }) o
+  pub message_data : (x.number ≡ 0 → ⊥) → x.number ≡ 0x8003 → (r : Extent) (ws : List ℕ) → DataLearnt q e a.data_set.words r ws → After (learn_message q x k) (news_message q x k) e r a (record a { data_set = record { words = ws } }) o
   unfolding learn_message news_message
   message_data z n r ws d =
       rw (ne_eqb x.number 0 z, eq-eqb x.number 0x8003 n)
@@ -71,7 +72,7 @@ module _ (q : ℕ) (x : Message) (k : Known) (e : Extent) (a : Kept) (o : List �
               packages_kept = rw (ap (λ y. y.package_count) d.1) h.packages_kept;
               maps_kept = rw (ap (λ y. y.map_count) d.1) h.maps_kept;
               data_set_is = d.0 ∙ ap (λ (vs : List ℕ). with_id vs q) h.data_set_is;
-              data_set_all = ap length d.0 ∙ with_length a.data_set q ∙ h.data_set_all;
+              data_set_all = ap length d.0 ∙ with_length a.data_set.words q ∙ h.data_set_all;
               map_room_is = h.map_room_is;
               map_room_all = h.map_room_all;
             };
@@ -167,18 +168,19 @@ unfolding learn_messages news_messages
 no_messages q k e a o h = after_none k e a o h
 
 module _ (flags : ℕ) (s : Bytes) where
-  pub messages_none : flags < 256 → (flags / 64 ≡ 0 → ⊥) → messages (flags ∷ 0 ∷ s) ≡ []
-  unfolding messages indicator
-  messages_none b h =
-      let n : flags / 64 % 4 ≡ flags / 64 = mod-eq_of_lt (omega arith) in
-      rw (ne_eqb (flags / 64 % 4) 0 (λ z. h (sym n ∙ z)))
+  pub messages_none : (i : Indicator) → IndicatorIs flags i → (i ≡ Indicator.Whole → ⊥) → messages (flags ∷ 0 ∷ s) ≡ []
+  unfolding messages
+  messages_none Indicator.Whole h n = absurd (n refl)
+  messages_none Indicator.First h n = rw h
+  messages_none Indicator.Middle h n = rw h
+  messages_none Indicator.Last h n = rw h
 
-  pub messages_one : flags / 64 ≡ 0 → flags % 2 ≡ 0 → messages (flags ∷ 0 ∷ s) ≡ cons_message (message s) []
-  unfolding messages indicator aggregated in_body
+  pub messages_one : indicator flags ≡ 0 → flags % 2 ≡ 0 → messages (flags ∷ 0 ∷ s) ≡ cons_message (message s) []
+  unfolding messages aggregated in_body
   messages_one h z = rw (h, z)
 
-  pub messages_many : flags / 64 ≡ 0 → (flags % 2 ≡ 0 → ⊥) → messages (flags ∷ 0 ∷ s) ≡ read_each (parts (long_lengths flags) s)
-  unfolding messages indicator aggregated in_body
+  pub messages_many : indicator flags ≡ 0 → (flags % 2 ≡ 0 → ⊥) → messages (flags ∷ 0 ∷ s) ≡ read_each (parts (long_lengths flags) s)
+  unfolding messages aggregated in_body
   messages_many h z = let o : flags % 2 ≡ 1 = odd (flags % 2) (omega arith) z in rw (h, o)
     where
       odd : (n : ℕ) → n < 2 → (n ≡ 0 → ⊥) → n ≡ 1

@@ -1,10 +1,9 @@
 -- A payload by the top bits of its first byte, as `observe` meets it. Rests on StepLaws, and on the promises of `fragments`.
-use Prim.Native.Nat.{ℕ, zero, suc, ◌+◌, ◌-◌, ◌/◌, ◌%◌, ◌≤◌, ◌<◌}
+use Prim.Native.Nat.{ℕ, zero, suc, ◌+◌, ◌-◌, ◌≤◌}
 use mathlib.Core.Path.{◌≡◌, refl, sym, ap, ap₂, ◌∙◌}
 use mathlib.Core.Bool.{Bool, true, false, cond, ◌&&◌}
 use mathlib.Core.List.{List, [], ◌∷◌}
 use mathlib.Core.Option.{none, some}
-use native.Mathlib.Nat.{mod-eq_of_lt}
 use native.Mathlib.Omega.{arith}
 use lib.ListN.{length, take, drop, get_or, length-take, length-drop}
 use lib.Dec.{ltb, eqb}
@@ -234,33 +233,18 @@ module _ (L : Limits) (q : ℕ) (k : Known) (e r : Extent) (a : Kept) (o : List 
   payload_by [] z b d x = absurd (z refl)
   payload_by (f ∷ s) z b d x = rw (fresh, by_same L q f s k (indicator f) refl, new_same L q f s k (indicator f) refl) (rw d at x)
 
-top : (f n : ℕ) → f / 64 ≡ n → n < 4 → indicator f ≡ n
-unfolding indicator
-top f n e l = ap (λ (z : ℕ). z % 4) e ∙ mod-eq_of_lt l
-
 module _ (L : Limits) (q flags : ℕ) (b : Bytes) (k : Known) (e r : Extent) (a : Kept) (o : List ℕ) (bodies : Bytes) where
   abbrev By : Type 0
   By = Observed L.total (by_step q flags b L k) (by_new q flags b L k) (lead_by q (by_step q flags b) L k e.leading) e r a o bodies
 
-  pub by_whole : flags / 64 ≡ 0 → Observed L.total (whole_step q flags b L k) (whole_new q flags b L k) (lead_by q (whole_step q flags b) L k e.leading) e r a o bodies → By
-  by_whole i x = rw (top flags 0 i (omega arith)) x
+  pub by_whole : indicator flags ≡ 0 → Observed L.total (whole_step q flags b L k) (whole_new q flags b L k) (lead_by q (whole_step q flags b) L k e.leading) e r a o bodies → By
+  by_whole i x = rw i x
 
-  pub by_first : flags / 64 ≡ 1 → Observed L.total (learnt (with_fragments (hold_first L q flags b k.fragments) k)) no_news (leading_after q k.fragments (hold_first L q flags b k.fragments) e.leading) e r a o bodies → By
-  by_first i x = rw (top flags 1 i (omega arith)) x
+  pub by_first : indicator flags ≡ 1 → Observed L.total (learnt (with_fragments (hold_first L q flags b k.fragments) k)) no_news (leading_after q k.fragments (hold_first L q flags b k.fragments) e.leading) e r a o bodies → By
+  by_first i x = rw i x
 
-  pub by_middle : flags / 64 ≡ 2 → Observed L.total (learnt (with_fragments (middle L q b k.fragments) k)) no_news (leading_after q k.fragments (middle L q b k.fragments) e.leading) e r a o bodies → By
-  by_middle i x = rw (top flags 2 i (omega arith)) x
+  pub by_middle : indicator flags ≡ 2 → Observed L.total (learnt (with_fragments (middle L q b k.fragments) k)) no_news (leading_after q k.fragments (middle L q b k.fragments) e.leading) e r a o bodies → By
+  by_middle i x = rw i x
 
-  pub by_last : flags / 64 ≡ 3 → Observed L.total (last_step q b L k) (last_new q b L k) (lead_by q (last_step q b) L k e.leading) e r a o bodies → By
-  by_last i x = rw (top flags 3 i (omega arith)) x
-
--- a byte's top bits are the last value where they are no other
-pub top_three : (f : ℕ) → f < 256 → (f / 64 ≡ 0 → ⊥) → (f / 64 ≡ 1 → ⊥) → (f / 64 ≡ 2 → ⊥) → f / 64 ≡ 3
-top_three f b x y z = go (f / 64) (omega arith) x y z
-  where
-    go : (n : ℕ) → n < 4 → (n ≡ 0 → ⊥) → (n ≡ 1 → ⊥) → (n ≡ 2 → ⊥) → n ≡ 3
-    go zero l x y z = absurd (x refl)
-    go (suc zero) l x y z = absurd (y refl)
-    go (suc (suc zero)) l x y z = absurd (z refl)
-    go (suc (suc (suc zero))) l x y z = refl
-    go (suc (suc (suc (suc n)))) l x y z = absurd (omega arith)
+  pub by_last : indicator flags ≡ 3 → Observed L.total (last_step q b L k) (last_new q b L k) (lead_by q (last_step q b) L k e.leading) e r a o bodies → By
+  by_last i x = rw i x

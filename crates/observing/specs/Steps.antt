@@ -2,6 +2,7 @@
 use Rattle.std.specs.Prelude.{ℕ, ◌+◌, ◌-◌, ◌≡◌, not, List, length, take, drop, get_or}
 use Rattle.meaning.specs.Bytes.{Bytes}
 use Rattle.meaning.specs.Sets.{Words, in_set, with_id}
+use Rattle.meaning.specs.Messages.{indicator}
 use Rattle.meaning.specs.Tables.{Table}
 use Rattle.meaning.specs.Learn.{Known, Learnt}
 use Rattle.learning.specs.Kept.{Keeps}
@@ -9,6 +10,7 @@ use Rattle.learning.specs.News.{also, change_news}
 use Rattle.learning.specs.declared.Extent.{Extent}
 use Rattle.learning.specs.declared.Kept.{Kept}
 use Rattle.learning.specs.declared.News.{News}
+use Rattle.observing.specs.declared.messages.Indicator.{Indicator}
 
 -- ---- a data-carousel identifier
 
@@ -21,7 +23,7 @@ DataLearnt p e ws r ws' =
 
 -- What is kept holds this state, but for the fragments.
 abbrev pub KeepsIn : Known → Extent → Kept → List ℕ → Type 0
-KeepsIn k e kept map_room = Keeps k e kept.data_set kept.packages kept.map_heads map_room
+KeepsIn k e kept map_room = Keeps k e kept.data_set.words kept.packages kept.map_heads map_room
 
 -- It holds some state.
 abbrev pub KeepsSome : Extent → Kept → List ℕ → Type 0
@@ -40,6 +42,15 @@ pub record After (l : Learnt) (new : News) (e r : Extent) (kept kept' : Kept) (m
 abbrev pub Learns : (Known → Learnt) → (Known → News) → Extent → Kept → List ℕ → Extent → Kept → List ℕ → Type 0
 Learns step new e kept map_room r kept' map_room' =
     (k : Known) → KeepsIn k e kept map_room → After (step k) (new k) e r kept kept' map_room'
+
+-- ---- payloads
+
+-- The indicator as the code has it.
+abbrev pub IndicatorIs : ℕ → Indicator → Type 0
+IndicatorIs flags Indicator.Whole = indicator flags ≡ 0
+IndicatorIs flags Indicator.First = indicator flags ≡ 1
+IndicatorIs flags Indicator.Middle = indicator flags ≡ 2
+IndicatorIs flags Indicator.Last = indicator flags ≡ 3
 
 -- The table whose bytes these are.
 abbrev pub table_in : Bytes → Table

@@ -5,24 +5,18 @@ ghost use Rattle.meaning.specs.Messages.{long_lengths, cons_message, message, me
 ghost use Rattle.meaning.specs.Tables.{pa};
 ghost use Rattle.meaning.specs.Learn.{learn_table, learn_tables, pa_tables, learn_messages};
 ghost use Rattle.observing.specs.News.{news_table, news_tables, news_messages};
-ghost use Rattle.observing.specs.Steps.{KeepsSome, DataLearnt, Learns, table_in};
+ghost use Rattle.observing.specs.Steps.{KeepsSome, IndicatorIs, DataLearnt, Learns, table_in};
 
 use learning::lists::mpt;
 use learning::packages::plt;
 use learning::{Extent, Kept, changed, with_news};
-use octets::{has, insert};
+use octets::IdSet;
 use tables::fields::End;
 use tables::messages::{Found, Frame, frame_at, message};
 use tables::pa::{Table, is_mpt, pa_tables, table_at};
 
 // A table: a PLT on identifier 0, or an MPT.
-fn learn_table(
-    t: &[u8],
-    id: u16,
-    e: Extent,
-    kept: &mut Kept,
-    map_room: &mut [u16],
-) -> Extent
+fn learn_table(t: &[u8], id: u16, e: Extent, kept: &mut Kept, map_room: &mut [u16]) -> Extent
     requires { (4 ≤ length t.now) × (e.lost < 18446744073709551615) × KeepsSome e kept.old map_room.old }
     ensures { Learns (learn_table id (table_in t.now)) (news_table id (table_in t.now)) e kept.old map_room.old result kept.new map_room.new }
 {
@@ -41,13 +35,7 @@ fn learn_table(
 }
 
 // The tables of a PA message's body, walked by their own heads.
-fn learn_pa(
-    s: &[u8],
-    id: u16,
-    known: Extent,
-    kept: &mut Kept,
-    map_room: &mut [u16],
-) -> Extent
+fn learn_pa(s: &[u8], id: u16, known: Extent, kept: &mut Kept, map_room: &mut [u16]) -> Extent
     requires { (known.lost + length s.now ≤ 18446744073709551615) × KeepsSome known kept.old map_room.old }
     ensures { (Learns (learn_tables id (pa_tables (pa s.now))) (news_tables id (pa_tables (pa s.now))) known kept.old map_room.old result kept.new map_room.new) × (result.lost ≤ known.lost + length s.now) }
 {
@@ -67,12 +55,11 @@ fn learn_pa(
 }
 
 // Makes `id` a data-carousel identifier.
-fn learn_data(id: u16, e: Extent, data_set: &mut [u64; 1024]) -> Extent
-    requires { length data_set.old ≡ 1024 }
-    ensures { DataLearnt id e data_set.old result data_set.new }
+fn learn_data(id: u16, e: Extent, data_set: &mut IdSet) -> Extent
+    ensures { DataLearnt id e data_set.old.words result data_set.new.words }
 {
-    let known = has(data_set, id);
-    insert(data_set, id);
+    let known = data_set.has(id);
+    data_set.insert(id);
     if known {
         return e;
     }
@@ -80,13 +67,7 @@ fn learn_data(id: u16, e: Extent, data_set: &mut [u64; 1024]) -> Extent
 }
 
 // The message at the front of `s`, if there is one.
-fn learn_message(
-    s: &[u8],
-    id: u16,
-    e: Extent,
-    kept: &mut Kept,
-    map_room: &mut [u16],
-) -> Extent
+fn learn_message(s: &[u8], id: u16, e: Extent, kept: &mut Kept, map_room: &mut [u16]) -> Extent
     requires { (e.lost + length s.now ≤ 18446744073709551615) × KeepsSome e kept.old map_room.old }
     ensures { (Learns (learn_messages id (cons_message (message s.now) [])) (news_messages id (cons_message (message s.now) [])) e kept.old map_room.old result kept.new map_room.new) × (result.lost ≤ e.lost + length s.now) }
 {
@@ -125,6 +106,28 @@ fn learn_aggregate(
     }
 }
 
+// Which part of a message a payload brings, by the top two bits of its first byte.
+#[derive(Clone, Copy, PartialEq, Eq)]
+pub enum Indicator {
+    Whole,
+    First,
+    Middle,
+    Last,
+}
+
+impl From<u8> for Indicator {
+    ghost from_gives = { IndicatorIs };
+
+    fn from(flags: u8) -> Indicator {
+        match flags >> 6 {
+            0 => Indicator::Whole,
+            1 => Indicator::First,
+            2 => Indicator::Middle,
+            _ => Indicator::Last,
+        }
+    }
+}
+
 // Bit 1: the parts of an aggregate have lengths of four bytes.
 fn long_lengths(flags: u8) -> bool
     ensures { result ≡ long_lengths flags }
@@ -145,9 +148,9 @@ pub fn learn(
     requires { (e.lost + length s.now ≤ 18446744073709551615) × KeepsSome e kept.old map_room.old }
     ensures { (Learns (learn_messages id (messages (flags ∷ 0 ∷ s.now))) (news_messages id (messages (flags ∷ 0 ∷ s.now))) e kept.old map_room.old result kept.new map_room.new) × (result.lost ≤ e.lost + length s.now) }
 {
-    if flags >> 6 != 0 {
+    let Indicator::Whole = Indicator::from(flags) else {
         return e;
-    }
+    };
     if flags & 1 == 0 {
         return learn_message(s, id, e, kept, map_room);
     }

@@ -8,10 +8,9 @@ ghost use Rattle.learning.specs.News.{also};
 ghost use Rattle.observing.specs.News.{anything, news};
 ghost use Rattle.observing.specs.Observed.{HoldingSome, Observes, lead_by, with_held, Tells, whole_step, whole_new, last_step, last_new, by_step, by_new};
 
-use crate::messages::learn;
+use crate::messages::{Indicator, learn};
 use fragments::{Grown, Held, drop_fragment, give_back, grow, hold_first};
 use learning::{Extent, Kept, News, with_news};
-use octets::has;
 
 // A payload's bytes from 2 on.
 fn body_of(payload: &[u8]) -> &[u8]
@@ -54,11 +53,15 @@ fn whole(
     requires { (e.lost + length body.now + length bodies.old ≤ 18446744073709551615) × HoldingSome e kept.old map_room.old bodies.old }
     ensures { Observes (whole_step p.id p.flags body.now) (whole_new p.id p.flags body.now) (lead_by p.id (whole_step p.id p.flags body.now)) p.most e kept.old map_room.old bodies.old result kept.new map_room.new bodies.new × (result.lost ≤ e.lost + length body.now) × MovedOnce bodies.old body.now bodies.new }
 {
-    let held = drop_fragment(p.id, e.fragment_count, e.leading, &mut kept.fragment_heads, bodies);
+    let held = drop_fragment(
+        p.id,
+        e.fragment_count,
+        e.leading,
+        &mut kept.fragment_heads,
+        bodies,
+    );
     let known = with_held(e, held);
-    learn(
-        p.flags, body, p.id, known, kept, map_room,
-    )
+    learn(p.flags, body, p.id, known, kept, map_room)
 }
 
 // A first: it is held, if there is room.
@@ -120,15 +123,11 @@ fn last(
             flags,
             held,
         } => {
-            let known = learn(
-                flags,
-                &bodies[start..end],
-                p.id,
-                e,
-                kept,
-                map_room,
-            );
-            with_held(known, give_back(held.count, held.leading, &mut kept.fragment_heads))
+            let known = learn(flags, &bodies[start..end], p.id, e, kept, map_room);
+            with_held(
+                known,
+                give_back(held.count, held.leading, &mut kept.fragment_heads),
+            )
         }
         Grown::Discarded(held) => with_held(e, held),
         Grown::Absent => e,
@@ -147,25 +146,11 @@ fn by_indicator(
     requires { (e.lost + length body.now + length bodies.old ≤ 18446744073709551615) × HoldingSome e kept.old map_room.old bodies.old }
     ensures { Observes (by_step p.id p.flags body.now) (by_new p.id p.flags body.now) (lead_by p.id (by_step p.id p.flags body.now)) p.most e kept.old map_room.old bodies.old result kept.new map_room.new bodies.new × (result.lost ≤ e.lost + length body.now + length bodies.old) × MovedOnce bodies.old body.now bodies.new }
 {
-    match p.flags >> 6 {
-        0 => whole(
-            body,
-            p,
-            e,
-            kept,
-            map_room,
-            bodies,
-        ),
-        1 => first(body, p, e, &mut kept.fragment_heads, bodies),
-        2 => middle(body, p, e, &mut kept.fragment_heads, bodies),
-        _ => last(
-            body,
-            p,
-            e,
-            kept,
-            map_room,
-            bodies,
-        ),
+    match Indicator::from(p.flags) {
+        Indicator::Whole => whole(body, p, e, kept, map_room, bodies),
+        Indicator::First => first(body, p, e, &mut kept.fragment_heads, bodies),
+        Indicator::Middle => middle(body, p, e, &mut kept.fragment_heads, bodies),
+        Indicator::Last => last(body, p, e, kept, map_room, bodies),
     }
 }
 
@@ -198,18 +183,11 @@ pub fn observe(
     if payload.len() == 0 {
         return e;
     }
-    if has(&kept.data_set, id) {
+    if kept.data_set.has(id) {
         return with_news(e, unread(e.news));
     }
     let flags = payload[0];
     let body = body_of(payload);
     let p = Piece { flags, id, most };
-    by_indicator(
-        body,
-        e,
-        p,
-        kept,
-        map_room,
-        bodies,
-    )
+    by_indicator(body, e, p, kept, map_room, bodies)
 }

@@ -32,9 +32,6 @@ returns-then-number-eq0 c =
       part_lost a.e.lost a.s.now c.in-Message.start c.in-Message.end _ c.learn_pa.ensures.1,
     )
 
-pub learn_data-requires : goal.learn_data-requires
-learn_data-requires c = c.requires.1.1.data_set_all
-
 pub returns-then-number : goal.returns-then-number
 returns-then-number c =
     let a = c.args in
