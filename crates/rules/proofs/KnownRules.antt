@@ -104,7 +104,7 @@ module _ {k : Known} {e : Extent} {data_set packages map_heads map_room : List �
     unfolding in_drop_set
     decided u v w z =
         record {
-          all_words = z.all_words;
+          all_words = z.as_long ∙ w.as_long ∙ v.as_long ∙ u.all_words;
           member = λ q l.
               z.member q l
               ∙ ap (λ (t : Bool). t && not (eqb 0 q)) (w.member q l ∙ ap (λ (t : Bool). t && not (by_kept q)) (v.member q l ∙ ap (λ (t : Bool). t || by_dropped q) (u.member q l)))
@@ -120,7 +120,7 @@ module _ {k : Known} {e : Extent} {data_set packages map_heads map_room : List �
     unfolding drops
     eit_dropped i s t =
         record {
-          all_words = t.all_words;
+          all_words = t.as_long ∙ s.all_words;
           member = λ q l.
               t.member q l ∙ ap (λ (b : Bool). b || eqb 0x8000 q) (s.member q l) ∙ or_swap (in_drop_set o k q) (eqb 0x8000 q)
               ∙ rw (i, eqb_swap 0x8000 q);

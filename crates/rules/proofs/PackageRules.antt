@@ -1,15 +1,16 @@
 -- What packages drop and keep: the list of a package's MPT by its place among the heads, and what of a package is picked.
--- Rests on the definitions of lists and rules and on MemberLaws.
-use Prim.Native.Nat.{ℕ, zero, suc, ◌+◌, ◌*◌, ◌/◌, ◌%◌, ◌≤◌, ◌<◌}
-use mathlib.Core.Path.{◌≡◌, refl, sym, ap, ◌∙◌, subst}
+-- Rests on the definitions of lists and rules, on AssetRules and on MemberLaws.
+use Prim.Native.Nat.{ℕ, zero, suc, ◌+◌, ◌-◌, ◌*◌, ◌/◌, ◌%◌, ◌≤◌, ◌<◌}
+use mathlib.Core.Path.{◌≡◌, refl, sym, ap, ◌∙◌}
 use mathlib.Core.Bool.{Bool, true, false, cond, not, ◌&&◌, ◌||◌}
-use mathlib.Core.List.{List, [], ◌∷◌, ◌++◌}
+use mathlib.Core.List.{List, [], ◌∷◌, map}
 use mathlib.Core.Option.{Option, none, some}
 use native.Mathlib.Omega.{arith}
 use native.Mathlib.Numerals.{add-one}
 use lib.Dec.{eqb}
-use lib.ListN.{length, drop, get_or}
-use lib.Seq.{drop-drop}
+use lib.ListN.{length, take, drop, get_or}
+use lib.Seq.{drop-drop, drop-cons}
+use Rattle.std.proofs.lemmas.List.{drop_all}
 use Rattle.meaning.specs.Sets.{Words}
 use Rattle.meaning.specs.Lists.{any}
 use Rattle.meaning.specs.Wishes.{wanted, ours}
@@ -22,6 +23,7 @@ use Rattle.meaning.specs.declared.Options.{Options}
 use Rattle.learning.specs.Kept.{pairs_in}
 use Rattle.learning.proofs.PairLaws.{count_small}
 use Rattle.rules.specs.Changes.{Changed, Way, picked_by, MapLists, lists_at}
+use Rattle.rules.proofs.AssetRules.{listed, listed_part}
 use Rattle.rules.proofs.MemberLaws.{changed_same, changed_none, changed_then}
 
 -- ---- the list of an MPT
@@ -114,24 +116,35 @@ module _ (picks : Bool → Bool) (o : Options) (n p : ℕ) (map_heads map_room :
     pub own_picked : {mine : Bool} {a b : Words} → picks mine ≡ true → Changed way (eqb (p % 65536)) a b → Changed way (λ q. picks mine && eqb (p % 65536) q) a b
     own_picked e x = changed_same (λ q. rw e) x
 
-    pub own_left : {mine : Bool} (a : Words) → length a ≡ 1024 → picks mine ≡ false → Changed way (λ q. picks mine && eqb (p % 65536) q) a a
-    own_left a l e = changed_none w a l (λ q. rw e)
+    pub own_left : {mine : Bool} (a : Words) → picks mine ≡ false → Changed way (λ q. picks mine && eqb (p % 65536) q) a a
+    own_left a e = changed_none w a (λ q. rw e)
 
     -- then its list, if there is one
     module _ {mine : Bool} (m : mine ≡ ours o.service (p / 65536)) (i : ℕ) (e : i ≡ place_for (p % 65536) (pairs_in n map_heads)) {a b : Words} (x : Changed way (λ q. picks mine && eqb (p % 65536) q) a b) where
-      pub list_there : i < n → {c : Words} → Changed way (λ q. lists_it (test mine) q (some (assets_in (get_or map_heads i 0 % 65536) (drop (512 * i) map_room)))) b c → Changed way picked a c
+      pub list_there : i < n → {c : Words}
+          → Changed way (λ q. lists_it (test mine) q (some (listed (take (512 * i + 2 * (get_or map_heads i 0 % 65536) - 512 * i) (drop (512 * i) map_room))))) b c → Changed way picked a c
       list_there h y =
+          let m_list : listed (take (512 * i + 2 * (get_or map_heads i 0 % 65536) - 512 * i) (drop (512 * i) map_room)) ≡ assets_in (get_or map_heads i 0 % 65536) (drop (512 * i) map_room) =
+          listed_part (512 * i) (get_or map_heads i 0 % 65536) map_room (list_within n i map_heads map_room r h) in
           let found : (q : ℕ) → lists_it (test mine) q (some (assets_in (get_or map_heads i 0 % 65536) (drop (512 * i) map_room))) ≡ lists_it (test mine) q list =
           λ q. rw e (ap (lists_it (test mine) q) (sym (list_found (p % 65536) n map_heads map_room (omega (arith, r.heads.few, r.heads.slots_all)) (omega arith)))) in
-          changed_same (picked_is mine m) (changed_then w x (changed_same found y))
+          changed_same (picked_is mine m) (changed_then w x (changed_same (λ q. ap (λ (as' : Listed). lists_it (test mine) q (some as')) m_list ∙ found q) y))
 
       pub list_missing : n ≤ i → Changed way picked a b
       unfolding any
       list_missing h =
           let none_there : (q : ℕ) → lists_it (test mine) q list ≡ false = λ q. ap (lists_it (test mine) q) (list_none (p % 65536) n map_heads map_room (omega arith)) in
-          changed_same (picked_is mine m) (changed_then w x (changed_none w b x.all_words none_there))
+          changed_same (picked_is mine m) (changed_then w x (changed_none w b none_there))
 
     -- not ours, where nothing that goes is picked
-    pub package_left : (ws : Words) → length ws ≡ 1024 → ours o.service (p / 65536) ≡ false → picks false ≡ false → Changed way picked ws ws
+    pub package_left : (ws : Words) → ours o.service (p / 65536) ≡ false → picks false ≡ false → Changed way picked ws ws
     unfolding pair_of
-    package_left ws l e f = changed_none w ws l (λ q. rw (e, f) (nothing_named q (assets_of list)))
+    package_left ws e f = changed_none w ws (λ q. rw (e, f) (nothing_named q (assets_of list)))
+
+-- ---- the packages, one after the other
+
+pub pairs_next : (i : ℕ) (xs : List ℕ) → i < length xs → map pair_of (drop i xs) ≡ pair_of (get_or xs i 0) ∷ map pair_of (drop (i + 1) xs)
+pairs_next i xs h = ap (map pair_of) (drop-cons xs i 0 h) ∙ ap (λ (j : ℕ). pair_of (get_or xs i 0) ∷ map pair_of (drop j xs)) (sym (add-one i))
+
+pub pairs_end : (i : ℕ) (xs : List ℕ) → length xs ≤ i → map pair_of (drop i xs) ≡ []
+pairs_end i xs h = ap (map pair_of) (drop_all i xs h)

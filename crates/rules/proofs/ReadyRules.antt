@@ -1,24 +1,17 @@
 -- Whether a list is held for a package, by the place of its head. Rests on the definitions of rules and on PackageRules.
-use Prim.Native.Nat.{ℕ, zero, suc, ◌+◌, ◌/◌, ◌≤◌, ◌<◌}
-use mathlib.Core.Path.{◌≡◌, refl, ap, ◌∙◌}
-use mathlib.Core.Bool.{Bool, true, false, ◌&&◌}
-use mathlib.Core.List.{List, [], ◌∷◌, ◌++◌}
+use Prim.Native.Nat.{ℕ, ◌≤◌}
+use mathlib.Core.Path.{◌≡◌}
+use mathlib.Core.List.{List}
 use native.Mathlib.Omega.{arith}
 use native.Mathlib.Decide.{dec_lt}
-use native.Mathlib.Numerals.{add-one}
-use lib.Dec.{eqb, ltb}
-use lib.ListN.{length, get_or}
-use borrow.Author.Tests.{ltb-true, lt-ltb, le-ltb, eq-eqb, ne_eqb}
-use Rattle.meaning.specs.Lists.{all, any, is_some}
+use lib.ListN.{length}
+use borrow.Author.Tests.{lt-ltb, le-ltb}
+use Rattle.meaning.specs.Lists.{is_some}
 use Rattle.meaning.specs.Learn.{place_for}
 use Rattle.meaning.specs.Rules.{list_of}
-use Rattle.meaning.specs.Record.{pair_of}
-use Rattle.meaning.specs.Soundness.{rising, firsts}
-use Rattle.meaning.proofs.ListLaws.{and_both, both_true, and_false, or_false, or_neither}
 use Rattle.learning.specs.Kept.{pairs_in}
 use Rattle.rules.specs.Changes.{lists_at, has_list}
-use Rattle.rules.proofs.AssetRules.{any_more}
-use Rattle.rules.proofs.PackageRules.{list_found, list_none, pairs_more}
+use Rattle.rules.proofs.PackageRules.{list_found, list_none}
 
 -- a list is held where its place is one of the heads'
 pub has_list_lem : (n : ℕ) (map_heads map_room : List ℕ) (x : ℕ × ℕ) → n ≤ length map_heads → has_list n map_heads x ≡ is_some (list_of x.1 (lists_at n map_heads map_room))

@@ -16,9 +16,9 @@ pub record SetIs (f : ℕ → Bool) (ws : Words) : Type 0 where
   pub all_words : length ws ≡ 1024
   pub member : (q : ℕ) → q < 65536 → in_set ws q ≡ f q
 
--- From one set to another: what a test says of each identifier decides, in one way or another, whether it is in afterwards.
+-- From one set to another, as long: what a test says of each identifier decides, in one way or another, whether it is in afterwards.
 pub record Changed (way : Bool → Bool → Bool) (f : ℕ → Bool) (ws ws' : Words) : Type 0 where
-  pub all_words : length ws' ≡ 1024
+  pub as_long : length ws' ≡ length ws
   pub member : (q : ℕ) → q < 65536 → in_set ws' q ≡ way (in_set ws q) (f q)
 
 -- Those that pass come in, or go out; the others stay as they were.

@@ -13,8 +13,8 @@ ghost use Rattle.meaning.specs.Record.{pair_of};
 ghost use Rattle.learning.specs.Kept.{Keeps, pairs_in};
 ghost use Rattle.rules.specs.Changes.{SetIs, Changed, comes, goes, Way, inserting, removing, picked_by, Packages, MapHeads, MapLists, lists_at, has_list};
 
-use learning::{Extent, Kept};
 use learning::lists::place_for;
+use learning::{Extent, Kept};
 use meaning::{Options, Part, Service};
 use octets::IdSet;
 
@@ -31,6 +31,7 @@ fn is_ours(s: Service, service: u32) -> bool
 }
 
 // The kind that a number in the map room stands for.
+#[tactic(auto, unfolding(meaning::specs::Tables::kind_of), using(crate::proofs::AssetRules::kind_other))]
 fn kind_of(number: u16) -> Part
     ensures { result ≡ kind_of number }
 {
@@ -60,13 +61,12 @@ fn stays(o: Options, ours: bool, number: u16) -> bool
 
 // ---- what packages put into the set, and take out of it
 
-// A turn over all that the packages name: which of it is picked, and what that does to the set.
-trait Turn {
+// A rule on what packages name: what of it is picked, by whether it stays, and what that does to the set.
+trait Rule {
     ghost picks: { Bool → Bool };
 
     ghost way: { Bool → Bool → Bool };
 
-    // Whether what stays, or what does not, is picked.
     fn picks(stays: bool) -> bool
         ensures { result ≡ picks stays };
 
@@ -82,8 +82,16 @@ struct Dropping;
 // What stays goes out of the set.
 struct Keeping;
 
+// Whether `id` is in the set, and that the set has all its words: an array in a struct tells its length only where it is read.
+fn is_in(set: &IdSet, id: u16) -> bool
+    ensures { (result ≡ in_set set.now.words id) × (length set.now.words ≡ 1024) }
+{
+    let _words = &set.words;
+    set.has(id)
+}
+
 // Lists name the same identifiers again and again, and to look is quicker than to write.
-impl Turn for Dropping {
+impl Rule for Dropping {
     ghost picks = { not };
 
     ghost way = { comes };
@@ -95,13 +103,13 @@ impl Turn for Dropping {
     }
 
     fn change(set: &mut IdSet, id: u16) {
-        if !set.has(id) {
+        if !is_in(set, id) {
             set.insert(id);
         }
     }
 }
 
-impl Turn for Keeping {
+impl Rule for Keeping {
     ghost picks = { λ stays. stays };
 
     ghost way = { goes };
@@ -113,52 +121,59 @@ impl Turn for Keeping {
     }
 
     fn change(set: &mut IdSet, id: u16) {
-        if set.has(id) {
+        if is_in(set, id) {
             set.remove(id);
         }
     }
 }
 
 // The assets of a list, identifier and kind of each, of a package that is ours or not.
-fn turn_assets<T: Turn>(o: Options, ours: bool, list: &[u16], set: &mut IdSet)
-    ensures { Changed T.way (λ q. lists_it (λ part. T.picks (ours && wanted o part)) q (some (assets_in (length list.now / 2) list.now))) set.old.words set.new.words }
+fn by_assets<R: Rule>(o: Options, ours: bool, list: &[u16], set: &mut IdSet)
+    ensures { Changed R.way (λ q. lists_it (λ part. R.picks (ours && wanted o part)) q (some (assets_in (length list.now / 2) list.now))) set.old.words set.new.words }
 {
     let mut assets = list;
     while let [id, kind, rest @ ..] = assets {
-        if T::picks(stays(o, ours, *kind)) {
-            T::change(set, *id);
+        if R::picks(stays(o, ours, *kind)) {
+            R::change(set, *id);
         }
         assets = rest;
     }
 }
 
-// What a package names. Where it is not ours nothing of it stays, so a turn that picks what stays leaves it out.
-fn turn_package<T: Turn>(o: Options, p: u32, map_count: usize, kept: &Kept, map_room: &[u16], set: &mut IdSet)
+// What a package names. Where it is not ours nothing of it stays, and a rule that picks what stays leaves it alone.
+fn by_package<R: Rule>(
+    o: Options,
+    p: u32,
+    map_count: usize,
+    kept: &Kept,
+    map_room: &[u16],
+    set: &mut IdSet,
+)
     requires { MapLists map_count kept.now.map_heads map_room.now }
-    ensures { Changed T.way (λ q. picked_by T.picks o (lists_at map_count kept.now.map_heads map_room.now) q (pair_of p)) set.old.words set.new.words }
+    ensures { Changed R.way (λ q. picked_by R.picks o (lists_at map_count kept.now.map_heads map_room.now) q (pair_of p)) set.old.words set.new.words }
 {
     let ours = is_ours(o.service, p / 65536);
-    if !ours && !T::picks(false) {
+    if !ours && !R::picks(false) {
         return;
     }
     let id = (p % 65536) as u16;
-    if T::picks(ours) {
-        T::change(set, id);
+    if R::picks(ours) {
+        R::change(set, id);
     }
     let i = place_for(&kept.map_heads, map_count, id);
     if i < map_count {
         let base = 512 * i;
         let n = (kept.map_heads[i] % 65536) as usize;
-        turn_assets::<T>(o, ours, &map_room[base..base + 2 * n], set);
+        by_assets::<R>(o, ours, &map_room[base..base + 2 * n], set);
     }
 }
 
-fn turn_packages<T: Turn>(o: Options, e: Extent, kept: &Kept, map_room: &[u16], set: &mut IdSet)
+fn by_packages<R: Rule>(o: Options, e: Extent, kept: &Kept, map_room: &[u16], set: &mut IdSet)
     requires { Packages e.package_count kept.now.packages × MapLists e.map_count kept.now.map_heads map_room.now }
-    ensures { Changed T.way (λ q. any (picked_by T.picks o (lists_at e.map_count kept.now.map_heads map_room.now) q) (pairs_in e.package_count kept.now.packages)) set.old.words set.new.words }
+    ensures { Changed R.way (λ q. any (picked_by R.picks o (lists_at e.map_count kept.now.map_heads map_room.now) q) (pairs_in e.package_count kept.now.packages)) set.old.words set.new.words }
 {
     for p in &kept.packages[..e.package_count] {
-        turn_package::<T>(o, *p, e.map_count, kept, map_room, set);
+        by_package::<R>(o, *p, e.map_count, kept, map_room, set);
     }
 }
 
@@ -171,7 +186,9 @@ pub fn first_drops(o: Options, data_set: &IdSet) -> IdSet
     if o.carousel {
         return IdSet::empty();
     }
-    *data_set
+    IdSet {
+        words: data_set.words,
+    }
 }
 
 // The same, written over `set` where it stands: a set that is handed back would be filled first and then copied.
@@ -179,7 +196,7 @@ fn begin_drops(o: Options, data_set: &IdSet, set: &mut IdSet)
     ensures { SetIs (λ q. not o.carousel && in_set data_set.now.words q) set.new.words }
 {
     if !o.carousel {
-        *set = *data_set;
+        set.words = data_set.words;
         return;
     }
     set.words = [0; 1024];
@@ -190,8 +207,8 @@ pub fn decide_on(o: Options, e: Extent, kept: &Kept, map_room: &[u16], set: &mut
     requires { (k : Known) × (ds : Words) × Keeps k e ds kept.now.packages kept.now.map_heads map_room.now }
     ensures { (k : Known) (ds : Words) → Keeps k e ds kept.now.packages kept.now.map_heads map_room.now → SetIs (λ q. not o.carousel && in_set ds q) set.old.words → SetIs (drops o k) set.new.words }
 {
-    turn_packages::<Dropping>(o, e, kept, map_room, set);
-    turn_packages::<Keeping>(o, e, kept, map_room, set);
+    by_packages::<Dropping>(o, e, kept, map_room, set);
+    by_packages::<Keeping>(o, e, kept, map_room, set);
     set.remove(0);
     if !o.eit {
         set.insert(0x8000);
@@ -220,6 +237,7 @@ pub fn dropped(o: Options, e: Extent, kept: &Kept, map_room: &[u16]) -> u32
 // ---- ready
 
 // Whether a package's MPT has its list.
+#[tactic(auto, unfolding(meaning::specs::Record::pair_of))]
 fn is_listed(e: Extent, kept: &Kept, p: u32) -> bool
     requires { MapHeads e.map_count kept.now.map_heads }
     ensures { result ≡ has_list e.map_count kept.now.map_heads (pair_of p) }
@@ -232,7 +250,9 @@ fn all_listed(e: Extent, kept: &Kept) -> bool
     requires { Packages e.package_count kept.now.packages × MapHeads e.map_count kept.now.map_heads }
     ensures { result ≡ all (has_list e.map_count kept.now.map_heads) (pairs_in e.package_count kept.now.packages) }
 {
-    kept.packages[..e.package_count].iter().all(|p| is_listed(e, kept, *p))
+    kept.packages[..e.package_count]
+        .iter()
+        .all(|p| is_listed(e, kept, *p))
 }
 
 // Whether the service is in the PLT and its MPT has its list.
@@ -240,7 +260,8 @@ fn service_listed(service: u16, e: Extent, kept: &Kept) -> bool
     requires { Packages e.package_count kept.now.packages × MapHeads e.map_count kept.now.map_heads }
     ensures { result ≡ any (λ pkg. eqb pkg.0 service && has_list e.map_count kept.now.map_heads pkg) (pairs_in e.package_count kept.now.packages) }
 {
-    kept.packages[..e.package_count].iter().any(|p| *p / 65536 == u32::from(service) && is_listed(e, kept, *p))
+    kept.packages[..e.package_count].iter().any(|p| *p / 65536 == u32::from(service)
+        && is_listed(e, kept, *p))
 }
 
 // Whether everything that the latest PLT asks for is known.

@@ -1,5 +1,5 @@
 -- Walks over the heads of a slice: what the library's tests and sums of a list are among the definitions, that numbers rise, and that none
--- stands twice, by pairs or by a set of those passed. Rests on Lists, Soundness and SetLaws of `meaning`.
+-- stands twice, by pairs or by a set of those passed. Rests on Lists, Soundness and SetLaws of `meaning` and MemberLaws of `rules`.
 use Prim.Native.Nat.{ℕ, zero, suc, ◌+◌, ◌/◌, ◌≤◌, ◌<◌}
 use mathlib.Core.Path.{◌≡◌, refl, sym, ap, ap₂, ◌∙◌, subst}
 use mathlib.Core.Bool.{Bool, true, false, not, ◌&&◌, ◌||◌}
@@ -12,21 +12,16 @@ use lib.Dec.{eqb, ltb}
 use borrow.Author.Tests.{eqb-true, eqb-false}
 use Rattle.std.proofs.lemmas.List.{drop_all}
 use Rattle.std.proofs.lemmas.List.Sums.{sum_by-cons}
-use Rattle.std.specs.List.{sum_by, list_any, list_all, AllAdjacentBelow, IsAllAdjacentAnswer}
+use Rattle.std.specs.List.{sum_by, list_all, AllAdjacentBelow, IsAllAdjacentAnswer}
 use Rattle.meaning.specs.Sets.{Words, in_set, with_id}
 use Rattle.meaning.specs.Lists.{all, any, sum}
-use native.Mathlib.Nat.{zero-div}
 use Rattle.meaning.specs.Start.{no_words}
 use Rattle.meaning.specs.Soundness.{rising, distinct}
 use Rattle.meaning.proofs.ListLaws.{and_true, and_false}
 use Rattle.meaning.proofs.SetLaws.{insert_same, insert_other}
+use Rattle.rules.proofs.MemberLaws.{empty}
 
 -- ---- the library's words and the definitions'
-
-pub any_in : {X : Type 0} (test : ℕ → Bool) (f : X → ℕ) (xs : List X) → list_any (λ x. test (f x)) xs ≡ any test (map f xs)
-unfolding any
-any_in test f [] = refl
-any_in test f (x ∷ xs) = ap (λ (b : Bool). test (f x) || b) (any_in test f xs)
 
 pub all_in : {X : Type 0} (test : X → Bool) (xs : List X) → list_all test xs ≡ all test xs
 unfolding all
@@ -122,15 +117,6 @@ module _ (ws : Words) (p : ℕ) (l : p / 64 < length ws) where
 twice_cons : (ws : Words) (p : ℕ) (xs : List ℕ) → in_set ws p ≡ true → (avoids ws (p ∷ xs) && distinct (p ∷ xs)) ≡ false
 unfolding all distinct
 twice_cons ws p xs e = rw e
-
-zeros_at : (n i : ℕ) → ◌≡◌ {A = ℕ} (get_or (replicate n 0) i 0) 0
-zeros_at zero i = refl
-zeros_at (suc n) zero = refl
-zeros_at (suc n) (suc i) = zeros_at n i
-
-empty : (n q : ℕ) → in_set (replicate n 0) q ≡ false
-unfolding in_set
-empty n q = rw (zeros_at n (q / 64), zero-div)
 
 avoids_empty : (n : ℕ) (xs : List ℕ) → avoids (replicate n 0) xs ≡ true
 unfolding all

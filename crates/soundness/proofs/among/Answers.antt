@@ -4,7 +4,7 @@ use Rattle.std.proofs.lemmas.Iterator.Search.{any_from_yields_List}
 use borrow.Author.Tests.{tests}
 use lib.Dec.{eqb}
 use mathlib.Core.Path.{◌∙◌}
-use Rattle.soundness.proofs.SoundnessLaws.{any_in}
+use Rattle.rules.proofs.WalkLaws.{any_in}
 use Rattle.soundness.proofs.among.Goals as goal
 
 pub returns : goal.returns
