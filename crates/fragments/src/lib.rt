@@ -36,7 +36,7 @@ fn fragment_head(id: u16, flags: u8, n: usize) -> u64
     requires { n < 1099511627776 }
     ensures { result ≡ id * 281474976710656 + flags % 64 * 1099511627776 + n }
 {
-    let low = flags & 0x3f;
+    let low = flags % 64;
     (id as u64) * 281474976710656 + (low as u64) * 1099511627776 + (n as u64)
 }
 
@@ -223,6 +223,14 @@ impl Held {
         self.leading.min(self.count)
     }
 
+    // The index of the identifier's fragment, if one is held.
+    fn index_of(self, id: u16, fragment_heads: &[u64; 256]) -> Option<usize>
+        requires { self.count ≤ 256 }
+        ensures { (unwrap_or result self.count ≡ index_in id (take self.count fragment_heads.now)) × IfSome result (λ index. index < self.count) }
+    {
+        find_fragment(&fragment_heads[..self.count], id)
+    }
+
     // Gives up the fragment at `index`: the free bytes come beside it, and its own are theirs then.
     fn give_up(self, index: usize, fragment_heads: &mut [u64; 256], bodies: &mut [u8]) -> Held
         requires { (index < self.count) × Numbers self.count fragment_heads.old bodies.old }
@@ -260,7 +268,7 @@ impl Held {
         requires { KeepsFragments self.count self.leading fragment_heads.old bodies.old }
         ensures { Drops id self.count self.leading fragment_heads.old bodies.old result fragment_heads.new bodies.new }
     {
-        let found = find_fragment(&fragment_heads[..self.count], id);
+        let found = self.index_of(id, fragment_heads);
         self.drop_found(found, fragment_heads, bodies)
     }
 
@@ -326,7 +334,7 @@ impl Held {
         requires { KeepsFragments self.count self.leading fragment_heads.old bodies.old }
         ensures { HoldsFirst id flags body.now self.count self.leading fragment_heads.old bodies.old result fragment_heads.new bodies.new }
     {
-        let found = find_fragment(&fragment_heads[..self.count], id);
+        let found = self.index_of(id, fragment_heads);
         let place = self.place_of(found.unwrap_or(self.count), fragment_heads);
         if place.first_fits(body.len(), bodies.len()) {
             return self.put_behind(place, id, flags, body, fragment_heads, bodies);
@@ -400,7 +408,7 @@ impl Held {
         requires { KeepsFragments self.count self.leading fragment_heads.old bodies.old }
         ensures { GrowsWithin id most body.now self.count self.leading fragment_heads.old bodies.old result fragment_heads.new bodies.new }
     {
-        let Some(index) = find_fragment(&fragment_heads[..self.count], id) else {
+        let Some(index) = self.index_of(id, fragment_heads) else {
             return Grown::Absent;
         };
         let place = self.place_of(index, fragment_heads);
