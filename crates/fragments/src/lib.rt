@@ -11,6 +11,7 @@ ghost use Rattle.fragments.specs.Fragments.{index_in, others_of, length_at, Take
 use octets::{copy, move_down, move_up};
 
 // What a head says of its fragment: its identifier.
+#[tactic(auto, unfolding(meaning::specs::Record::fragment_identifier))]
 pub fn identifier_of(head: u64) -> u16
     ensures { result ≡ fragment_identifier head }
 {
@@ -18,6 +19,7 @@ pub fn identifier_of(head: u64) -> u16
 }
 
 // Its length.
+#[tactic(auto, unfolding(meaning::specs::Record::fragment_length))]
 pub fn length_of(head: u64) -> usize
     ensures { (result ≡ fragment_length head) × (result < 1099511627776) }
 {
@@ -25,6 +27,7 @@ pub fn length_of(head: u64) -> usize
 }
 
 // Its flags.
+#[tactic(auto, unfolding(meaning::specs::Record::fragment_flags))]
 fn flags_of(head: u64) -> u8
     ensures { result ≡ fragment_flags head }
 {
@@ -41,6 +44,7 @@ fn fragment_head(id: u16, flags: u8, n: usize) -> u64
 }
 
 // The head of a fragment that grows by `m` bytes.
+#[tactic(auto, unfolding(meaning::specs::Record::fragment_length))]
 fn longer(head: u64, m: usize) -> u64
     requires { fragment_length head + m < 1099511627776 }
     ensures { result ≡ head + m }
@@ -49,6 +53,7 @@ fn longer(head: u64, m: usize) -> u64
 }
 
 // The bytes of all these fragments.
+#[tactic(auto, using(crate::proofs::FragmentLaws::lens_sum))]
 fn fragment_bytes(heads: &[u64]) -> usize
     requires { length heads.now ≤ 256 }
     ensures { result ≡ lens heads.now }
@@ -64,6 +69,7 @@ fn find_fragment(heads: &[u64], id: u16) -> Option<usize>
 }
 
 // Closes the gap at `at`: the heads behind it one slot down, the last slot free.
+#[tactic(auto, using(crate::proofs::BlockLaws::close_done))]
 fn close_slot(fragment_heads: &mut [u64; 256], n: usize, at: usize)
     requires { (at < n) × (n ≤ 256) }
     ensures { Wrote (take (n - 1 - at) (drop (at + 1) fragment_heads.old) ++ (0 ∷ [])) fragment_heads.old at fragment_heads.new n }
@@ -73,6 +79,7 @@ fn close_slot(fragment_heads: &mut [u64; 256], n: usize, at: usize)
 }
 
 // Takes out the head at `index`, if there is one. Answers how many are held then.
+#[tactic(auto, unfolding(crate::specs::Fragments::others_of))]
 fn take_out(fragment_heads: &mut [u64; 256], n: usize, index: usize) -> usize
     requires { n ≤ 256 }
     ensures out { TakesOut index n fragment_heads.old fragment_heads.new }
@@ -87,6 +94,7 @@ fn take_out(fragment_heads: &mut [u64; 256], n: usize, index: usize) -> usize
 }
 
 // The length of the fragment at `index` of these, 0 where there is none.
+#[tactic(auto, using(crate::proofs::FragmentLaws::own_at, crate::proofs::FragmentLaws::own_past))]
 fn length_at(heads: &[u64], index: usize) -> usize
     ensures { result ≡ lens (take 1 (drop index heads.now)) }
 {
@@ -224,6 +232,7 @@ impl Held {
     }
 
     // The index of the identifier's fragment, if one is held.
+    #[tactic(auto, using(crate::proofs::FragmentLaws::found_at))]
     fn index_of(self, id: u16, fragment_heads: &[u64; 256]) -> Option<usize>
         requires { self.count ≤ 256 }
         ensures { (unwrap_or result self.count ≡ index_in id (take self.count fragment_heads.now)) × IfSome result (λ index. index < self.count) }
@@ -273,6 +282,7 @@ impl Held {
     }
 
     // Gives back the last that leads, the one that grew last: its bytes are free then, and the room is not touched.
+    #[tactic(auto, using(crate::proofs::GrowLaws::given_back))]
     pub fn give_back(self, fragment_heads: &mut [u64; 256]) -> Held
         requires { (0 < self.leading) × (self.leading ≤ self.count) × (self.count ≤ 256) }
         ensures { GivesBack self.count self.leading fragment_heads.old result fragment_heads.new }
