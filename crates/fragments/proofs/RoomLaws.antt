@@ -20,7 +20,8 @@ use Rattle.meaning.specs.declared.Limits.{Limits}
 use Rattle.meaning.proofs.SoundnessKept.{without_holds}
 use Rattle.meaning.proofs.LayoutLaws.{bodies_append, bodies_next, bodies_one, bodies_none, bytes_of_lem, longer_take, shorter_drop, take_map, drop_map}
 use Rattle.meaning.proofs.SoundnessLaws.{Tells, TellAll, heads_tell, used, tell_take, tell_drop, lens_heads}
-use Rattle.fragments.specs.Fragments.{index_in, Heads, others_of, length_at, TakesOut, FreeMoved, Packed, KeptFragments, KeepsFragments, Numbers, Nearest, held_behind, Grows}
+use Rattle.fragments.specs.Room.{FreeMoved, Packed}
+use Rattle.fragments.specs.Fragments.{index_in, Heads, others_of, length_at, TakesOut, KeptFragments, KeepsFragments, Numbers, Nearest, held_behind, Grows}
 use Rattle.fragments.proofs.FragmentLaws.{index_fragment_heads, Spot, spot, missing, without_is}
 use Rattle.fragments.proofs.BlockLaws.{moved_down, moved_up, filled, second, third, tail, closed_heads, one_zero}
 

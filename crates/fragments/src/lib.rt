@@ -3,12 +3,15 @@
 // for one incoming body only what stands between their old and their new place moves, and each byte of it once.
 #![tactic(auto)]
 
-ghost use Rattle.std.specs.Prelude.{◌≡◌, ◌+◌, ◌-◌, ◌*◌, ◌%◌, ◌≤◌, ◌<◌, ◌&&◌, [], ◌∷◌, ◌++◌, length, take, drop, leb, ltb, unwrap_or, position, IfSome, ◌==◌};
+ghost use Rattle.std.specs.Prelude.{◌≡◌, ◌+◌, ◌-◌, ◌*◌, ◌%◌, ◌≤◌, ◌<◌, [], ◌∷◌, ◌++◌, length, take, drop, unwrap_or, position, IfSome, ◌==◌};
 ghost use Rattle.meaning.specs.Writing.{Wrote};
 ghost use Rattle.meaning.specs.Record.{fragment_identifier, fragment_flags, fragment_length, lens};
-ghost use Rattle.fragments.specs.Fragments.{index_in, others_of, length_at, TakesOut, FreeMoved, Packed, KeepsFragments, Numbers, Nearest, Stands, DropsAt, Drops, GivesBack, PutsBehind, HoldsFirst, Lengthens, GrowsWithin, GrowsAtIndex, LearnsMiddle};
+ghost use Rattle.fragments.specs.Fragments.{index_in, others_of, length_at, TakesOut, KeepsFragments, Numbers, Nearest, Stands, DropsAt, Drops, GivesBack, PutsBehind, HoldsFirst, Lengthens, GrowsWithin, GrowsAtIndex, LearnsMiddle};
 
-use octets::{copy, move_down, move_up};
+mod place;
+
+use octets::copy;
+use place::{Leading, Place, move_free};
 
 // What a head says of its fragment: its identifier.
 #[tactic(auto, unfolding(meaning::specs::Record::fragment_identifier))]
@@ -52,9 +55,9 @@ fn longer(head: u64, m: usize) -> u64
     head + (m as u64)
 }
 
-// The bytes of all these fragments.
+// The bytes of the fragments with these heads.
 #[tactic(auto, using(crate::proofs::FragmentLaws::lens_sum))]
-fn fragment_bytes(heads: &[u64]) -> usize
+pub fn fragment_bytes(heads: &[u64]) -> usize
     requires { length heads.now ≤ 256 }
     ensures { result ≡ lens heads.now }
 {
@@ -104,13 +107,6 @@ fn length_at(heads: &[u64], index: usize) -> usize
     }
 }
 
-// So many fragments that lead, and the bytes of their bodies: the free bytes stand behind these.
-#[derive(Clone, Copy)]
-struct Leading {
-    count: usize,
-    bytes: usize,
-}
-
 // The first `count`, leading.
 fn leading_of(fragment_heads: &[u64; 256], count: usize) -> Leading
     requires { count ≤ 256 }
@@ -122,28 +118,6 @@ fn leading_of(fragment_heads: &[u64; 256], count: usize) -> Leading
     }
 }
 
-// The free bytes, behind those that lead, go behind those that lead `to`: what stands between goes to their other side.
-fn move_free(from: Leading, to: Leading, all: usize, bodies: &mut [u8])
-    requires { (from.count < to.count → from.bytes ≤ to.bytes) × (to.count ≤ from.count → to.bytes ≤ from.bytes) × (from.bytes ≤ all) × (to.bytes ≤ all) × (all ≤ length bodies.old) }
-    ensures { FreeMoved from.count to.count from.bytes to.bytes all bodies.old bodies.new }
-{
-    if from.count < to.count {
-        move_down(
-            bodies,
-            bodies.len() - (all - from.bytes),
-            to.bytes - from.bytes,
-            from.bytes,
-        );
-        return;
-    }
-    move_up(
-        bodies,
-        to.bytes,
-        from.bytes - to.bytes,
-        bodies.len() - (all - to.bytes),
-    );
-}
-
 // How many lead when the free bytes come beside the fragment at `index`, from where they are.
 fn beside(index: usize, leading: usize) -> usize
     ensures { (index < leading → result ≡ index + 1) × (leading ≤ index → result ≡ index) }
@@ -152,55 +126,6 @@ fn beside(index: usize, leading: usize) -> usize
         return index + 1;
     }
     index
-}
-
-// Where the fragment at `index` stands, and where the free bytes do, behind those that lead. Counted as if none were free, it has `own` bytes
-// from `start` on; all fragments have `all` bytes.
-#[derive(Clone, Copy)]
-struct Place {
-    index: usize,
-    start: usize,
-    own: usize,
-    leading: Leading,
-    all: usize,
-}
-
-impl Place {
-    // Packs all bodies at the front but the one of this place: first what stands between it and the free bytes goes down, then what stands
-    // behind both. Were it given up before, what leads behind it would go up, and then down again.
-    fn pack(self, bodies: &mut [u8])
-        requires { (self.start + self.own ≤ self.all) × (self.leading.bytes ≤ self.all) × (self.all ≤ length bodies.old) × (self.index < self.leading.count → self.start + self.own ≤ self.leading.bytes) × (self.leading.count ≤ self.index → self.leading.bytes ≤ self.start) }
-        ensures { Packed self.index self.leading.count self.start (self.start + self.own) self.leading.bytes self.all bodies.old bodies.new }
-    {
-        let total = bodies.len();
-        let start = self.start;
-        let end = start + self.own;
-        let free = self.leading.bytes;
-        let all = self.all;
-        if self.index < self.leading.count {
-            move_down(bodies, end, free - end, start);
-            move_down(bodies, total - (all - free), all - free, free - self.own);
-            return;
-        }
-        move_down(bodies, total - (all - free), start - free, free);
-        move_down(bodies, total - (all - end), all - end, start);
-    }
-
-    // Whether a first of `m` bytes can be held in the place of this one: there is a free slot, or its own, and room beside the others.
-    fn first_fits(self, m: usize, total: usize) -> bool
-        requires { (self.own ≤ self.all) × (self.all ≤ total) }
-        ensures { result ≡ (ltb self.index 256 && leb (self.all - self.own + m) total) }
-    {
-        self.index < 256 && m <= total - (self.all - self.own)
-    }
-
-    // Whether `m` bytes more keep this fragment within `most`, and all fragments within `total`.
-    fn fits(self, m: usize, most: usize, total: usize) -> bool
-        requires { self.all ≤ total }
-        ensures { result ≡ (leb (self.own + m) most && leb (self.all + m) total) }
-    {
-        m <= most && self.own <= most - m && m <= total - self.all
-    }
 }
 
 // How many fragments are held, and how many of them lead.

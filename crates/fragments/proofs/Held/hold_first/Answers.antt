@@ -1,7 +1,7 @@
 use mathlib.Core.Path.{sym, ◌∙◌}
 use native.Mathlib.Omega.{arith}
 use Rattle.fragments.proofs.RoomLaws.{some_numbers}
-use Rattle.fragments.proofs.GrowLaws.{stands_so, first_held, first_not_held, first_room}
+use Rattle.fragments.proofs.GrowLaws.{first_held, first_not_held, first_room}
 use Rattle.fragments.proofs.Held.hold_first.Goals as goal
 
 pub first_fits-requires : goal.first_fits-requires
@@ -9,7 +9,7 @@ first_fits-requires c =
     let a = c.args in
     let n = some_numbers a.self.count a.self.leading a.fragment_heads.now a.bodies.now c.requires in
     let place = c.place_of-place in
-    omega (arith, (stands_so a.self.count a.fragment_heads.now place.result place.ensures.2).0, place.ensures.2.all_is, n.within)
+    omega (arith, place.ensures.2.all_is, n.within)
 
 pub put_behind-requires : goal.put_behind-requires
 put_behind-requires c =
