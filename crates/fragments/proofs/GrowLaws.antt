@@ -19,10 +19,11 @@ use Rattle.meaning.specs.declared.Limits.{Limits}
 use Rattle.meaning.proofs.ListLaws.{and_both}
 use Rattle.meaning.proofs.MoveLaws.{once_none}
 use Rattle.meaning.proofs.SoundnessKept.{first_holds, middle_holds}
-use Rattle.fragments.specs.Fragments.{index_in, others_of, TakesOut, FreeMoved, Packed, KeptFragments, Numbers, HeldAfter, Nearest, Stands, DropsAt, Drops, GivesBack, held_behind, PutsBehind, HoldsFirst, Lengthens, GrewAt, GrowsWithin, GrowsAtIndex, LearnsMiddle}
+use Rattle.fragments.specs.Room.{FreeMoved, Packed}
+use Rattle.fragments.specs.Fragments.{index_in, others_of, length_at, TakesOut, KeptFragments, Numbers, HeldAfter, Nearest, Stands, DropsAt, Drops, GivesBack, held_behind, PutsBehind, HoldsFirst, Lengthens, GrewAt, GrowsWithin, GrowsAtIndex, LearnsMiddle}
 use Rattle.fragments.specs.declared.Held.{Held}
 use Rattle.fragments.specs.declared.Grown.{Grown}
-use Rattle.fragments.specs.declared.Place.{Place}
+use Rattle.fragments.specs.declared.place.Place.{Place}
 use Rattle.fragments.proofs.FragmentLaws.{lens_turn, lens_less, missing, own_turn, own_ends, others_count, index_grown, grown_length, without_grown, not_found, leading_gone, leading_none, leading_grown, leading_behind}
 use Rattle.fragments.proofs.RoomLaws.{slots_all, numbers, sum_is, index_is, nearest_kept, free_moved, There, there, left_last, left_next, grown_in, others_bytes, put_kept, held_so, full_so, short_so}
 use Rattle.fragments.proofs.OnceLaws.{once_moved, once_grown, once_put}
@@ -41,25 +42,20 @@ free_numbers fragment_heads n leading to old new all total low high within eo en
 
 -- ---- places
 
-module _ (n : ℕ) (fragment_heads : List ℕ) (place : Place) (s : Stands n fragment_heads place) where
-  -- Its numbers are ordered as the fragments are.
-  pub stands_so : (place.start + place.own ≤ place.all) × (place.leading.bytes ≤ place.all) × (place.index < place.leading.count → place.start + place.own ≤ place.leading.bytes)
-      × (place.leading.count ≤ place.index → place.leading.bytes ≤ place.start)
-  stands_so =
-      let es = s.start_is in
-      let ew = s.own_is in
-      let eo = s.free_is in
-      let ea = s.all_is in (
-        omega (arith, own_ends fragment_heads place.index n s.index_low),
-        omega (arith, lens_less fragment_heads place.leading.count n s.leading_low),
-        λ h. let low : place.leading.count ≤ n = s.leading_low in
-            omega (arith, own_turn fragment_heads place.index n (omega arith), lens_less fragment_heads (place.index + 1) place.leading.count (omega arith)),
-        λ h. omega (arith, lens_less fragment_heads place.leading.count place.index h),
-      )
+-- The numbers of a place are ordered as the fragments are.
+pub place_numbers : (fragment_heads : List ℕ) (n index leading start own free all : ℕ) → index ≤ n → leading ≤ n → start ≡ lens (take index fragment_heads)
+    → own ≡ length_at index n fragment_heads → free ≡ lens (take leading fragment_heads) → all ≡ lens (take n fragment_heads)
+    → (start + own ≤ all) × (free ≤ all) × (index < leading → start + own ≤ free) × (leading ≤ index → free ≤ start)
+place_numbers fragment_heads n index leading start own free all low few es ew eo ea = (
+  omega (arith, own_ends fragment_heads index n low),
+  omega (arith, lens_less fragment_heads leading n few),
+  λ h. omega (arith, own_turn fragment_heads index n (omega arith), lens_less fragment_heads (index + 1) leading (omega arith)),
+  λ h. omega (arith, lens_less fragment_heads leading index h),
+)
 
-  -- Where it ends, if it is there.
-  pub ends_so : place.index < n → place.start + place.own ≡ lens (take (place.index + 1) fragment_heads)
-  ends_so h = ap₂ (λ (x y : ℕ). x + y) s.start_is s.own_is ∙ own_turn fragment_heads place.index n (omega arith)
+-- Where it ends, if it is there.
+pub ends_so : (n : ℕ) (fragment_heads : List ℕ) (place : Place) → Stands n fragment_heads place → place.index < n → place.start + place.own ≡ lens (take (place.index + 1) fragment_heads)
+ends_so n fragment_heads place s h = ap₂ (λ (x y : ℕ). x + y) s.start_is s.own_is ∙ own_turn fragment_heads place.index n (omega arith)
 
 -- ---- given up, and dropped
 
@@ -134,14 +130,6 @@ module _ (index n : ℕ) where
 pub others_small : (index n count : ℕ) → index ≤ n → index < 256 → n ≤ 256 → count ≡ others_of index n → count < 256
 others_small index n count le few l e = omega (arith, e, others_low index n le few l)
 
--- the numbers by which the others are packed
-pub pack_numbers : (n : ℕ) (fragment_heads bodies : List ℕ) (place : Place) → Stands n fragment_heads place → Numbers n fragment_heads bodies
-    → (place.start + place.own ≤ place.all) × (place.leading.bytes ≤ place.all) × (place.all ≤ length bodies) × (place.index < place.leading.count → place.start + place.own ≤ place.leading.bytes)
-    × (place.leading.count ≤ place.index → place.leading.bytes ≤ place.start)
-pack_numbers n fragment_heads bodies place s ns =
-    let o = stands_so n fragment_heads place s in
-    (o.0, o.1, omega (arith, s.all_is, ns.within), o.2, o.3)
-
 pub put : (place : Place) (p flags : ℕ) (b : Bytes) (n : ℕ) (fragment_heads bodies : List ℕ) → place.index < 256 → Stands n fragment_heads place → Numbers n fragment_heads bodies
     → place.all - place.own + length b ≤ length bodies → (mid : Bytes) (count q head : ℕ) (fragment_heads₁ bodies' : List ℕ) → count ≡ others_of place.index n → length bodies' ≡ length mid
     → Packed place.index place.leading.count place.start (place.start + place.own) place.leading.bytes place.all bodies mid → Wrote b mid (place.all - place.own) bodies' q
@@ -162,8 +150,8 @@ put place p flags b n fragment_heads bodies few s ns fit mid count q head fragme
         e,
       );
   leading_is = ap (λ (z : ℕ). z + 1) ec;
-  once = let o = pack_numbers n fragment_heads bodies place s ns in
-      once_put place.index place.leading.count place.start (place.start + place.own) place.leading.bytes place.all bodies mid b bodies' q (omega arith) o.0 o.1 o.2 o.3 o.4 (omega arith) m
+  once = once_put place.index place.leading.count place.start (place.start + place.own) place.leading.bytes place.all bodies mid b bodies' q (omega arith) place.own_within place.leading_within
+      (omega (arith, s.all_is, ns.within)) place.led place.behind (omega arith) m
       (subst (λ (z : ℕ). Wrote b mid z bodies' q) (let z : place.all - place.own ≡ place.all - (place.start + place.own - place.start) = omega arith in z) w);
 }
 
@@ -263,7 +251,7 @@ module _ (most : ℕ) (b : Bytes) (n leading : ℕ) (fragment_heads bodies : Lis
         let g = u.grows L.total p fs at (nearest_kept L.total fs n leading fragment_heads bodies k place.leading.count m) hold in
         let one : g.fragment ≡ f = some-injective _ _ (sym g.found ∙ t.found) in
         let len : place.own ≡ length f.body = own_length L.total p fs at k t in
-        let less : place.start + place.own ≤ place.all = (stands_so n fragment_heads place s).0 in
+        let less : place.start + place.own ≤ place.all = place.own_within in
         let room_fits : place.all + length b ≤ length bodies = fits_room ok in
         let size : end - place.start ≡ length f.body + length b = omega arith in
         record {

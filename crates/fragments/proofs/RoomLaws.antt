@@ -5,26 +5,24 @@ use mathlib.Core.Path.{◌≡◌, refl, sym, ap, ap₂, ◌∙◌, subst}
 use mathlib.Core.Bool.{Bool, true, false, cond, ◌&&◌}
 use mathlib.Core.List.{List, [], ◌∷◌, ◌++◌, map, map-append, append_assoc, append-nil}
 use mathlib.Core.Option.{some}
-use Rattle.std.specs.declared.option.Option.{Option}
-use Rattle.std.specs.Prelude.{unwrap_or, IfSome}
-use Rattle.std.specs.List.{position}
 use native.Mathlib.Omega.{arith}
 use lib.ListN.{length, take, drop, get_or, set, replicate, length-append, length-map, length-replicate, take-append-drop, drop_of_length-le}
-use lib.Seq.{take_at, drop_at, set_at, get_or_at, take_all, take-take, take-add, drop-drop, take-append-add, drop-append-add, length-take-le}
-use lib.Dec.{eqb, leb, ltb}
+use lib.Seq.{take_at, drop_at, set_at, get_or_at, take_all, take-take, take-add, drop-drop, take-append-add, drop-append-add}
+use lib.Dec.{leb, ltb}
 use borrow.Author.Tests.{ltb-true, ltb-false, leb-true, leb-false, lt-ltb, le-ltb, le-leb, lt-leb}
 use Rattle.meaning.specs.Bytes.{Bytes}
 use Rattle.meaning.specs.Writing.{Wrote}
 use Rattle.meaning.specs.Learn.{Fragment, without, fragment_bytes, fragment_of, grown, grow_in, hold_first}
-use Rattle.meaning.specs.Record.{slots, fragment_head, fragment_identifier, bodies_of, room_of, lens}
+use Rattle.meaning.specs.Record.{slots, fragment_head, bodies_of, room_of, lens}
 use Rattle.meaning.specs.Leading.{index_of}
 use Rattle.meaning.specs.Soundness.{distinct, identifiers, HoldsFragments}
 use Rattle.meaning.specs.declared.Limits.{Limits}
 use Rattle.meaning.proofs.SoundnessKept.{without_holds}
 use Rattle.meaning.proofs.LayoutLaws.{bodies_append, bodies_next, bodies_one, bodies_none, bytes_of_lem, longer_take, shorter_drop, take_map, drop_map}
 use Rattle.meaning.proofs.SoundnessLaws.{Tells, TellAll, heads_tell, used, tell_take, tell_drop, lens_heads}
-use Rattle.fragments.specs.Fragments.{index_in, Heads, others_of, length_at, TakesOut, FreeMoved, Packed, KeptFragments, KeepsFragments, Numbers, Nearest, held_behind, Grows}
-use Rattle.fragments.proofs.FragmentLaws.{index_fragment_heads, found_at, Spot, spot, missing, without_is}
+use Rattle.fragments.specs.Room.{FreeMoved, Packed}
+use Rattle.fragments.specs.Fragments.{index_in, Heads, others_of, length_at, TakesOut, KeptFragments, KeepsFragments, Numbers, Nearest, held_behind, Grows}
+use Rattle.fragments.proofs.FragmentLaws.{index_fragment_heads, Spot, spot, missing, without_is}
 use Rattle.fragments.proofs.BlockLaws.{moved_down, moved_up, filled, second, third, tail, closed_heads, one_zero}
 
 abbrev size : List Fragment → ℕ
@@ -194,16 +192,8 @@ module _ (T : ℕ) (fs : List Fragment) (n leading : ℕ) (fragment_heads : List
 
 -- ---- by what is held, whatever it is
 
-module _ (n leading : ℕ) (fragment_heads bodies : List ℕ) (k : KeepsFragments n leading fragment_heads bodies) where
-  pub some_numbers : Numbers n fragment_heads bodies
-  some_numbers = numbers k.0 k.1 n leading fragment_heads bodies k.2
-
-  -- where the identifier's fragment was found, or that there is none
-  pub some_found : (p : ℕ) (o : Option ℕ) → o ≡ position (λ (h : ℕ). eqb (fragment_identifier h) p) (take n fragment_heads)
-      → (unwrap_or o n ≡ index_in p (take n fragment_heads)) × IfSome o (λ i. i < n)
-  some_found p o e =
-      let l : length (take n fragment_heads) ≡ n = length-take-le n fragment_heads (omega (arith, some_numbers.few, slots_all k.0 k.1 n leading fragment_heads bodies k.2)) in
-      subst (λ (m : ℕ). (unwrap_or o m ≡ index_in p (take n fragment_heads)) × IfSome o (λ i. i < m)) l (found_at p (take n fragment_heads) o e)
+pub some_numbers : (n leading : ℕ) (fragment_heads bodies : List ℕ) → KeepsFragments n leading fragment_heads bodies → Numbers n fragment_heads bodies
+some_numbers n leading fragment_heads bodies k = numbers k.0 k.1 n leading fragment_heads bodies k.2
 
 -- ---- a head taken out
 
