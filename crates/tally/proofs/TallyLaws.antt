@@ -7,8 +7,7 @@ use borrow.Author.Tests.{ltb-true, lt-ltb}
 use Rattle.std.specs.Prelude.{Option, Some, None}
 use Rattle.std.specs.Option.{MatchOption, unwrap_or}
 use Rattle.meaning.specs.declared.Counts.{Counts}
-use Rattle.meaning.specs.declared.Answer.{Answer}
-use Rattle.meaning.specs.Refusals.{answer_number}
+use Rattle.meaning.specs.Refusals.{Answer, answer_number}
 use Rattle.meaning.specs.Tally.{add_counts, fits64, tally_refusal, tallied}
 use Rattle.meaning.proofs.ListLaws.{and_both}
 use Rattle.meaning.proofs.AnswerLaws.{answer_told}

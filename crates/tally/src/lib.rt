@@ -28,8 +28,8 @@ pub fn tally_answer(t: Counts, c: Counts) -> Answer
     ensures { answer_number result ≡ tally_refusal t c }
 {
     match added(t, c) {
-        Some(_) => Answer::Done,
-        None => Answer::Refused(Refusal::Tally),
+        Some(_) => Ok(()),
+        None => Err(Refusal::Tally),
     }
 }
 
@@ -45,8 +45,8 @@ pub fn tally(t: &mut Counts, c: Counts) -> Answer
     ensures { TalliedAs t.old c t.new result }
 {
     let Some(sum) = added(*t, c) else {
-        return Answer::Refused(Refusal::Tally);
+        return Err(Refusal::Tally);
     };
     *t = sum;
-    Answer::Done
+    Ok(())
 }
