@@ -3,7 +3,7 @@
 #![tactic(auto)]
 
 ghost use Rattle.std.specs.Prelude.{◌≡◌, ◌+◌, ◌-◌, ◌%◌, ◌≤◌, ◌<◌, ◌^◌, [], ◌∷◌, length, take, drop, get_or};
-ghost use Rattle.meaning.specs.Bytes.{be16, be16_at, be32_at, put16, put32};
+ghost use Rattle.meaning.specs.Bytes.{be16_at, be32_at, put16, put32};
 ghost use Rattle.meaning.specs.Writing.{Wrote};
 
 mod sets;
@@ -14,14 +14,7 @@ pub use sets::IdSet;
 pub fn wide(b: u8) -> usize
     ensures { (result ≡ b) × (result < 256) }
 {
-    b as usize
-}
-
-// The number of two bytes, the upper first.
-pub fn pair(high: u8, low: u8) -> u16
-    ensures { result ≡ be16 high low }
-{
-    (high as u16) * 256 + (low as u16)
+    usize::from(b)
 }
 
 // The 16-bit number at `at`, as an identifier.
@@ -29,7 +22,7 @@ pub fn id16(s: &[u8], at: usize) -> u16
     requires { at + 2 ≤ length s.now }
     ensures { result ≡ be16_at s.now at }
 {
-    pair(s[at], s[at + 1])
+    u16::from_be_bytes([s[at], s[at + 1]])
 }
 
 // The 16-bit number at `at`, as a size.
@@ -37,7 +30,7 @@ pub fn be16(s: &[u8], at: usize) -> usize
     requires { at + 2 ≤ length s.now }
     ensures { (result ≡ be16_at s.now at) × (result < 65536) }
 {
-    id16(s, at) as usize
+    usize::from(id16(s, at))
 }
 
 // The 32-bit number at `at`, as a size.
