@@ -402,12 +402,12 @@ fn mmtp_at(p: &[u8]) -> Option<Offset>
 pub fn mmtp_of(p: &[u8]) -> Option<Mmtp>
     ensures { MmtpIs (mmtp_of p.now) p.now result }
 {
-    let mmtp = mmtp_at(p)?;
-    let header = header_of(&p[mmtp.at..])?;
+    let Offset { at, rewritable } = mmtp_at(p)?;
+    let header = header_of(&p[at..])?;
     Some(Mmtp {
         identifier: header.identifier,
         payload_type: header.payload_type,
-        rewritable: mmtp.rewritable,
+        rewritable,
     })
 }
 
