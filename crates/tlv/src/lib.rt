@@ -156,53 +156,30 @@ fn quiet(run: &[u8], at: usize) -> bool
     requires { at + 64 ≤ length run.now }
     ensures { LookedAt (is_mark run.now) at 64 result }
 {
-    let mut none = true;
-    let mut i: usize = 0;
-    while i < 64 {
-        if run[at + i] == 0x7F {
-            none = false;
-        }
-        i += 1;
+    let mut marked = false;
+    for i in 0..64 {
+        marked |= run[at + i] == 0x7F;
     }
-    none
+    !marked
 }
 
-// 1 for 0x7F, else 0.
-fn mark(b: u8) -> u8
-    ensures { result ≡ cond (eqb b 0x7F) 1 0 }
+// Whether a byte may be a type: 0 is let through, which spares a comparison.
+fn near_type(t: u8) -> bool
+    ensures { result ≡ near_type t }
 {
-    if b == 0x7F {
-        return 1;
-    }
-    0
+    (t < 4) | (0xFE <= t)
 }
 
-// 1 for a type, and for 0, which spares a comparison; else 0.
-fn near_type(t: u8) -> u8
-    ensures { result ≡ cond (near_type t) 1 0 }
-{
-    if t < 4 {
-        return 1;
-    }
-    if 0xFE <= t {
-        return 1;
-    }
-    0
-}
-
-// Whether no packet starts at one of the 64 bytes from `at` on, by its first two bytes: with no way out, and numbers for answers, for the
-// same reason.
+// Whether no packet starts at one of the 64 bytes from `at` on, by its first two bytes: with no way out, for the same reason.
 fn barren(run: &[u8], at: usize) -> bool
     requires { at + 65 ≤ length run.now }
     ensures { LookedAt (may_start run.now) at 64 result }
 {
-    let mut starts: u8 = 0;
-    let mut i: usize = 0;
-    while i < 64 {
-        starts += mark(run[at + i]) * near_type(run[at + i + 1]);
-        i += 1;
+    let mut starts = false;
+    for i in 0..64 {
+        starts |= (run[at + i] == 0x7F) & near_type(run[at + i + 1]);
     }
-    starts == 0
+    !starts
 }
 
 // Whether no packet starts in the block of 64 bytes from `at` on. Most blocks of a gap are quiet, which is told sooner.
