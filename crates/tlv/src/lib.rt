@@ -199,10 +199,7 @@ fn blocks_end(run: &[u8], at: usize) -> usize
     ensures { NoStart run.now at result }
 {
     let mut to = at;
-    while 67 <= run.len() - to {
-        if !idle(run, to) {
-            return to;
-        }
+    while 67 <= run.len() - to && idle(run, to) {
         to += 64;
     }
     to
@@ -213,14 +210,12 @@ fn bytes_end(run: &[u8], at: usize, end: usize, most: usize) -> usize
     requires { (at ≤ end) × (end ≤ length run.now) }
     ensures { (result ≤ end) × Gap most run.now at result × (result < end → step_of most (drop result run.now) ≡ Skip → ⊥) }
 {
-    let mut to = at;
-    while to < end {
+    for to in at..end {
         let Step::Skip = next(run, to, most) else {
             return to;
         };
-        to += 1;
     }
-    to
+    end
 }
 
 // The end of the block that starts at `at`.
