@@ -1,5 +1,5 @@
 -- What the functions that read a PLT or an MPT promise, in the terms of the definitions: what the arrays hold afterwards, whatever they held.
-use Rattle.std.specs.Prelude.{ℕ, suc, max, ◌+◌, ◌*◌, ◌≤◌, ◌≡◌, Bool, true, false, cond, List, [], ◌∷◌, ◌++◌, length, take, drop, set, ltb}
+use Rattle.std.specs.Prelude.{ℕ, suc, max, ◌+◌, ◌*◌, ◌/◌, ◌≤◌, ◌<◌, ◌≡◌, ◌≢◌, Bool, true, false, cond, List, [], ◌∷◌, ◌++◌, length, take, drop, get_or, set, ltb, Result, Ok, Err}
 use Rattle.std.proofs.Math.Option.{Option, none, some}
 use Rattle.meaning.specs.Bytes.{Bytes}
 use Rattle.meaning.specs.Readers.{Out}
@@ -8,7 +8,7 @@ use Rattle.meaning.specs.Learn.{asset_numbers, over, place_for, listed, insert_p
 use Rattle.meaning.specs.declared.Part.{Part}
 use Rattle.tables.specs.declared.locations.Carrier.{Carrier}
 use Rattle.tables.specs.declared.packages.Named.{Named}
-use Rattle.learning.specs.Kept.{Pairs, KeptPackages, KeptMaps}
+use Rattle.learning.specs.Kept.{pairs_in, Pairs, KeptPackages, KeptMaps}
 use Rattle.learning.specs.News.{also, kinds_in, unlisted, plt_news, same_list, list_news}
 use Rattle.learning.specs.declared.Extent.{Extent}
 use Rattle.learning.specs.declared.News.{News}
@@ -25,6 +25,11 @@ with_news e n = record { seen = e.seen; package_count = e.package_count; map_cou
 unfoldable pub before : ℕ → List (ℕ × ℕ) → ℕ
 before s [] = 0
 before s (q ∷ qs) = cond (ltb q.0 s) (suc (before s qs)) 0
+
+-- The slot among n in which the package of a service is, or in which it would go.
+abbrev pub SlotIs : ℕ → ℕ → List ℕ → Result ℕ ℕ → Type 0
+SlotIs s n xs (Ok at) = (at ≡ before s (pairs_in n xs)) × (at < n) × (get_or xs at 0 / 65536 ≡ s)
+SlotIs s n xs (Err at) = (at ≡ before s (pairs_in n xs)) × (at ≤ n) × (at < n → get_or xs at 0 / 65536 ≢ s)
 
 -- One more package, if it has a service and an identifier.
 abbrev pub taken : Named → Carrier → List (ℕ × ℕ) → List (ℕ × ℕ)

@@ -7,6 +7,7 @@ ghost use Rattle.learning.specs.Kept.{pairs_in, KeptMaps};
 ghost use Rattle.learning.specs.News.{also, kind_news, count_at};
 ghost use Rattle.learning.specs.Learnt.{numbers_of, AssetsAre, HeldIs, HeadsAre, lost_one, MptLearnt};
 
+use crate::pairs::Pair;
 use crate::{Extent, News, changed, with_news};
 use meaning::Part;
 use octets::wide;
@@ -16,34 +17,25 @@ use tables::locations::Carrier;
 
 // The place of an identifier's list among the first `n`: where it stands, or `n`.
 pub fn place_for(map_heads: &[u32; 64], n: usize, id: u16) -> usize
-    requires { (n ≤ 64) × (length map_heads.now ≡ 64) }
+    requires { n ≤ 64 }
     ensures { (result ≡ place_for id (pairs_in n map_heads.now)) × (result ≤ n) }
 {
-    let p = id as u32;
-    let mut i: usize = 0;
-    while i < n {
-        if map_heads[i] / 65536 == p {
-            return i;
-        }
-        i += 1;
-    }
-    i
+    map_heads[..n]
+        .iter()
+        .position(|head| Pair::from(*head).first == id)
+        .unwrap_or(n)
 }
 
 fn kind_number(part: Part) -> u16
     ensures { result ≡ kind_number part }
 {
-    match part {
-        Part::Caption => 0,
-        Part::Carousel => 1,
-        Part::Other => 2,
-    }
+    part as u16
 }
 
 // One more asset behind `n`, if it has an identifier; answers how many there are.
 fn list_asset(fresh: &mut [u16; 510], n: usize, carrier: Carrier, part: Part) -> usize
-    requires { (n < 255) × (length fresh.old ≡ 510) }
-    ensures { (take (2 * result) fresh.new ≡ take (2 * n) fresh.old ++ numbers_of carrier part) × (n ≤ result) × (result ≤ n + 1) × (length fresh.new ≡ 510) }
+    requires { n < 255 }
+    ensures { (take (2 * result) fresh.new ≡ take (2 * n) fresh.old ++ numbers_of carrier part) × (n ≤ result) × (result ≤ n + 1) }
 {
     let Carrier::By(id) = carrier else {
         return n;
@@ -58,27 +50,9 @@ fn with_kind(n: News, part: Part) -> News
     ensures { result ≡ also n (kind_news part) }
 {
     match part {
-        Part::Caption => News {
-            changed: n.changed,
-            caption: true,
-            carousel: n.carousel,
-            other: n.other,
-            unlisted: n.unlisted,
-        },
-        Part::Carousel => News {
-            changed: n.changed,
-            caption: n.caption,
-            carousel: true,
-            other: n.other,
-            unlisted: n.unlisted,
-        },
-        Part::Other => News {
-            changed: n.changed,
-            caption: n.caption,
-            carousel: n.carousel,
-            other: true,
-            unlisted: n.unlisted,
-        },
+        Part::Caption => News { caption: true, ..n },
+        Part::Carousel => News { carousel: true, ..n },
+        Part::Other => News { other: true, ..n },
     }
 }
 
@@ -91,8 +65,7 @@ pub enum Assets {
 
 // The listed assets of an MPT's body.
 fn assets_of(b: &[u8], known: News, fresh: &mut [u16; 510]) -> Assets
-    requires { length fresh.old ≡ 510 }
-    ensures { AssetsAre (mpt b.now) known result fresh.new × (length fresh.new ≡ 510) }
+    ensures { AssetsAre (mpt b.now) known result fresh.new }
 {
     let End::At(front) = mpt_front(b) else {
         return Assets::Nothing;
@@ -118,22 +91,10 @@ fn assets_of(b: &[u8], known: News, fresh: &mut [u16; 510]) -> Assets
 
 // Writes the first `n` numbers to the map room from `base` on.
 fn list_to(fresh: &[u16; 510], n: usize, map_room: &mut [u16], base: usize)
-    requires { (n ≤ 510) × (length fresh.now ≡ 510) × (base + n ≤ length map_room.old) }
+    requires { (n ≤ 510) × (base + n ≤ length map_room.old) }
     ensures { map_room.new ≡ over map_room.old base (take n fresh.now) }
 {
-    let mut i: usize = 0;
-    while i < n {
-        map_room[base + i] = fresh[i];
-        i += 1;
-    }
-}
-
-// The head of a list: identifier and count.
-fn head_of(id: u16, n: usize) -> u32
-    requires { n ≤ 255 }
-    ensures { result ≡ id * 65536 + n }
-{
-    (id as u32) * 65536 + (n as u32)
+    map_room[base..base + n].copy_from_slice(&fresh[..n]);
 }
 
 // How many lists there are with one at place `i`.
@@ -157,19 +118,15 @@ fn keep_list(
     map_heads: &mut [u32; 64],
     map_room: &mut [u16],
 ) -> Extent
-    requires { (i < 64) × (n ≤ 255) × (i ≤ e.map_count) × (e.map_count ≤ 64) × (length fresh.now ≡ 510) × (length map_heads.old ≡ 64) × (length map_room.old ≡ 32768) }
+    requires { (i < 64) × (n ≤ 255) × (i ≤ e.map_count) × (e.map_count ≤ 64) × (length map_room.old ≡ 32768) }
     ensures { HeadsAre i id n fresh.now e map_heads.old map_room.old result map_heads.new map_room.new }
 {
-    map_heads[i] = head_of(id, n);
+    map_heads[i] = Pair { first: id, second: n as u16 }.into();
     list_to(fresh, 2 * n, map_room, 512 * i);
     Extent {
-        seen: e.seen,
-        package_count: e.package_count,
         map_count: count_with(e.map_count, i),
-        fragment_count: e.fragment_count,
-        leading: e.leading,
-        lost: e.lost,
         news: changed(e.news),
+        ..e
     }
 }
 
@@ -254,15 +211,9 @@ fn lose_one(e: Extent) -> Extent
     requires { e.lost < 18446744073709551615 }
     ensures { result ≡ lost_one e }
 {
-    let news = e.news;
     Extent {
-        seen: e.seen,
-        package_count: e.package_count,
-        map_count: e.map_count,
-        fragment_count: e.fragment_count,
-        leading: e.leading,
         lost: e.lost + 1,
-        news,
+        ..e
     }
 }
 

@@ -8,7 +8,7 @@ use Rattle.learning.proofs.lists.mpt.Goals as goal
 pub place_for-i-requires : goal.place_for-i-requires
 place_for-i-requires c =
     let k = c.requires.2.1.pairs in
-    (omega (arith, k.count, k.few), pairs_length k)
+    omega (arith, k.count, k.few)
 
 pub returns-in-With : goal.returns-in-With
 returns-in-With c = λ ms k.

@@ -18,7 +18,7 @@ returns-in_default c =
 pub take_package-n-requires : goal.take_package-n-requires
 take_package-n-requires c =
     let l = c.loop-left in
-    (omega (arith, l.invariant.few), (_, l.invariant.pairs))
+    (omega (arith, l.invariant.few), (_, l.invariant.pairs, l.invariant.rise))
 
 pub loop-left-preserved : goal.loop-left-preserved
 loop-left-preserved c =

@@ -16,7 +16,7 @@ returns-in_default c =
 pub is_known-requires : goal.is_known-requires
 is_known-requires c =
     let r = rw c.in-Read.is at c.packages_of.ensures in
-    (omega (arith, r.3.count, r.3.few), pairs_length r.3, pairs_length c.requires.1.pairs)
+    omega (arith, r.3.count, r.3.few)
 
 pub returns-then-is_known : goal.returns-then-is_known
 returns-then-is_known c =

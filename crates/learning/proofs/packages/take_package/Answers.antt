@@ -11,7 +11,4 @@ pub returns-in_default-carrier : goal.returns-in_default-carrier
 returns-in_default-carrier c = (λ ps k. rw (c.in-Service.is, c.in_default-carrier.is) k, omega arith)
 
 pub returns : goal.returns
-returns c = (
-  λ ps k. rw (c.in-Service.is, c.in-By.is) (pairs_as (c.add_package.ensures.0 ps k) (unpacked _ _ c.packed.result ps (omega arith) c.packed.ensures) refl refl),
-  c.add_package.ensures.1,
-)
+returns c = (λ ps k. rw (c.in-Service.is, c.in-By.is) (c.add_package.ensures.0 ps k), c.add_package.ensures.1)
