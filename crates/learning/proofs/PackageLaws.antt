@@ -1,6 +1,6 @@
 -- The packages of a PLT as `packages` reads and keeps them: the slot of a service, an insertion there, the loop over the packages, whose
 -- invariant is `Sofar`, and what is told as changed. Rests on PairLaws, on the readers at an offset, and on what a PLT's packages hold to.
-use Prim.Native.Nat.{ℕ, zero, suc, ◌+◌, ◌-◌, ◌*◌, ◌/◌, ◌%◌, ◌≤◌, ◌<◌}
+use Prim.Native.Nat.{ℕ, zero, suc, ◌+◌, ◌-◌, ◌*◌, ◌/◌, ◌≤◌, ◌<◌}
 use mathlib.Core.Path.{◌≡◌, refl, sym, ap, ap₂, ◌∙◌}
 use mathlib.Core.Bool.{Bool, true, false, cond, not, ◌&&◌, ◌||◌}
 use mathlib.Core.List.{List, [], ◌∷◌, ◌++◌, map, append-nil}
@@ -12,7 +12,8 @@ use lib.Arith.{lt_of_le-ne}
 use lib.Seq.{drop-cons, length-take-le, get_or-take}
 use lib.Dec.{ltb, eqb}
 use borrow.Author.Tests.{ltb-true, ltb-false, lt-ltb, le-ltb, eqb-true, eq-eqb, ne_eqb}
-use Rattle.std.specs.Prelude.{Result, Ok, Err}
+use Rattle.std.specs.Prelude as code
+use Rattle.std.specs.Prelude.{Some, Result, Ok, Err}
 use Rattle.std.specs.Ordering.{nat_cmp, ordering_index}
 use Rattle.std.specs.List.Sorted.{IsSearchInRange, IsBinarySearchResult, IsNonDecreasingBy}
 use Rattle.std.proofs.lemmas.Cmp.{ranked}
@@ -26,9 +27,7 @@ use Rattle.meaning.specs.Record.{slots, pack_pair, pair_of}
 use Rattle.meaning.specs.Soundness.{rising, firsts}
 use Rattle.meaning.proofs.Reading.{u8_none, many_none, many_next, behind, behind_nothing, behind_one}
 use Rattle.octets.proofs.ByteLaws.{u8_at_lem}
-use Rattle.tables.specs.Answers.{name_of, carrier_of, PackageIs}
-use Rattle.tables.specs.declared.locations.Carrier.{Carrier}
-use Rattle.tables.specs.declared.packages.Named.{Named}
+use Rattle.tables.specs.Answers.{in_code, PackageIs}
 use Rattle.tables.specs.declared.packages.Package as read
 use Rattle.meaning.proofs.ListLaws.{clash, and_both, both_true}
 use Rattle.meaning.proofs.SoundnessKept.{insert_rise, plt_holds}
@@ -177,7 +176,7 @@ module _ (N s p v n at : ℕ) (xs : List ℕ) (small : p < 65536) (packed : v �
 -- ---- one package after another
 
 -- what the code takes is what the definitions add
-taken_is : (s q : Option ℕ) (ps : List (ℕ × ℕ)) → taken (name_of s) (carrier_of q) ps ≡ add_package s q ps
+taken_is : (s q : Option ℕ) (ps : List (ℕ × ℕ)) → taken (in_code s) (in_code q) ps ≡ add_package s q ps
 taken_is none q ps = refl
 taken_is (some s) none ps = refl
 taken_is (some s) (some p) ps = refl
@@ -226,24 +225,24 @@ module _ (b : Bytes) where
     broken h e = rw (i.reads, many_none package_entry (drop from b) left h e)
 
     -- one more
-    pub turn : (e : ℕ) (name : Named) (c : Carrier) → 0 < left → PackageIs b from (read.Package.Entry e name c) → (m : ℕ) (ys : List ℕ)
-        → ((ps : List (ℕ × ℕ)) → Pairs 255 ps n xs → Pairs 255 (taken name c ps) m ys) → m ≤ n + 1 → Sofar b all (left - 1) e m ys
-    turn e name c h p m ys k l =
-        let row : Package = record { name = p.2.0; carrier = p.2.1; bytes_of = take (e - from) (drop from b) } in
+    pub turn : (r : read.Package) → 0 < left → PackageIs b from (Some r) → (m : ℕ) (ys : List ℕ)
+        → ((ps : List (ℕ × ℕ)) → Pairs 255 ps n xs → Pairs 255 (taken r.name r.carrier ps) m ys) → m ≤ n + 1 → Sofar b all (left - 1) r.end m ys
+    turn r h p m ys k l =
+        let row : Package = record { name = p.2.0; carrier = p.2.1; bytes_of = take (r.end - from) (drop from b) } in
         let ps = packages_in i.pre [] in
         record {
           pre = i.pre ++ row ∷ [];
-          reads = i.reads ∙ rw (many_next package_entry (drop from b) left row (drop e b) h p.2.2) (behind_one i.pre row (many (left - 1) package_entry (drop e b)));
+          reads = i.reads ∙ rw (many_next package_entry (drop from b) left row (drop r.end b) h p.2.2) (behind_one i.pre row (many (left - 1) package_entry (drop r.end b)));
           pairs =
               pairs_as (k ps i.pairs)
-              (ap₂ (λ (a : Named) (q : Carrier). taken a q ps) p.2.3 p.2.4 ∙ taken_is (service_of p.2.0) p.2.1 ps ∙ sym (packages_more i.pre row [])) refl refl;
+              (ap₂ (λ (a q : code.Option ℕ). taken a q ps) p.2.3 p.2.4 ∙ taken_is (service_of p.2.0) p.2.1 ps ∙ sym (packages_more i.pre row [])) refl refl;
           rise = rw (packages_more i.pre row []) (add_rise (service_of p.2.0) p.2.1 ps i.rise);
           few = omega (arith, i.few);
           counted = omega (arith, i.counted, length-append i.pre (row ∷ []));
         }
 
     -- none left
-    pub all_read : left ≡ 0 → PackagesAre (plt b) (Services.Read n (not (eqb n all))) xs
+    pub all_read : left ≡ 0 → PackagesAre (plt b) (Some (record { count = n; unlisted = not (eqb n all) })) xs
     unfolding many unlisted
     all_read z =
         let every : all ≡ length i.pre = omega (arith, i.counted) in
@@ -260,7 +259,13 @@ module _ (b : Bytes) (e : Extent) (ps : List (ℕ × ℕ)) (xs : List ℕ) (k : 
   pub plt_unread : plt b ≡ none → PltLearnt (plt b) ps e e xs
   plt_unread h = rw h (refl, k)
 
-  module _ (n : ℕ) (apart : Bool) (fresh : List ℕ) (r : PackagesAre (plt b) (Services.Read n apart) fresh) where
+  module _ (services : Services) (fresh : List ℕ) (r : PackagesAre (plt b) (Some services) fresh) where
+    abbrev n : ℕ
+    n = services.count
+
+    abbrev apart : Bool
+    apart = services.unlisted
+
     -- what is new but for a change
     abbrev met : News
     met = also e.news (unlisted_news apart)

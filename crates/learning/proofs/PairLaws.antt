@@ -2,13 +2,13 @@
 -- that are in it. Any number of slots, so that packages and map heads share it. Rests on Pairs and on meaning's record laws.
 use Prim.Native.Nat.{ℕ, zero, suc, max, ◌+◌, ◌-◌, ◌/◌, ◌%◌, ◌≤◌, ◌<◌}
 use mathlib.Core.Path.{◌≡◌, refl, sym, ap, ap₂, ◌∙◌}
-use mathlib.Core.Bool.{Bool, true, false, ◌&&◌}
+use mathlib.Core.Bool.{Bool, true, ◌&&◌}
 use mathlib.Core.List.{List, [], ◌∷◌, ◌++◌, map, map-append, append_assoc, append-nil}
 use native.Mathlib.Nat.{sub-zero, zero-sub, suc-sub-suc}
 use native.Mathlib.Numerals.{add-one}
 use native.Mathlib.Omega.{arith}
 use lib.ListN.{length, take, drop, get_or, set, replicate, length-append, length-map, length-replicate, length-drop, length-set, drop_of_length-le, take-append-drop, get_or-append, get_or-map}
-use lib.Seq.{length-take-le, take-append-le, take-set-lt, take-suc-set, set_split, set-append_left, append_snoc, take-suc, drop-cons, get_or-take}
+use lib.Seq.{length-take-le, take-append-le, take-set-lt, take-suc-set, set_split, set-append_left, append_snoc, drop-cons, get_or-take}
 use lib.Dec.{eqb}
 use lib.Pointwise.{pointwise}
 use borrow.Author.Tests.{eq-eqb, eqb-true}

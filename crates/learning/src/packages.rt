@@ -10,8 +10,7 @@ ghost use Rattle.learning.specs.Learnt.{SlotIs, taken, PackagesAre, PltLearnt};
 use crate::pairs::Pair;
 use crate::{Extent, News, changed, with_news};
 use octets::wide;
-use tables::locations::Carrier;
-use tables::packages::{Named, Package, package_at};
+use tables::packages::{Package, package_at};
 
 // The slot among the first `n` in which the package of a service is, or in which it would go.
 fn slot_for(fresh: &[u32; 255], n: usize, service: u16) -> Result<usize, usize>
@@ -40,54 +39,40 @@ fn add_package(fresh: &mut [u32; 255], n: usize, p: Pair) -> usize
 }
 
 // One more package, if it has a service and an identifier.
-fn take_package(fresh: &mut [u32; 255], n: usize, name: Named, carrier: Carrier) -> usize
+fn take_package(fresh: &mut [u32; 255], n: usize, found: Package) -> usize
     requires { (n < 255) × ((ps : List (ℕ × ℕ)) × Pairs 255 ps n fresh.old × (rising (firsts ps) ≡ true)) }
-    ensures { ((ps : List (ℕ × ℕ)) → Pairs 255 ps n fresh.old → Pairs 255 (taken name carrier ps) result fresh.new) × (result ≤ n + 1) }
+    ensures { ((ps : List (ℕ × ℕ)) → Pairs 255 ps n fresh.old → Pairs 255 (taken found.name found.carrier ps) result fresh.new) × (result ≤ n + 1) }
 {
-    let Named::Service(service) = name else {
+    let (Some(first), Some(second)) = (found.name, found.carrier) else {
         return n;
     };
-    let Carrier::By(id) = carrier else {
-        return n;
-    };
-    add_package(
-        fresh,
-        n,
-        Pair {
-            first: service,
-            second: id,
-        },
-    )
+    add_package(fresh, n, Pair { first, second })
 }
 
 // The packages of a PLT's body: how many are listed, and whether that is not all.
 #[derive(Clone, Copy)]
-pub enum Services {
-    Read(usize, bool),
-    Nothing,
+pub struct Services {
+    pub count: usize,
+    pub unlisted: bool,
 }
 
 // The packages of a PLT's body, in an array of zeros.
-fn packages_of(b: &[u8], fresh: &mut [u32; 255]) -> Services
+fn packages_of(b: &[u8], fresh: &mut [u32; 255]) -> Option<Services>
     requires { Pairs 255 [] 0 fresh.old }
     ensures { PackagesAre (plt b.now) result fresh.new }
 {
-    if b.len() == 0 {
-        return Services::Nothing;
+    let all = wide(*b.first()?);
+    let mut from = 1;
+    let mut count = 0;
+    for _ in 0..all {
+        let package = package_at(b, from)?;
+        from = package.end;
+        count = take_package(fresh, count, package);
     }
-    let all = wide(b[0]);
-    let mut left = all;
-    let mut from: usize = 1;
-    let mut n: usize = 0;
-    while 0 < left {
-        let Package::Entry { end, name, carrier } = package_at(b, from) else {
-            return Services::Nothing;
-        };
-        from = end;
-        left -= 1;
-        n = take_package(fresh, n, name, carrier);
-    }
-    Services::Read(n, n != all)
+    Some(Services {
+        count,
+        unlisted: count != all,
+    })
 }
 
 // Whether these packages are what the latest PLT said.
@@ -105,7 +90,10 @@ fn with_unlisted(n: News, there: bool) -> News
     if !there {
         return n;
     }
-    News { unlisted: true, ..n }
+    News {
+        unlisted: true,
+        ..n
+    }
 }
 
 // A PLT's body: all its packages, if it can be read.
@@ -113,18 +101,18 @@ pub fn plt(b: &[u8], e: Extent, packages: &mut [u32; 255]) -> Extent
     requires { (ps : List (ℕ × ℕ)) × KeptPackages ps e.package_count packages.old }
     ensures { (ps : List (ℕ × ℕ)) → KeptPackages ps e.package_count packages.old → PltLearnt (plt b.now) ps e result packages.new }
 {
-    let mut fresh = [0u32; 255];
-    let Services::Read(n, unlisted) = packages_of(b, &mut fresh) else {
+    let mut fresh = [0; 255];
+    let Some(services) = packages_of(b, &mut fresh) else {
         return e;
     };
-    let known = with_news(e, with_unlisted(e.news, unlisted));
-    if is_known(known, n, &fresh, packages) {
+    let known = with_news(e, with_unlisted(e.news, services.unlisted));
+    if is_known(known, services.count, &fresh, packages) {
         return known;
     }
     *packages = fresh;
     Extent {
         seen: true,
-        package_count: n,
+        package_count: services.count,
         news: changed(known.news),
         ..known
     }

@@ -1,5 +1,4 @@
 use mathlib.Core.Path.{◌≡◌, refl}
-use Prim.Native.Nat.{ℕ}
 use denote.Enum.Declared.{tag_of}
 use Rattle.meaning.specs.Tables.{kind_number}
 use Rattle.meaning.specs.declared.Part.{Part}

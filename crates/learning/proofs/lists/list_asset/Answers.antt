@@ -11,4 +11,4 @@ returns-in_default c = (rw (c.in_default.is, append-nil) refl, omega arith, omeg
 pub returns : goal.returns
 returns c =
     let a = c.args in
-    (rw (c.in-By.is, c.kind_number.ensures) (two_more a.fresh.now (2 * a.n) (2 * (a.n + 1)) _ _ (omega arith) (omega arith)), omega arith, omega arith)
+    (rw (c.in-Some.is, c.kind_number.ensures) (two_more a.fresh.now (2 * a.n) (2 * (a.n + 1)) _ _ (omega arith) (omega arith)), omega arith, omega arith)

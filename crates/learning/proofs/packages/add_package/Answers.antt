@@ -3,7 +3,6 @@ use mathlib.Core.Path.{◌≡◌, ◌∙◌}
 use mathlib.Core.List.{◌++◌, append_assoc}
 use native.Mathlib.Omega.{arith}
 use lib.ListN.{take, drop}
-use Rattle.std.proofs.Common.{rules}
 use Rattle.learning.proofs.PairLaws.{pairs_in_lem}
 use Rattle.learning.proofs.PackageLaws.{added_over, added_new}
 use Rattle.learning.proofs.packages.add_package.Goals as goal
