@@ -2,14 +2,13 @@
 -- invariant is `Sofar`, and what is told as changed. Rests on PairLaws, on the readers at an offset, and on what a PLT's packages hold to.
 use Prim.Native.Nat.{ℕ, zero, suc, ◌+◌, ◌-◌, ◌*◌, ◌/◌, ◌≤◌, ◌<◌}
 use mathlib.Core.Path.{◌≡◌, refl, sym, ap, ap₂, ◌∙◌}
-use mathlib.Core.Bool.{Bool, true, false, cond, not, ◌&&◌, ◌||◌}
+use mathlib.Core.Bool.{Bool, true, false, cond, not, ◌&&◌}
 use mathlib.Core.List.{List, [], ◌∷◌, ◌++◌, map, append-nil}
 use mathlib.Core.Option.{Option, none, some}
-use native.Mathlib.Numerals.{add-one}
 use native.Mathlib.Omega.{arith}
 use lib.ListN.{length, take, drop, get_or, set, length-append, length-map, get_or-map}
 use lib.Arith.{lt_of_le-ne}
-use lib.Seq.{drop-cons, length-take-le, get_or-take}
+use lib.Seq.{length-take-le, get_or-take}
 use lib.Dec.{ltb, eqb}
 use borrow.Author.Tests.{ltb-true, ltb-false, lt-ltb, le-ltb, eqb-true, eq-eqb, ne_eqb}
 use Rattle.std.specs.Prelude as code
@@ -32,7 +31,7 @@ use Rattle.tables.specs.declared.packages.Package as read
 use Rattle.meaning.proofs.ListLaws.{clash, and_both, both_true}
 use Rattle.meaning.proofs.SoundnessKept.{insert_rise, plt_holds}
 use Rattle.learning.specs.Kept.{pairs_in, Pairs, KeptPackages}
-use Rattle.learning.specs.News.{also, change_news, unlisted_news, unlisted, lists_service, plt_news, same_numbers, same_pairs}
+use Rattle.learning.specs.News.{also, change_news, unlisted_news, unlisted, plt_news, same_numbers, same_pairs}
 use Rattle.learning.specs.Learnt.{with_news, before, SlotIs, taken, PackagesAre, PltLearnt}
 use Rattle.learning.specs.declared.Extent.{Extent}
 use Rattle.learning.specs.declared.News.{News}
@@ -317,19 +316,3 @@ module _ (b : Bytes) (e : Extent) (ps : List (ℕ × ℕ)) (xs : List ℕ) (k : 
           extent_is (record { seen = true; package_count = n; map_count = e.map_count; fragment_count = e.fragment_count; leading = e.leading; lost = e.lost; news = now_changed met }) true (length found)
               _ refl r.3.count (news_are true (now_changed met) told (met_changed e.news (unlisted_news apart))),
         )
-
--- ---- a service among the packages
-
-module _ (s n : ℕ) (xs : List ℕ) (i : ℕ) (h : i < n) (l : i < length xs) where
-  one_more : lists_service s (pairs_in (n - i) (drop i xs)) ≡ (eqb (get_or xs i 0 / 65536) s || lists_service s (pairs_in (n - (i + 1)) (drop (i + 1) xs)))
-  unfolding lists_service pair_of
-  one_more =
-      let m : n - i ≡ suc (n - (i + 1)) = omega arith in
-      let d : drop i xs ≡ get_or xs i 0 ∷ drop (i + 1) xs = rw (add-one i) (drop-cons xs i 0 l) in
-      ap₂ (λ (c : ℕ) (ys : List ℕ). lists_service s (pairs_in c ys)) m d
-
-  pub lists_here : get_or xs i 0 / 65536 ≡ s → lists_service s (pairs_in (n - i) (drop i xs)) ≡ true
-  lists_here e = one_more ∙ rw (eq-eqb (get_or xs i 0 / 65536) s e)
-
-  pub lists_next : (get_or xs i 0 / 65536 ≡ s → ⊥) → lists_service s (pairs_in (n - i) (drop i xs)) ≡ lists_service s (pairs_in (n - (i + 1)) (drop (i + 1) xs))
-  lists_next e = one_more ∙ rw (ne_eqb (get_or xs i 0 / 65536) s e)

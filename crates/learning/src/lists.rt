@@ -14,6 +14,7 @@ use octets::wide;
 use tables::assets::{Asset, asset_at, mpt_front};
 
 // The place of an identifier's list among the first `n`: where it stands, or `n`.
+// Stays: a number, no Option, since the definition's `place_for` is one: with no list there the place is where a new one goes.
 pub fn place_for(map_heads: &[u32; 64], n: usize, id: u16) -> usize
     requires { n ≤ 64 }
     ensures { (result ≡ place_for id (pairs_in n map_heads.now)) × (result ≤ n) }
@@ -24,6 +25,7 @@ pub fn place_for(map_heads: &[u32; 64], n: usize, id: u16) -> usize
         .unwrap_or(n)
 }
 
+// The number of a kind in the map room.
 fn kind_number(part: Part) -> u16
     ensures { result ≡ kind_number part }
 {
@@ -31,6 +33,7 @@ fn kind_number(part: Part) -> u16
 }
 
 // One more asset behind `n`, if it has an identifier; answers how many there are.
+// Stays: an array and a count, since there is no heap (fixed memory), so no Vec.
 fn list_asset(fresh: &mut [u16; 510], n: usize, asset: Asset) -> usize
     requires { n < 255 }
     ensures { (take (2 * result) fresh.new ≡ take (2 * n) fresh.old ++ numbers_of asset.carrier asset.part) × (n ≤ result) × (result ≤ n + 1) }

@@ -21,6 +21,7 @@ fn slot_for(fresh: &[u32; 255], n: usize, service: u16) -> Result<usize, usize>
 }
 
 // A package in its slot; answers how many there are.
+// Stays: an array and a count, as the record keeps them for C, and so that all of it is copied there; no heap, so no Vec.
 fn add_package(fresh: &mut [u32; 255], n: usize, p: Pair) -> usize
     requires { (n < 255) × ((ps : List (ℕ × ℕ)) × Pairs 255 ps n fresh.old × (rising (firsts ps) ≡ true)) }
     ensures { ((ps : List (ℕ × ℕ)) → Pairs 255 ps n fresh.old → Pairs 255 (insert_package p.first p.second ps) result fresh.new) × (result ≤ n + 1) }
@@ -87,11 +88,8 @@ fn is_known(e: Extent, n: usize, fresh: &[u32; 255], packages: &[u32; 255]) -> b
 fn with_unlisted(n: News, there: bool) -> News
     ensures { result ≡ also n (unlisted_news there) }
 {
-    if !there {
-        return n;
-    }
     News {
-        unlisted: true,
+        unlisted: n.unlisted || there,
         ..n
     }
 }
