@@ -11,7 +11,6 @@ use Rattle.meaning.specs.Sets.{Words, in_set, how_many}
 use Rattle.meaning.specs.Lists.{all, any, is_some}
 use Rattle.meaning.specs.Learn.{Listed, Known, lists, lists_in}
 use Rattle.meaning.specs.Rules.{list_of, kept_by, dropped_by, in_drop_set, drops, dropped, needs_met, ready}
-use Rattle.meaning.specs.Soundness.{rising, firsts}
 use Rattle.meaning.specs.declared.Options.{Options}
 use Rattle.meaning.specs.declared.Service.{Service}
 use Rattle.meaning.specs.declared.Service.TheVariants.{Every, Only}
@@ -20,7 +19,9 @@ use Rattle.meaning.proofs.SetLaws.{many_same}
 use Rattle.learning.specs.Kept.{pairs_in, Keeps}
 use Rattle.learning.proofs.PairLaws.{pairs_in_lem, pairs_length}
 use Rattle.learning.specs.declared.Extent.{Extent}
-use Rattle.rules.specs.Changes.{SetIs, Inserts, Removes, Packages, MapHeads, MapLists, lists_at, has_list}
+use Rattle.rules.specs.Changes.{SetIs, Changed, comes, goes, Inserts, Removes, picked_by, Packages, MapHeads, MapLists, lists_at, has_list}
+use Rattle.rules.proofs.MemberLaws.{changed_same}
+use Rattle.rules.proofs.PackageRules.{dropped_is, kept_is}
 use Rattle.rules.proofs.ReadyRules.{has_list_lem}
 
 -- ---- Bool
@@ -81,9 +82,6 @@ module _ {k : Known} {e : Extent} {data_set packages map_heads map_room : List �
   pub map_lists_there : MapLists e.map_count map_heads map_room
   map_lists_there = record { heads = map_heads_there; small = rw map_heads_are h.maps_kept.hold.small; map_room_all = h.map_room_all }
 
-  pub services_rise : rising (firsts (pairs_in e.package_count packages)) ≡ true
-  services_rise = rw packages_are h.packages_kept.hold.rise
-
   -- ---- the set
 
   module _ (o : Options) where
@@ -93,13 +91,20 @@ module _ {k : Known} {e : Extent} {data_set packages map_heads map_room : List �
     abbrev by_kept : ℕ → Bool
     by_kept q = any (kept_by o (lists_at e.map_count map_heads map_room) q) (pairs_in e.package_count packages)
 
+    module _ {a b : Words} where
+      pub all_dropped : Changed comes (λ q. any (picked_by not o (lists_at e.map_count map_heads map_room) q) (pairs_in e.package_count packages)) a b → Inserts by_dropped a b
+      all_dropped x = changed_same (λ q. any_same _ _ (dropped_is o (lists_at e.map_count map_heads map_room) q) (pairs_in e.package_count packages)) x
+
+      pub all_kept : Changed goes (λ q. any (picked_by (λ stays. stays) o (lists_at e.map_count map_heads map_room) q) (pairs_in e.package_count packages)) a b → Removes by_kept a b
+      all_kept x = changed_same (λ q. any_same _ _ (kept_is o (lists_at e.map_count map_heads map_room) q) (pairs_in e.package_count packages)) x
+
     -- first the data set, then what is dropped, then what is kept taken out, then identifier 0
     pub decided : {a b c d : Words} → SetIs (λ q. not o.carousel && in_set data_set q) a → Inserts by_dropped a b → Removes by_kept b c → Removes (eqb 0) c d
         → SetIs (in_drop_set o k) d
     unfolding in_drop_set
     decided u v w z =
         record {
-          all_words = z.all_words;
+          all_words = z.as_long ∙ w.as_long ∙ v.as_long ∙ u.all_words;
           member = λ q l.
               z.member q l
               ∙ ap (λ (t : Bool). t && not (eqb 0 q)) (w.member q l ∙ ap (λ (t : Bool). t && not (by_kept q)) (v.member q l ∙ ap (λ (t : Bool). t || by_dropped q) (u.member q l)))
@@ -115,7 +120,7 @@ module _ {k : Known} {e : Extent} {data_set packages map_heads map_room : List �
     unfolding drops
     eit_dropped i s t =
         record {
-          all_words = t.all_words;
+          all_words = t.as_long ∙ s.all_words;
           member = λ q l.
               t.member q l ∙ ap (λ (b : Bool). b || eqb 0x8000 q) (s.member q l) ∙ or_swap (in_drop_set o k q) (eqb 0x8000 q)
               ∙ rw (i, eqb_swap 0x8000 q);

@@ -9,44 +9,26 @@ use lib.Dec.{eqb}
 use lib.ListN.{length, get_or, replicate, length-set}
 use borrow.Author.Tests.{eqb-true, eqb-false}
 use Rattle.meaning.specs.Sets.{Words, in_set, with_id, without_id}
-use Rattle.meaning.proofs.ListLaws.{or_true, or_false, and_true, and_false, or_assoc}
+use Rattle.meaning.proofs.ListLaws.{or_true, or_false, and_true, and_false}
 use Rattle.meaning.proofs.SetLaws.{insert_same, insert_other, remove_same, remove_other}
-use Rattle.rules.specs.Changes.{Changed, comes, goes, Inserts, Removes}
-
--- ---- Bool
-
-and_not_or : (a b c : Bool) → ((a && not b) && not c) ≡ (a && not (b || c))
-and_not_or true true c = refl
-and_not_or true false c = refl
-and_not_or false b c = refl
+use Rattle.rules.specs.Changes.{Changed, Way, Inserts, Removes}
 
 -- ---- either way of changing a set
 
--- What does not pass stays; two tests one after the other are one.
-pub record Way (way : Bool → Bool → Bool) : Type 0 where
-  pub stays : (a : Bool) → way a false ≡ a
-  pub both : (a b c : Bool) → way (way a b) c ≡ way a (b || c)
-
-pub inserting : Way comes
-inserting = record { stays = or_false; both = or_assoc }
-
-pub removing : Way goes
-removing = record { stays = and_true; both = and_not_or }
-
 -- tests that agree
 pub changed_same : {way : Bool → Bool → Bool} {f g : ℕ → Bool} {ws ws' : Words} → ((q : ℕ) → f q ≡ g q) → Changed way f ws ws' → Changed way g ws ws'
-changed_same {way} {f} {g} {ws} h x = record { all_words = x.all_words; member = λ q b. x.member q b ∙ ap (way (in_set ws q)) (h q) }
+changed_same {way} {f} {g} {ws} h x = record { as_long = x.as_long; member = λ q b. x.member q b ∙ ap (way (in_set ws q)) (h q) }
 
 module _ {way : Bool → Bool → Bool} (w : Way way) where
   -- nothing
-  pub changed_none : {f : ℕ → Bool} (ws : Words) → length ws ≡ 1024 → ((q : ℕ) → f q ≡ false) → Changed way f ws ws
-  changed_none ws l h = record { all_words = l; member = λ q b. sym (ap (way (in_set ws q)) (h q) ∙ w.stays (in_set ws q)) }
+  pub changed_none : {f : ℕ → Bool} (ws : Words) → ((q : ℕ) → f q ≡ false) → Changed way f ws ws
+  changed_none ws h = record { as_long = refl; member = λ q b. sym (ap (way (in_set ws q)) (h q) ∙ w.stays (in_set ws q)) }
 
   -- one change after another
   pub changed_then : {f g : ℕ → Bool} {a b c : Words} → Changed way f a b → Changed way g b c → Changed way (λ q. f q || g q) a c
   changed_then {f} {g} {a} x y =
       record {
-        all_words = y.all_words;
+        as_long = y.as_long ∙ x.as_long;
         member = λ q l. y.member q l ∙ ap (λ (t : Bool). way t (g q)) (x.member q l) ∙ w.both (in_set a q) (f q) (g q);
       }
 
@@ -58,7 +40,7 @@ module _ (ws : Words) (p : ℕ) (l : length ws ≡ 1024) (s : p < 65536) where
 
   pub inserts_one : Inserts (eqb p) ws (with_id ws p)
   unfolding with_id
-  inserts_one = record { all_words = simp length-set l; member = λ q b. go q (eqb p q) refl }
+  inserts_one = record { as_long = simp length-set refl; member = λ q b. go q (eqb p q) refl }
     where
       go : (q : ℕ) (t : Bool) → eqb p q ≡ t → in_set (with_id ws p) q ≡ (in_set ws q || t)
       go q true e = ap (in_set (with_id ws p)) (sym (eqb-true p q e)) ∙ insert_same ws p within ∙ sym (or_true (in_set ws q))
@@ -66,7 +48,7 @@ module _ (ws : Words) (p : ℕ) (l : length ws ≡ 1024) (s : p < 65536) where
 
   pub removes_one : Removes (eqb p) ws (without_id ws p)
   unfolding without_id
-  removes_one = record { all_words = simp length-set l; member = λ q b. go q (eqb p q) refl }
+  removes_one = record { as_long = simp length-set refl; member = λ q b. go q (eqb p q) refl }
     where
       go : (q : ℕ) (t : Bool) → eqb p q ≡ t → in_set (without_id ws p) q ≡ (in_set ws q && not t)
       go q true e = ap (in_set (without_id ws p)) (sym (eqb-true p q e)) ∙ remove_same ws p within ∙ sym (and_false (in_set ws q))
@@ -74,14 +56,14 @@ module _ (ws : Words) (p : ℕ) (l : length ws ≡ 1024) (s : p < 65536) where
 
   -- in already, or not in
   pub inserts_again : in_set ws p ≡ true → Inserts (eqb p) ws ws
-  inserts_again t = record { all_words = l; member = λ q b. go q (eqb p q) refl }
+  inserts_again t = record { as_long = refl; member = λ q b. go q (eqb p q) refl }
     where
       go : (q : ℕ) (u : Bool) → eqb p q ≡ u → in_set ws q ≡ (in_set ws q || u)
       go q true e = ap (in_set ws) (sym (eqb-true p q e)) ∙ t ∙ sym (or_true (in_set ws q))
       go q false e = sym (or_false (in_set ws q))
 
   pub removes_again : in_set ws p ≡ false → Removes (eqb p) ws ws
-  removes_again f = record { all_words = l; member = λ q b. go q (eqb p q) refl }
+  removes_again f = record { as_long = refl; member = λ q b. go q (eqb p q) refl }
     where
       go : (q : ℕ) (u : Bool) → eqb p q ≡ u → in_set ws q ≡ (in_set ws q && not u)
       go q true e = ap (in_set ws) (sym (eqb-true p q e)) ∙ f ∙ sym (and_false (in_set ws q))

@@ -1,28 +1,30 @@
--- What packages drop and keep: the list of a package's MPT by its place among the heads, and the packages one after the other.
+-- What packages drop and keep: the list of a package's MPT by its place among the heads, and what of a package is picked.
 -- Rests on the definitions of lists and rules, on AssetRules and on MemberLaws.
-use Prim.Native.Nat.{ℕ, zero, suc, ◌+◌, ◌*◌, ◌/◌, ◌%◌, ◌≤◌, ◌<◌}
-use mathlib.Core.Path.{◌≡◌, refl, sym, ap, ◌∙◌, subst}
+use Prim.Native.Nat.{ℕ, zero, suc, ◌+◌, ◌-◌, ◌*◌, ◌/◌, ◌%◌, ◌≤◌, ◌<◌}
+use mathlib.Core.Path.{◌≡◌, refl, sym, ap, ◌∙◌}
 use mathlib.Core.Bool.{Bool, true, false, cond, not, ◌&&◌, ◌||◌}
-use mathlib.Core.List.{List, [], ◌∷◌, ◌++◌}
+use mathlib.Core.List.{List, [], ◌∷◌, map}
 use mathlib.Core.Option.{Option, none, some}
 use native.Mathlib.Omega.{arith}
 use native.Mathlib.Numerals.{add-one}
 use lib.Dec.{eqb}
-use lib.ListN.{length, drop, get_or}
-use lib.Seq.{drop-drop}
-use Rattle.meaning.specs.Sets.{Words, with_id}
+use lib.ListN.{length, take, drop, get_or}
+use lib.Seq.{drop-drop, drop-cons}
+use Rattle.std.proofs.lemmas.List.{drop_all}
+use Rattle.meaning.specs.Sets.{Words}
 use Rattle.meaning.specs.Lists.{any}
 use Rattle.meaning.specs.Wishes.{wanted, ours}
 use Rattle.meaning.specs.Learn.{Listed, assets_in, lists_in, place_for}
-use Rattle.meaning.specs.Rules.{list_of, lists_it, kept_by, dropped_by}
+use Rattle.meaning.specs.Rules.{list_of, assets_of, lists_it, kept_by, dropped_by}
 use Rattle.meaning.specs.Record.{pair_of}
+use Rattle.meaning.proofs.ListLaws.{and_false}
 use Rattle.meaning.specs.declared.Part.{Part}
 use Rattle.meaning.specs.declared.Options.{Options}
 use Rattle.learning.specs.Kept.{pairs_in}
 use Rattle.learning.proofs.PairLaws.{count_small}
-use Rattle.rules.specs.Changes.{Changed, Inserts, Removes, Packages, MapLists, lists_at}
-use Rattle.rules.proofs.MemberLaws.{Way, inserting, removing, changed_same, changed_none, changed_then, inserts_one}
-use Rattle.rules.proofs.AssetRules.{any_more}
+use Rattle.rules.specs.Changes.{Changed, Way, picked_by, MapLists, lists_at}
+use Rattle.rules.proofs.AssetRules.{listed, listed_part}
+use Rattle.rules.proofs.MemberLaws.{changed_same, changed_none, changed_then}
 
 -- ---- the list of an MPT
 
@@ -67,105 +69,82 @@ list_within n i map_heads map_room r h =
     let c : get_or map_heads i 0 % 65536 < 256 = count_small n i map_heads r.small h (omega (arith, r.heads.few, r.heads.slots_all)) in
     omega (arith, r.heads.few, r.map_room_all)
 
+-- ---- what is picked is what is dropped, or what is kept
+
+nothing_named : (q : ℕ) (as' : Listed) → any (λ a. eqb a.0 q && false) as' ≡ false
+unfolding any
+nothing_named q [] = refl
+nothing_named q (a ∷ as') = rw (and_false (eqb a.0 q)) (nothing_named q as')
+
+module _ (o : Options) (ls : List (ℕ × Listed)) (q : ℕ) (pkg : ℕ × ℕ) where
+  pub dropped_is : picked_by not o ls q pkg ≡ dropped_by o ls q pkg
+  unfolding dropped_by
+  dropped_is = go (ours o.service pkg.0)
+    where
+      go : (mine : Bool) → ((not mine && eqb pkg.1 q) || lists_it (λ part. not (mine && wanted o part)) q (list_of pkg.1 ls))
+          ≡ cond mine (lists_it (λ part. not (wanted o part)) q (list_of pkg.1 ls)) (eqb pkg.1 q || lists_it (λ part. true) q (list_of pkg.1 ls))
+      go true = refl
+      go false = refl
+
+  pub kept_is : picked_by (λ stays. stays) o ls q pkg ≡ kept_by o ls q pkg
+  unfolding kept_by
+  kept_is = go (ours o.service pkg.0)
+    where
+      go : (mine : Bool) → ((mine && eqb pkg.1 q) || lists_it (λ part. mine && wanted o part) q (list_of pkg.1 ls))
+          ≡ (mine && (eqb pkg.1 q || lists_it (wanted o) q (list_of pkg.1 ls)))
+      go true = refl
+      go false = nothing_named q (assets_of (list_of pkg.1 ls))
+
 -- ---- one package
 
-module _ (o : Options) (n p : ℕ) (map_heads map_room : List ℕ) (r : MapLists n map_heads map_room) where
+module _ (picks : Bool → Bool) (o : Options) (n p : ℕ) (map_heads map_room : List ℕ) (r : MapLists n map_heads map_room) where
   abbrev pub test : Bool → Part → Bool
-  test mine part = not (mine && wanted o part)
+  test mine part = picks (mine && wanted o part)
+
+  abbrev picked : ℕ → Bool
+  picked q = picked_by picks o (lists_at n map_heads map_room) q (pair_of p)
 
   abbrev list : Option Listed
   list = list_of (p % 65536) (lists_at n map_heads map_room)
 
-  abbrev place : ℕ
-  place = place_for (p % 65536) (pairs_in n map_heads)
+  picked_is : (mine : Bool) → mine ≡ ours o.service (p / 65536) → (q : ℕ) → ((picks mine && eqb (p % 65536) q) || lists_it (test mine) q list) ≡ picked q
+  unfolding pair_of
+  picked_is mine e q = rw e
 
-  dropped_is : (mine : Bool) → ours o.service (p / 65536) ≡ mine → (q : ℕ)
-      → ((not mine && eqb (p % 65536) q) || lists_it (test mine) q list) ≡ dropped_by o (lists_at n map_heads map_room) q (pair_of p)
-  unfolding dropped_by pair_of
-  dropped_is true e q = rw e
-  dropped_is false e q = rw e
+  module _ {way : Bool → Bool → Bool} (w : Way way) where
+    -- its MPT's identifier
+    pub own_picked : {mine : Bool} {a b : Words} → picks mine ≡ true → Changed way (eqb (p % 65536)) a b → Changed way (λ q. picks mine && eqb (p % 65536) q) a b
+    own_picked e x = changed_same (λ q. rw e) x
 
-  kept_is : ours o.service (p / 65536) ≡ true → (q : ℕ) → (eqb (p % 65536) q || lists_it (wanted o) q list) ≡ kept_by o (lists_at n map_heads map_room) q (pair_of p)
-  unfolding kept_by pair_of
-  kept_is e q = rw e
+    pub own_left : {mine : Bool} (a : Words) → picks mine ≡ false → Changed way (λ q. picks mine && eqb (p % 65536) q) a a
+    own_left a e = changed_none w a (λ q. rw e)
 
-  module _ (i : ℕ) (e : i ≡ place) where
-    found : (t : Part → Bool) (q : ℕ) → i < n → lists_it t q (some (assets_in (get_or map_heads i 0 % 65536) (drop (512 * i) map_room))) ≡ lists_it t q list
-    found t q h =
-        rw e (ap (lists_it t q) (sym (list_found (p % 65536) n map_heads map_room (omega (arith, r.heads.few, r.heads.slots_all)) (omega arith))))
+    -- then its list, if there is one
+    module _ {mine : Bool} (m : mine ≡ ours o.service (p / 65536)) (i : ℕ) (e : i ≡ place_for (p % 65536) (pairs_in n map_heads)) {a b : Words} (x : Changed way (λ q. picks mine && eqb (p % 65536) q) a b) where
+      pub list_there : i < n → {c : Words}
+          → Changed way (λ q. lists_it (test mine) q (some (listed (take (512 * i + 2 * (get_or map_heads i 0 % 65536) - 512 * i) (drop (512 * i) map_room))))) b c → Changed way picked a c
+      list_there h y =
+          let m_list : listed (take (512 * i + 2 * (get_or map_heads i 0 % 65536) - 512 * i) (drop (512 * i) map_room)) ≡ assets_in (get_or map_heads i 0 % 65536) (drop (512 * i) map_room) =
+          listed_part (512 * i) (get_or map_heads i 0 % 65536) map_room (list_within n i map_heads map_room r h) in
+          let found : (q : ℕ) → lists_it (test mine) q (some (assets_in (get_or map_heads i 0 % 65536) (drop (512 * i) map_room))) ≡ lists_it (test mine) q list =
+          λ q. rw e (ap (lists_it (test mine) q) (sym (list_found (p % 65536) n map_heads map_room (omega (arith, r.heads.few, r.heads.slots_all)) (omega arith)))) in
+          changed_same (picked_is mine m) (changed_then w x (changed_same (λ q. ap (λ (as' : Listed). lists_it (test mine) q (some as')) m_list ∙ found q) y))
 
-    missing : (t : Part → Bool) (q : ℕ) → n ≤ i → lists_it t q list ≡ false
-    unfolding any
-    missing t q h = ap (lists_it t q) (list_none (p % 65536) n map_heads map_room (omega arith))
+      pub list_missing : n ≤ i → Changed way picked a b
+      unfolding any
+      list_missing h =
+          let none_there : (q : ℕ) → lists_it (test mine) q list ≡ false = λ q. ap (lists_it (test mine) q) (list_none (p % 65536) n map_heads map_room (omega arith)) in
+          changed_same (picked_is mine m) (changed_then w x (changed_none w b none_there))
 
-    -- after another change, what the list names comes in or goes out, if there is one
-    module _ {way : Bool → Bool → Bool} (w : Way way) (t : Part → Bool) {g : ℕ → Bool} {a b : Words} (x : Changed way g a b) where
-      list_then : i < n → {c : Words} → Changed way (λ q. lists_it t q (some (assets_in (get_or map_heads i 0 % 65536) (drop (512 * i) map_room)))) b c → Changed way (λ q. g q || lists_it t q list) a c
-      list_then h y = changed_then w x (changed_same (λ q. found t q h) y)
+    -- not ours, where nothing that goes is picked
+    pub package_left : (ws : Words) → ours o.service (p / 65536) ≡ false → picks false ≡ false → Changed way picked ws ws
+    unfolding pair_of
+    package_left ws e f = changed_none w ws (λ q. rw (e, f) (nothing_named q (assets_of list)))
 
-      list_missing : n ≤ i → Changed way (λ q. g q || lists_it t q list) a b
-      list_missing h = changed_then w x (changed_none w b x.all_words (λ q. missing t q h))
+-- ---- the packages, one after the other
 
-    module _ {a b : Words} where
-      pub drop_found : (mine : Bool) → ours o.service (p / 65536) ≡ mine → i < n → Inserts (λ q. not mine && eqb (p % 65536) q) a b
-          → {c : Words} → Inserts (λ q. lists_it (test mine) q (some (assets_in (get_or map_heads i 0 % 65536) (drop (512 * i) map_room)))) b c
-          → Inserts (λ q. dropped_by o (lists_at n map_heads map_room) q (pair_of p)) a c
-      drop_found mine m h x y = changed_same (dropped_is mine m) (list_then inserting (test mine) x h y)
+pub pairs_next : (i : ℕ) (xs : List ℕ) → i < length xs → map pair_of (drop i xs) ≡ pair_of (get_or xs i 0) ∷ map pair_of (drop (i + 1) xs)
+pairs_next i xs h = ap (map pair_of) (drop-cons xs i 0 h) ∙ ap (λ (j : ℕ). pair_of (get_or xs i 0) ∷ map pair_of (drop j xs)) (sym (add-one i))
 
-      pub drop_missing : (mine : Bool) → ours o.service (p / 65536) ≡ mine → n ≤ i → Inserts (λ q. not mine && eqb (p % 65536) q) a b
-          → Inserts (λ q. dropped_by o (lists_at n map_heads map_room) q (pair_of p)) a b
-      drop_missing mine m h x = changed_same (dropped_is mine m) (list_missing inserting (test mine) x h)
-
-      pub keep_found : ours o.service (p / 65536) ≡ true → i < n → Removes (eqb (p % 65536)) a b
-          → {c : Words} → Removes (λ q. lists_it (wanted o) q (some (assets_in (get_or map_heads i 0 % 65536) (drop (512 * i) map_room)))) b c
-          → Removes (λ q. kept_by o (lists_at n map_heads map_room) q (pair_of p)) a c
-      keep_found m h x y = changed_same (kept_is m) (list_then removing (wanted o) x h y)
-
-      pub keep_missing : ours o.service (p / 65536) ≡ true → n ≤ i → Removes (eqb (p % 65536)) a b → Removes (λ q. kept_by o (lists_at n map_heads map_room) q (pair_of p)) a b
-      keep_missing m h x = changed_same (kept_is m) (list_missing removing (wanted o) x h)
-
-  -- not ours: nothing of it is kept
-  pub keep_other : (ws : Words) → length ws ≡ 1024 → ours o.service (p / 65536) ≡ false → Removes (λ q. kept_by o (lists_at n map_heads map_room) q (pair_of p)) ws ws
-  unfolding kept_by pair_of
-  keep_other ws l e = changed_none removing ws l (λ q. rw e)
-
--- the MPT's identifier, dropped where the service is not ours
-pub own_dropped : (mine : Bool) (ws : Words) (id : ℕ) → length ws ≡ 1024 → id < 65536 → mine ≡ false → Inserts (λ q. not mine && eqb id q) ws (with_id ws id)
-own_dropped mine ws id l s e = changed_same (λ q. rw e) (inserts_one ws id l s)
-
-pub own_left : (mine : Bool) (ws : Words) (id : ℕ) → length ws ≡ 1024 → mine ≡ true → Inserts (λ q. not mine && eqb id q) ws ws
-own_left mine ws id l e = changed_none inserting ws l (λ q. rw e)
-
--- ---- one package after the other
-
-pub pairs_more : (i : ℕ) (xs : List ℕ) → i < length xs → pairs_in (suc i) xs ≡ pairs_in i xs ++ (pair_of (get_or xs i 0) ∷ [])
-pairs_more i [] h = absurd (omega arith)
-pairs_more zero (x ∷ xs) h = refl
-pairs_more (suc i) (x ∷ xs) h = ap (λ (l : List (ℕ × ℕ)). pair_of x ∷ l) (pairs_more i xs (omega arith))
-
-module _ (f : ℕ → ℕ × ℕ → Bool) (xs : List ℕ) where
-  abbrev pub by_first : ℕ → ℕ → Bool
-  by_first i q = any (f q) (pairs_in i xs)
-
-  by_none : (q : ℕ) → by_first 0 q ≡ false
-  unfolding any
-  by_none q = refl
-
-  by_more : (i : ℕ) → i < length xs → (q : ℕ) → (by_first i q || f q (pair_of (get_or xs i 0))) ≡ by_first (i + 1) q
-  by_more i h q = sym (rw (add-one i) (ap (any (f q)) (pairs_more i xs h) ∙ any_more (f q) (pairs_in i xs) (pair_of (get_or xs i 0))))
-
--- What the first i of n packages do, whichever way they change the set.
-pub record ByPackages (way : Bool → Bool → Bool) (f : ℕ → ℕ × ℕ → Bool) (n : ℕ) (xs : List ℕ) (ws now_set : Words) (i : ℕ) : Type 0 where
-  pub within : i ≤ n
-  pub are : Changed way (by_first f xs i) ws now_set
-
-pub packages_begin : {way : Bool → Bool → Bool} → Way way → (f : ℕ → ℕ × ℕ → Bool) (n : ℕ) (xs : List ℕ) (ws : Words) → length ws ≡ 1024 → ByPackages way f n xs ws ws 0
-packages_begin w f n xs ws l = record { within = omega arith; are = changed_none w ws l (by_none f xs) }
-
-module _ {way : Bool → Bool → Bool} {f : ℕ → ℕ × ℕ → Bool} {n : ℕ} {xs : List ℕ} {ws now_set : Words} {i : ℕ} (k : ByPackages way f n xs ws now_set i) where
-  pub packages_next : Way way → i < n → Packages n xs → {next : Words} → Changed way (λ q. f q (pair_of (get_or xs i 0))) now_set next → ByPackages way f n xs ws next (i + 1)
-  packages_next w h s y =
-      record { within = omega arith; are = changed_same (by_more f xs i (omega (arith, s.few, s.slots_all))) (changed_then w k.are y) }
-
-  pub packages_end : n ≤ i → Changed way (by_first f xs n) ws now_set
-  packages_end h = let e : i ≡ n = omega (arith, k.within) in subst (λ (m : ℕ). Changed way (by_first f xs m) ws now_set) e k.are
+pub pairs_end : (i : ℕ) (xs : List ℕ) → length xs ≤ i → map pair_of (drop i xs) ≡ []
+pairs_end i xs h = ap (map pair_of) (drop_all i xs h)

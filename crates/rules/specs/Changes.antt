@@ -1,8 +1,12 @@
 -- What each step of the rules does to a set, identifier by identifier, and what it asks of the arrays that hold packages and lists.
-use Rattle.std.specs.Prelude.{ℕ, ◌≤◌, ◌<◌, ◌≡◌, Bool, not, ◌&&◌, ◌||◌, List, length, ltb}
+use Rattle.std.specs.Prelude.{ℕ, ◌≤◌, ◌<◌, ◌≡◌, refl, Bool, true, false, not, ◌&&◌, ◌||◌, List, length, eqb, ltb}
 use Rattle.meaning.specs.Sets.{Words, in_set}
 use Rattle.meaning.specs.Learn.{Listed, lists_in, place_for}
+use Rattle.meaning.specs.Wishes.{wanted, ours}
+use Rattle.meaning.specs.Rules.{list_of, lists_it}
 use Rattle.meaning.specs.Soundness.{SecondsBelow}
+use Rattle.meaning.specs.declared.Options.{Options}
+use Rattle.meaning.proofs.ListLaws.{or_false, or_assoc, and_true}
 use Rattle.learning.specs.Kept.{pairs_in}
 
 -- ---- sets of 65,536 identifiers
@@ -12,9 +16,9 @@ pub record SetIs (f : ℕ → Bool) (ws : Words) : Type 0 where
   pub all_words : length ws ≡ 1024
   pub member : (q : ℕ) → q < 65536 → in_set ws q ≡ f q
 
--- From one set to another: what a test says of each identifier decides, in one way or another, whether it is in afterwards.
+-- From one set to another, as long: what a test says of each identifier decides, in one way or another, whether it is in afterwards.
 pub record Changed (way : Bool → Bool → Bool) (f : ℕ → Bool) (ws ws' : Words) : Type 0 where
-  pub all_words : length ws' ≡ 1024
+  pub as_long : length ws' ≡ length ws
   pub member : (q : ℕ) → q < 65536 → in_set ws' q ≡ way (in_set ws q) (f q)
 
 -- Those that pass come in, or go out; the others stay as they were.
@@ -29,6 +33,29 @@ Inserts f ws ws' = Changed comes f ws ws'
 
 abbrev pub Removes : (ℕ → Bool) → Words → Words → Type 0
 Removes f ws ws' = Changed goes f ws ws'
+
+-- What does not pass stays; two tests one after the other are one.
+pub record Way (way : Bool → Bool → Bool) : Type 0 where
+  pub stays : (a : Bool) → way a false ≡ a
+  pub both : (a b c : Bool) → way (way a b) c ≡ way a (b || c)
+
+and_not_or : (a b c : Bool) → ((a && not b) && not c) ≡ (a && not (b || c))
+and_not_or true true c = refl
+and_not_or true false c = refl
+and_not_or false b c = refl
+
+pub inserting : Way comes
+inserting = record { stays = or_false; both = or_assoc }
+
+pub removing : Way goes
+removing = record { stays = and_true; both = and_not_or }
+
+-- ---- what a package names
+
+-- Of its MPT's identifier and its assets those that are picked, by whether they stay.
+abbrev pub picked_by : (Bool → Bool) → Options → List (ℕ × Listed) → ℕ → ℕ × ℕ → Bool
+picked_by picks o ls q pkg =
+    (picks (ours o.service pkg.0) && eqb pkg.1 q) || lists_it (λ part. picks (ours o.service pkg.0 && wanted o part)) q (list_of pkg.1 ls)
 
 -- ---- the arrays
 

@@ -1,23 +1,24 @@
 // Keep, drop, ready: what follows from what is known and from what is wished.
 #![tactic(auto)]
 
-ghost use Rattle.std.specs.Prelude.{◌≡◌, ℕ, ◌+◌, ◌*◌, ◌≤◌, true, not, ◌&&◌, List, length, drop, eqb};
+ghost use Rattle.std.specs.Prelude.{◌≡◌, ℕ, ◌/◌, ◌≤◌, Bool, not, ◌&&◌, List, map, length, eqb};
 ghost use Rattle.std.proofs.Math.Option.{some};
 ghost use Rattle.meaning.specs.Sets.{Words, in_set};
 ghost use Rattle.meaning.specs.Lists.{all, any};
 ghost use Rattle.meaning.specs.Tables.{kind_of};
 ghost use Rattle.meaning.specs.Wishes.{wanted, ours};
 ghost use Rattle.meaning.specs.Learn.{Known, assets_in};
-ghost use Rattle.meaning.specs.Rules.{lists_it, kept_by, dropped_by, drops, dropped, ready};
+ghost use Rattle.meaning.specs.Rules.{lists_it, drops, dropped, ready};
 ghost use Rattle.meaning.specs.Record.{pair_of};
-ghost use Rattle.meaning.specs.Soundness.{rising, firsts};
 ghost use Rattle.learning.specs.Kept.{Keeps, pairs_in};
-ghost use Rattle.rules.specs.Changes.{SetIs, Inserts, Removes, Packages, MapHeads, MapLists, lists_at, has_list};
+ghost use Rattle.rules.specs.Changes.{SetIs, Changed, comes, goes, Way, inserting, removing, picked_by, Packages, MapHeads, MapLists, lists_at, has_list};
 
-use learning::Extent;
 use learning::lists::place_for;
-use meaning::{Options, Service};
-use octets::{count, has, insert, remove};
+use learning::{Extent, Kept};
+use meaning::{Options, Part, Service};
+use octets::IdSet;
+
+// ---- wishes
 
 // Whether a service is ours: each is where none is named.
 fn is_ours(s: Service, service: u32) -> bool
@@ -25,296 +26,252 @@ fn is_ours(s: Service, service: u32) -> bool
 {
     match s {
         Service::Every => true,
-        Service::Only(n) => (n as u32) == service,
+        Service::Only(n) => u32::from(n) == service,
     }
 }
 
-// Whether an asset whose kind has this number is wanted.
-fn wants(o: Options, kind: u16) -> bool
-    ensures { result ≡ wanted o (kind_of kind) }
+// The kind that a number in the map room stands for.
+#[tactic(auto, unfolding(meaning::specs::Tables::kind_of), using(crate::proofs::AssetRules::kind_other))]
+fn kind_of(number: u16) -> Part
+    ensures { result ≡ kind_of number }
 {
-    match kind {
-        0 => o.caption,
-        1 => o.carousel,
-        _ => o.other,
+    match number {
+        0 => Part::Caption,
+        1 => Part::Carousel,
+        _ => Part::Other,
     }
 }
 
-// Whether an asset of a service, ours or not, stays.
-fn is_kept(o: Options, ours: bool, kind: u16) -> bool
-    ensures { result ≡ (ours && wanted o (kind_of kind)) }
+fn wanted(o: Options, part: Part) -> bool
+    ensures { result ≡ wanted o part }
 {
-    if !ours {
-        return false;
-    }
-    wants(o, kind)
-}
-
-// Puts `id` into the set, if it is not in. Lists name the same identifiers again and again, and to look is quicker than to write.
-fn put_in(set: &mut [u64; 1024], id: u16)
-    requires { length set.old ≡ 1024 }
-    ensures { Inserts (eqb id) set.old set.new }
-{
-    if !has(set, id) {
-        insert(set, id);
+    match part {
+        Part::Caption => o.caption,
+        Part::Carousel => o.carousel,
+        Part::Other => o.other,
     }
 }
 
-// Takes `id` out of the set, if it is in.
-fn take_out(set: &mut [u64; 1024], id: u16)
-    requires { length set.old ≡ 1024 }
-    ensures { Removes (eqb id) set.old set.new }
+// Whether an asset of a package, ours or not, stays, by the number of its kind.
+fn stays(o: Options, ours: bool, number: u16) -> bool
+    ensures { result ≡ (ours && wanted o (kind_of number)) }
 {
-    if has(set, id) {
-        remove(set, id);
-    }
+    ours && wanted(o, kind_of(number))
 }
 
-// Puts the assets of a list of `n` at `base` into the set: those not wanted, or all where the service is not ours.
-fn drop_assets(
-    o: Options,
-    ours: bool,
-    map_room: &[u16],
-    base: usize,
-    n: usize,
-    set: &mut [u64; 1024],
-)
-    requires { (base + 2 * n ≤ length map_room.now) × (length set.old ≡ 1024) }
-    ensures { Inserts (λ q. lists_it (λ part. not (ours && wanted o part)) q (some (assets_in n (drop base map_room.now)))) set.old set.new }
+// ---- what packages put into the set, and take out of it
+
+// A rule on what packages name: what of it is picked, by whether it stays, and what that does to the set.
+trait Rule {
+    ghost picks: { Bool → Bool };
+
+    ghost way: { Bool → Bool → Bool };
+
+    fn picks(stays: bool) -> bool
+        ensures { result ≡ picks stays };
+
+    fn change(set: &mut IdSet, id: u16)
+        ensures { Changed way (eqb id) set.old.words set.new.words };
+
+    ghost laws: { Way way };
+}
+
+// What does not stay comes into the set.
+struct Dropping;
+
+// What stays goes out of the set.
+struct Keeping;
+
+// Whether `id` is in the set, and that the set has all its words: an array in a struct tells its length only where it is read.
+fn is_in(set: &IdSet, id: u16) -> bool
+    ensures { (result ≡ in_set set.now.words id) × (length set.now.words ≡ 1024) }
 {
-    let mut i: usize = 0;
-    while i < n {
-        let id = map_room[base + 2 * i];
-        let kept = is_kept(o, ours, map_room[base + 2 * i + 1]);
-        i += 1;
-        if !kept {
-            put_in(set, id);
+    let _words = &set.words;
+    set.has(id)
+}
+
+// Lists name the same identifiers again and again, and to look is quicker than to write.
+impl Rule for Dropping {
+    ghost picks = { not };
+
+    ghost way = { comes };
+
+    ghost laws = { inserting };
+
+    fn picks(stays: bool) -> bool {
+        !stays
+    }
+
+    fn change(set: &mut IdSet, id: u16) {
+        if !is_in(set, id) {
+            set.insert(id);
         }
     }
 }
 
-// Takes the wanted assets of a list out of the set.
-fn keep_assets(o: Options, map_room: &[u16], base: usize, n: usize, set: &mut [u64; 1024])
-    requires { (base + 2 * n ≤ length map_room.now) × (length set.old ≡ 1024) }
-    ensures { Removes (λ q. lists_it (wanted o) q (some (assets_in n (drop base map_room.now)))) set.old set.new }
-{
-    let mut i: usize = 0;
-    while i < n {
-        let id = map_room[base + 2 * i];
-        let kept = wants(o, map_room[base + 2 * i + 1]);
-        i += 1;
-        if kept {
-            take_out(set, id);
+impl Rule for Keeping {
+    ghost picks = { λ stays. stays };
+
+    ghost way = { goes };
+
+    ghost laws = { removing };
+
+    fn picks(stays: bool) -> bool {
+        stays
+    }
+
+    fn change(set: &mut IdSet, id: u16) {
+        if is_in(set, id) {
+            set.remove(id);
         }
     }
 }
 
-// Puts what a package names into the set where it is not kept.
-fn drop_package(
-    o: Options,
-    p: u32,
-    map_heads: &[u32; 64],
-    map_count: usize,
-    map_room: &[u16],
-    set: &mut [u64; 1024],
-)
-    requires { MapLists map_count map_heads.now map_room.now × (length set.old ≡ 1024) }
-    ensures { Inserts (λ q. dropped_by o (lists_at map_count map_heads.now map_room.now) q (pair_of p)) set.old set.new }
+// The assets of a list, identifier and kind of each, of a package that is ours or not.
+fn by_assets<R: Rule>(o: Options, ours: bool, list: &[u16], set: &mut IdSet)
+    ensures { Changed R.way (λ q. lists_it (λ part. R.picks (ours && wanted o part)) q (some (assets_in (length list.now / 2) list.now))) set.old.words set.new.words }
 {
-    let id = (p % 65536) as u16;
-    let s = o.service;
-    let ours = is_ours(s, p / 65536);
-    if !ours {
-        insert(set, id);
-    }
-    let i = place_for(map_heads, map_count, id);
-    if i < map_count {
-        drop_assets(
-            o,
-            ours,
-            map_room,
-            512 * i,
-            (map_heads[i] % 65536) as usize,
-            set,
-        );
+    let mut assets = list;
+    while let [id, kind, rest @ ..] = assets {
+        if R::picks(stays(o, ours, *kind)) {
+            R::change(set, *id);
+        }
+        assets = rest;
     }
 }
 
-// Takes what a package of ours keeps out of the set.
-fn keep_package(
+// What a package names. Where it is not ours nothing of it stays, and a rule that picks what stays leaves it alone.
+fn by_package<R: Rule>(
     o: Options,
     p: u32,
-    map_heads: &[u32; 64],
     map_count: usize,
+    kept: &Kept,
     map_room: &[u16],
-    set: &mut [u64; 1024],
+    set: &mut IdSet,
 )
-    requires { MapLists map_count map_heads.now map_room.now × (length set.old ≡ 1024) }
-    ensures { Removes (λ q. kept_by o (lists_at map_count map_heads.now map_room.now) q (pair_of p)) set.old set.new }
+    requires { MapLists map_count kept.now.map_heads map_room.now }
+    ensures { Changed R.way (λ q. picked_by R.picks o (lists_at map_count kept.now.map_heads map_room.now) q (pair_of p)) set.old.words set.new.words }
 {
-    let s = o.service;
-    if !is_ours(s, p / 65536) {
+    let ours = is_ours(o.service, p / 65536);
+    if !ours && !R::picks(false) {
         return;
     }
     let id = (p % 65536) as u16;
-    remove(set, id);
-    let i = place_for(map_heads, map_count, id);
+    if R::picks(ours) {
+        R::change(set, id);
+    }
+    let i = place_for(&kept.map_heads, map_count, id);
     if i < map_count {
-        keep_assets(o, map_room, 512 * i, (map_heads[i] % 65536) as usize, set);
+        let base = 512 * i;
+        let n = (kept.map_heads[i] % 65536) as usize;
+        by_assets::<R>(o, ours, &map_room[base..base + 2 * n], set);
     }
 }
 
-fn drop_packages(
-    o: Options,
-    e: Extent,
-    packages: &[u32; 255],
-    map_heads: &[u32; 64],
-    map_room: &[u16],
-    set: &mut [u64; 1024],
-)
-    requires { Packages e.package_count packages.now × MapLists e.map_count map_heads.now map_room.now × (length set.old ≡ 1024) }
-    ensures { Inserts (λ q. any (dropped_by o (lists_at e.map_count map_heads.now map_room.now) q) (pairs_in e.package_count packages.now)) set.old set.new }
+fn by_packages<R: Rule>(o: Options, e: Extent, kept: &Kept, map_room: &[u16], set: &mut IdSet)
+    requires { Packages e.package_count kept.now.packages × MapLists e.map_count kept.now.map_heads map_room.now }
+    ensures { Changed R.way (λ q. any (picked_by R.picks o (lists_at e.map_count kept.now.map_heads map_room.now) q) (pairs_in e.package_count kept.now.packages)) set.old.words set.new.words }
 {
-    for i in 0..e.package_count {
-        drop_package(o, packages[i], map_heads, e.map_count, map_room, set);
+    for p in &kept.packages[..e.package_count] {
+        by_package::<R>(o, *p, e.map_count, kept, map_room, set);
     }
 }
 
-fn keep_packages(
-    o: Options,
-    e: Extent,
-    packages: &[u32; 255],
-    map_heads: &[u32; 64],
-    map_room: &[u16],
-    set: &mut [u64; 1024],
-)
-    requires { Packages e.package_count packages.now × MapLists e.map_count map_heads.now map_room.now × (length set.old ≡ 1024) }
-    ensures { Removes (λ q. any (kept_by o (lists_at e.map_count map_heads.now map_room.now) q) (pairs_in e.package_count packages.now)) set.old set.new }
-{
-    for i in 0..e.package_count {
-        keep_package(o, packages[i], map_heads, e.map_count, map_room, set);
-    }
-}
+// ---- the set
 
 // The set that the rules begin with: with carousels off the data set is dropped.
-pub fn first_drops(o: Options, data_set: &[u64; 1024]) -> [u64; 1024]
-    requires { length data_set.now ≡ 1024 }
-    ensures { SetIs (λ q. not o.carousel && in_set data_set.now q) result }
+pub fn first_drops(o: Options, data_set: &IdSet) -> IdSet
+    ensures { SetIs (λ q. not o.carousel && in_set data_set.now.words q) result.words }
 {
     if o.carousel {
-        return [0u64; 1024];
+        return IdSet::empty();
     }
-    *data_set
+    IdSet {
+        words: data_set.words,
+    }
 }
 
-// The same, written over `set` where it stands: an array that is handed back would be filled first and then copied.
-fn begin_drops(o: Options, data_set: &[u64; 1024], set: &mut [u64; 1024])
-    requires { length data_set.now ≡ 1024 }
-    ensures { SetIs (λ q. not o.carousel && in_set data_set.now q) set.new }
+// The same, written over `set` where it stands: a set that is handed back would be filled first and then copied.
+fn begin_drops(o: Options, data_set: &IdSet, set: &mut IdSet)
+    ensures { SetIs (λ q. not o.carousel && in_set data_set.now.words q) set.new.words }
 {
     if !o.carousel {
-        *set = *data_set;
+        set.words = data_set.words;
         return;
     }
-    *set = [0u64; 1024];
+    set.words = [0; 1024];
 }
 
 // From there on: all that is dropped, then what is kept taken out, then identifier 0; EIT off drops 0x8000.
-pub fn decide_on(
-    o: Options,
-    e: Extent,
-    packages: &[u32; 255],
-    map_heads: &[u32; 64],
-    map_room: &[u16],
-    set: &mut [u64; 1024],
-)
-    requires { ((k : Known) × (ds : Words) × Keeps k e ds packages.now map_heads.now map_room.now) × (length set.old ≡ 1024) }
-    ensures { (k : Known) (ds : Words) → Keeps k e ds packages.now map_heads.now map_room.now → SetIs (λ q. not o.carousel && in_set ds q) set.old → SetIs (drops o k) set.new }
+pub fn decide_on(o: Options, e: Extent, kept: &Kept, map_room: &[u16], set: &mut IdSet)
+    requires { (k : Known) × (ds : Words) × Keeps k e ds kept.now.packages kept.now.map_heads map_room.now }
+    ensures { (k : Known) (ds : Words) → Keeps k e ds kept.now.packages kept.now.map_heads map_room.now → SetIs (λ q. not o.carousel && in_set ds q) set.old.words → SetIs (drops o k) set.new.words }
 {
-    drop_packages(o, e, packages, map_heads, map_room, set);
-    keep_packages(o, e, packages, map_heads, map_room, set);
-    remove(set, 0);
+    by_packages::<Dropping>(o, e, kept, map_room, set);
+    by_packages::<Keeping>(o, e, kept, map_room, set);
+    set.remove(0);
     if !o.eit {
-        insert(set, 0x8000);
+        set.insert(0x8000);
     }
 }
 
 // The identifiers that the rules drop.
-pub fn decide(
-    o: Options,
-    e: Extent,
-    data_set: &[u64; 1024],
-    packages: &[u32; 255],
-    map_heads: &[u32; 64],
-    map_room: &[u16],
-    set: &mut [u64; 1024],
-)
-    requires { (k : Known) × Keeps k e data_set.now packages.now map_heads.now map_room.now }
-    ensures { (k : Known) → Keeps k e data_set.now packages.now map_heads.now map_room.now → SetIs (drops o k) set.new }
+pub fn decide(o: Options, e: Extent, kept: &Kept, map_room: &[u16], set: &mut IdSet)
+    requires { (k : Known) × Keeps k e kept.now.data_set.words kept.now.packages kept.now.map_heads map_room.now }
+    ensures { (k : Known) → Keeps k e kept.now.data_set.words kept.now.packages kept.now.map_heads map_room.now → SetIs (drops o k) set.new.words }
 {
-    begin_drops(o, data_set, set);
-    decide_on(o, e, packages, map_heads, map_room, set);
-}
-
-// Whether each package's MPT has its list.
-fn all_listed(e: Extent, packages: &[u32; 255], map_heads: &[u32; 64]) -> bool
-    requires { Packages e.package_count packages.now × MapHeads e.map_count map_heads.now }
-    ensures { result ≡ all (has_list e.map_count map_heads.now) (pairs_in e.package_count packages.now) }
-{
-    let mut i: usize = 0;
-    while i < e.package_count {
-        let id = (packages[i] % 65536) as u16;
-        if place_for(map_heads, e.map_count, id) == e.map_count {
-            return false;
-        }
-        i += 1;
-    }
-    true
-}
-
-// Whether the service is in the PLT and its MPT has its list.
-fn service_listed(service: u16, e: Extent, packages: &[u32; 255], map_heads: &[u32; 64]) -> bool
-    requires { Packages e.package_count packages.now × MapHeads e.map_count map_heads.now × (rising (firsts (pairs_in e.package_count packages.now)) ≡ true) }
-    ensures { result ≡ any (λ pkg. eqb pkg.0 service && has_list e.map_count map_heads.now pkg) (pairs_in e.package_count packages.now) }
-{
-    let mut i: usize = 0;
-    while i < e.package_count {
-        let p = packages[i];
-        if p / 65536 == (service as u32) {
-            return place_for(map_heads, e.map_count, (p % 65536) as u16) < e.map_count;
-        }
-        i += 1;
-    }
-    false
-}
-
-// Whether everything that the latest PLT asks for is known.
-pub fn ready(s: Service, e: Extent, packages: &[u32; 255], map_heads: &[u32; 64]) -> bool
-    requires { (k : Known) × (c map_room : List ℕ) × Keeps k e c packages.now map_heads.now map_room }
-    ensures { (k : Known) (c map_room : List ℕ) → Keeps k e c packages.now map_heads.now map_room → result ≡ ready s k }
-{
-    if !e.seen {
-        return false;
-    }
-    match s {
-        Service::Every => all_listed(e, packages, map_heads),
-        Service::Only(n) => service_listed(n, e, packages, map_heads),
-    }
+    begin_drops(o, &kept.data_set, set);
+    decide_on(o, e, kept, map_room, set);
 }
 
 // How many identifiers a drop set has: 0x8000 is in it once with EIT off, identifier 0 never.
-pub fn dropped(
-    o: Options,
-    e: Extent,
-    data_set: &[u64; 1024],
-    packages: &[u32; 255],
-    map_heads: &[u32; 64],
-    map_room: &[u16],
-) -> u32
-    requires { (k : Known) × Keeps k e data_set.now packages.now map_heads.now map_room.now }
-    ensures { (k : Known) → Keeps k e data_set.now packages.now map_heads.now map_room.now → result ≡ dropped o k }
+pub fn dropped(o: Options, e: Extent, kept: &Kept, map_room: &[u16]) -> u32
+    requires { (k : Known) × Keeps k e kept.now.data_set.words kept.now.packages kept.now.map_heads map_room.now }
+    ensures { (k : Known) → Keeps k e kept.now.data_set.words kept.now.packages kept.now.map_heads map_room.now → result ≡ dropped o k }
 {
-    let mut set = [0u64; 1024];
-    decide(o, e, data_set, packages, map_heads, map_room, &mut set);
-    count(&set)
+    let mut set = IdSet::empty();
+    decide(o, e, kept, map_room, &mut set);
+    set.count()
+}
+
+// ---- ready
+
+// Whether a package's MPT has its list.
+#[tactic(auto, unfolding(meaning::specs::Record::pair_of))]
+fn is_listed(e: Extent, kept: &Kept, p: u32) -> bool
+    requires { MapHeads e.map_count kept.now.map_heads }
+    ensures { result ≡ has_list e.map_count kept.now.map_heads (pair_of p) }
+{
+    place_for(&kept.map_heads, e.map_count, (p % 65536) as u16) < e.map_count
+}
+
+// Whether each package's MPT has its list.
+fn all_listed(e: Extent, kept: &Kept) -> bool
+    requires { Packages e.package_count kept.now.packages × MapHeads e.map_count kept.now.map_heads }
+    ensures { result ≡ all (has_list e.map_count kept.now.map_heads) (pairs_in e.package_count kept.now.packages) }
+{
+    kept.packages[..e.package_count]
+        .iter()
+        .all(|p| is_listed(e, kept, *p))
+}
+
+// Whether the service is in the PLT and its MPT has its list.
+fn service_listed(service: u16, e: Extent, kept: &Kept) -> bool
+    requires { Packages e.package_count kept.now.packages × MapHeads e.map_count kept.now.map_heads }
+    ensures { result ≡ any (λ pkg. eqb pkg.0 service && has_list e.map_count kept.now.map_heads pkg) (pairs_in e.package_count kept.now.packages) }
+{
+    kept.packages[..e.package_count].iter().any(|p| *p / 65536 == u32::from(service)
+        && is_listed(e, kept, *p))
+}
+
+// Whether everything that the latest PLT asks for is known.
+pub fn ready(s: Service, e: Extent, kept: &Kept) -> bool
+    requires { (k : Known) × (c map_room : List ℕ) × Keeps k e c kept.now.packages kept.now.map_heads map_room }
+    ensures { (k : Known) (c map_room : List ℕ) → Keeps k e c kept.now.packages kept.now.map_heads map_room → result ≡ ready s k }
+{
+    e.seen
+        && match s {
+            Service::Every => all_listed(e, kept),
+            Service::Only(n) => service_listed(n, e, kept),
+        }
 }

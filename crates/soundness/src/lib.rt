@@ -1,57 +1,45 @@
 // Whether the parts of a record are sound: what the code asks of a record handed back before it reads anything by it. Over the record's
-// numbers and lent arrays, apart from the struct. Rests on specs/Parts, and on sets of `octets`.
+// numbers and arrays, apart from the struct. Rests on specs/Parts, and on sets of `octets`.
 #![tactic(auto)]
 
-ghost use Rattle.std.specs.Prelude.{◌≡◌, ℕ, ◌≤◌, ◌<◌, map, length, take, get_or, eqb, leb};
+ghost use Rattle.std.specs.Prelude.{◌≡◌, ℕ, ◌≤◌, ◌<◌, map, length, take, eqb, leb};
 ghost use Rattle.meaning.specs.Sets.{in_set, with_id};
 ghost use Rattle.meaning.specs.Lists.{all, any, sum};
 ghost use Rattle.meaning.specs.Wishes.{wants_assets, copies_all};
 ghost use Rattle.meaning.specs.Rooms.{packet_limit, good_work_room, good_fragment_room, good_map_room};
 ghost use Rattle.meaning.specs.Record.{pair_of, fragment_identifier, fragment_length};
 ghost use Rattle.meaning.specs.Soundness.{rising, distinct, sound_rooms, sound_held, sound_packages, sound_maps, sound_fragments};
-ghost use Rattle.soundness.specs.Parts.{rest, limits_of, parts_sound};
+ghost use Rattle.soundness.specs.Parts.{upper, limits_of, parts_sound};
 
-use learning::Extent;
+use learning::{Extent, Kept};
 use meaning::{Limits, Options, Service};
-use octets::{has, insert};
+use octets::IdSet;
 
 // ---- limits
 
 // The packet limit of a work room: half of it, and at most 65,539.
+#[tactic(auto, unfolding(meaning::specs::Rooms::packet_limit))]
 pub fn packet_limit(work: usize) -> usize
     ensures { result ≡ packet_limit work }
 {
-    let half = work / 2;
-    if half < 65539 {
-        return half;
-    }
-    65539
+    (work / 2).min(65539)
 }
 
+#[tactic(auto, unfolding(meaning::specs::Rooms::good_work_room))]
 pub fn good_work_room(work: usize) -> bool
     ensures { result ≡ good_work_room work }
 {
-    if work < 4096 {
-        return false;
-    }
-    work <= 131078
+    4096 <= work && work <= 131078
 }
 
+#[tactic(auto, unfolding(meaning::specs::Rooms::good_fragment_room))]
 pub fn good_fragment_room(total: usize, most: usize) -> bool
     ensures { result ≡ good_fragment_room total most }
 {
-    if total < 1 {
-        return false;
-    }
-    if 16777216 < total {
-        return false;
-    }
-    if most < 1 {
-        return false;
-    }
-    most <= total
+    1 <= total && total <= 16777216 && 1 <= most && most <= total
 }
 
+#[tactic(auto, unfolding(meaning::specs::Rooms::good_map_room))]
 pub fn good_map_room(map_length: usize) -> bool
     ensures { result ≡ good_map_room map_length }
 {
@@ -59,310 +47,175 @@ pub fn good_map_room(map_length: usize) -> bool
 }
 
 // Whether the limits are the lengths of the lent rooms (work room `w`, fragment room `t`, map room `m`), and in range.
-fn sound_rooms(work: usize, total: usize, most: usize, w: usize, t: usize, m: usize) -> bool
-    ensures { result ≡ sound_rooms (limits_of work total most) w t m }
+#[tactic(auto, unfolding(meaning::specs::Soundness::sound_rooms))]
+fn sound_rooms(l: Limits, w: usize, t: usize, m: usize) -> bool
+    ensures { result ≡ sound_rooms l w t m }
 {
-    if work != w {
-        return false;
-    }
-    if total != t {
-        return false;
-    }
-    if !good_map_room(m) {
-        return false;
-    }
-    if !good_work_room(w) {
-        return false;
-    }
-    good_fragment_room(t, most)
+    l.work == w
+        && l.total == t
+        && good_map_room(m)
+        && good_work_room(w)
+        && good_fragment_room(t, l.most)
 }
 
 // ---- held bytes
 
 // Whether captions or other assets are wanted.
+#[tactic(auto, unfolding(meaning::specs::Wishes::wants_assets))]
 pub fn wants_assets(o: Options) -> bool
     ensures { result ≡ wants_assets o }
 {
-    if o.caption {
-        return true;
-    }
-    o.other
+    o.caption || o.other
 }
 
 // Copy-all: no service, all four wishes on.
+#[tactic(auto, unfolding(meaning::specs::Wishes::copies_all))]
 pub fn copies_all(o: Options) -> bool
     ensures { result ≡ copies_all o }
 {
-    let s = o.service;
-    match s {
-        Service::Every => {
-            if !o.caption {
-                return false;
-            }
-            if !o.carousel {
-                return false;
-            }
-            if !o.eit {
-                return false;
-            }
-            o.other
-        }
-        Service::Only(_) => false,
-    }
+    matches!(o.service, Service::Every) && o.caption && o.carousel && o.eit && o.other
 }
 
 // Fewer are held than the packet limit, none in copy-all.
-fn sound_held(work: usize, o: Options, held_count: usize) -> bool
-    ensures { (total most : ℕ) → result ≡ sound_held (limits_of work total most) o held_count }
+#[tactic(auto, unfolding(meaning::specs::Soundness::sound_held))]
+fn sound_held(l: Limits, o: Options, held_count: usize) -> bool
+    ensures { result ≡ sound_held l o held_count }
 {
-    if packet_limit(work) <= held_count {
-        return false;
-    }
-    if !copies_all(o) {
-        return true;
-    }
-    held_count == 0
+    held_count < packet_limit(l.work) && (!copies_all(o) || held_count == 0)
 }
 
 // ---- packages
 
-// Whether the services of the first `n` rise.
-fn services_rise(packages: &[u32; 255], n: usize) -> bool
-    requires { (n ≤ 255) × (length packages.now ≡ 255) }
-    ensures { result ≡ rising (map (λ x. (pair_of x).0) (take n packages.now)) }
+// Whether their services rise.
+fn services_rise(packages: &[u32]) -> bool
+    ensures { result ≡ rising (map upper packages.now) }
 {
-    let mut i: usize = 1;
-    while i < n {
-        if packages[i] / 65536 <= packages[i - 1] / 65536 {
-            return false;
-        }
-        i += 1;
-    }
-    true
+    packages.is_sorted_by(|p, q| *p / 65536 < *q / 65536)
 }
 
+#[tactic(auto, unfolding(meaning::specs::Soundness::sound_packages))]
 fn sound_packages(packages: &[u32; 255], n: usize) -> bool
-    requires { length packages.now ≡ 255 }
     ensures { result ≡ sound_packages n packages.now }
 {
-    if 255 < n {
-        return false;
-    }
-    services_rise(packages, n)
+    n <= 255 && services_rise(&packages[..n])
 }
 
 // ---- identifiers, none twice
 
-// Whether `id` is in the set already; it is in it afterwards.
-fn seen_before(set: &mut [u64; 1024], id: u16) -> bool
-    ensures { (result ≡ in_set set.old id) × (set.new ≡ with_id set.old id) }
+// A number that holds an identifier: the head of a map or of a fragment.
+trait Head: Copy {
+    ghost id_in: { Self → ℕ };
+
+    fn identifier(self) -> u16
+        ensures { (result ≡ id_in self) × (result < 65536) };
+}
+
+// A map's head.
+impl Head for u32 {
+    ghost id_in = { upper };
+
+    #[tactic(auto, unfolding(meaning::specs::Record::pair_of))]
+    fn identifier(self) -> u16 {
+        (self / 65536) as u16
+    }
+}
+
+// A fragment's head.
+impl Head for u64 {
+    ghost id_in = { fragment_identifier };
+
+    #[tactic(auto, unfolding(meaning::specs::Record::fragment_identifier))]
+    fn identifier(self) -> u16 {
+        (self / 281474976710656) as u16
+    }
+}
+
+// Whether one of the heads has the identifier.
+fn among<H: Head>(heads: &[H], id: u16) -> bool
+    ensures { result ≡ any (eqb id) (map H.id_in heads.now) }
 {
-    let before = has(set, id);
-    insert(set, id);
+    heads.iter().any(|head| id == head.identifier())
+}
+
+// By pairs, which for a few is quicker than to clear a set.
+fn few_distinct<H: Head>(heads: &[H]) -> bool
+    ensures { result ≡ distinct (map H.id_in heads.now) }
+{
+    let mut rest = heads;
+    while let Some((head, behind)) = rest.split_first() {
+        if among(behind, head.identifier()) {
+            return false;
+        }
+        rest = behind;
+    }
+    true
+}
+
+// Whether `id` is in the set already; it is in it afterwards.
+fn seen_before(set: &mut IdSet, id: u16) -> bool
+    ensures { (result ≡ in_set set.old.words id) × (set.new.words ≡ with_id set.old.words id) }
+{
+    let before = set.has(id);
+    set.insert(id);
     before
+}
+
+// By a set of those passed.
+fn many_distinct<H: Head>(heads: &[H]) -> bool
+    ensures { result ≡ distinct (map H.id_in heads.now) }
+{
+    let mut set = IdSet::empty();
+    for head in heads {
+        if seen_before(&mut set, head.identifier()) {
+            return false;
+        }
+    }
+    true
+}
+
+fn all_distinct<H: Head>(heads: &[H]) -> bool
+    ensures { result ≡ distinct (map H.id_in heads.now) }
+{
+    if heads.len() <= 16 {
+        return few_distinct(heads);
+    }
+    many_distinct(heads)
 }
 
 // ---- maps
 
-// Whether each of the first `n` counts at most 255 assets.
-fn counts_few(map_heads: &[u32; 64], n: usize) -> bool
-    requires { (n ≤ 64) × (length map_heads.now ≡ 64) }
-    ensures { result ≡ all (λ x. leb (pair_of x).1 255) (take n map_heads.now) }
+// Whether each counts at most 255 assets.
+fn counts_few(map_heads: &[u32]) -> bool
+    ensures { result ≡ all (λ x. leb (pair_of x).1 255) map_heads.now }
 {
-    let mut i: usize = 0;
-    while i < n {
-        if 255 < map_heads[i] % 65536 {
-            return false;
-        }
-        i += 1;
-    }
-    true
+    map_heads.iter().all(|head| *head % 65536 <= 255)
 }
 
-// The identifier in a map's number.
-fn map_identifier(head: u32) -> u16
-    ensures { (result ≡ (pair_of head).0) × (result < 65536) }
-{
-    (head / 65536) as u16
-}
-
-fn map_identifier_at(map_heads: &[u32; 64], i: usize) -> u16
-    requires { (i < 64) × (length map_heads.now ≡ 64) }
-    ensures { (result ≡ (pair_of (get_or map_heads.now i 0)).0) × (result < 65536) }
-{
-    map_identifier(map_heads[i])
-}
-
-// Whether one of those from `i` on, up to `n`, has the identifier.
-fn map_among(map_heads: &[u32; 64], i: usize, n: usize, id: u16) -> bool
-    requires { (i ≤ n) × (n ≤ 64) × (length map_heads.now ≡ 64) }
-    ensures { result ≡ any (eqb id) (map (λ x. (pair_of x).0) (rest n i map_heads.now)) }
-{
-    let mut k = i;
-    while k < n {
-        if map_identifier_at(map_heads, k) == id {
-            return true;
-        }
-        k += 1;
-    }
-    false
-}
-
-// By pairs, which for a few is quicker than to clear a set.
-fn few_maps_distinct(map_heads: &[u32; 64], n: usize) -> bool
-    requires { (n ≤ 64) × (length map_heads.now ≡ 64) }
-    ensures { result ≡ distinct (map (λ x. (pair_of x).0) (take n map_heads.now)) }
-{
-    let mut i: usize = 0;
-    while i < n {
-        let id = map_identifier_at(map_heads, i);
-        i += 1;
-        if map_among(map_heads, i, n, id) {
-            return false;
-        }
-    }
-    true
-}
-
-// By a set of those passed.
-fn many_maps_distinct(map_heads: &[u32; 64], n: usize) -> bool
-    requires { (n ≤ 64) × (length map_heads.now ≡ 64) }
-    ensures { result ≡ distinct (map (λ x. (pair_of x).0) (take n map_heads.now)) }
-{
-    let mut set = [0u64; 1024];
-    let mut i: usize = 0;
-    while i < n {
-        let id = map_identifier_at(map_heads, i);
-        if seen_before(&mut set, id) {
-            return false;
-        }
-        i += 1;
-    }
-    true
-}
-
-fn maps_distinct(map_heads: &[u32; 64], n: usize) -> bool
-    requires { (n ≤ 64) × (length map_heads.now ≡ 64) }
-    ensures { result ≡ distinct (map (λ x. (pair_of x).0) (take n map_heads.now)) }
-{
-    if n <= 16 {
-        return few_maps_distinct(map_heads, n);
-    }
-    many_maps_distinct(map_heads, n)
-}
-
+#[tactic(auto, unfolding(meaning::specs::Soundness::sound_maps))]
 fn sound_maps(map_heads: &[u32; 64], n: usize) -> bool
-    requires { length map_heads.now ≡ 64 }
     ensures { result ≡ sound_maps n map_heads.now }
 {
-    if 64 < n {
-        return false;
-    }
-    if !counts_few(map_heads, n) {
-        return false;
-    }
-    maps_distinct(map_heads, n)
+    n <= 64 && counts_few(&map_heads[..n]) && all_distinct(&map_heads[..n])
 }
 
 // ---- fragments
 
-// The identifier in a fragment's head.
-fn fragment_identifier(head: u64) -> u16
-    ensures { (result ≡ fragment_identifier head) × (result < 65536) }
+// The bytes of the fragments.
+fn lengths(fragment_heads: &[u64]) -> usize
+    requires { length fragment_heads.now ≤ 256 }
+    ensures { result ≡ sum (map fragment_length fragment_heads.now) }
 {
-    (head / 281474976710656) as u16
+    fragment_heads
+        .iter()
+        .map(|head| (*head % 1099511627776) as usize)
+        .sum()
 }
 
-fn fragment_identifier_at(fragment_heads: &[u64; 256], i: usize) -> u16
-    requires { (i < 256) × (length fragment_heads.now ≡ 256) }
-    ensures { (result ≡ fragment_identifier (get_or fragment_heads.now i 0)) × (result < 65536) }
-{
-    fragment_identifier(fragment_heads[i])
-}
-
-// Whether one of those from `i` on, up to `n`, has the identifier.
-fn fragment_among(fragment_heads: &[u64; 256], i: usize, n: usize, id: u16) -> bool
-    requires { (i ≤ n) × (n ≤ 256) × (length fragment_heads.now ≡ 256) }
-    ensures { result ≡ any (eqb id) (map fragment_identifier (rest n i fragment_heads.now)) }
-{
-    let mut k = i;
-    while k < n {
-        if fragment_identifier_at(fragment_heads, k) == id {
-            return true;
-        }
-        k += 1;
-    }
-    false
-}
-
-// By pairs, which for a few is quicker than to clear a set.
-fn few_fragments_distinct(fragment_heads: &[u64; 256], n: usize) -> bool
-    requires { (n ≤ 256) × (length fragment_heads.now ≡ 256) }
-    ensures { result ≡ distinct (map fragment_identifier (take n fragment_heads.now)) }
-{
-    let mut i: usize = 0;
-    while i < n {
-        let id = fragment_identifier_at(fragment_heads, i);
-        i += 1;
-        if fragment_among(fragment_heads, i, n, id) {
-            return false;
-        }
-    }
-    true
-}
-
-// By a set of those passed.
-fn many_fragments_distinct(fragment_heads: &[u64; 256], n: usize) -> bool
-    requires { (n ≤ 256) × (length fragment_heads.now ≡ 256) }
-    ensures { result ≡ distinct (map fragment_identifier (take n fragment_heads.now)) }
-{
-    let mut set = [0u64; 1024];
-    let mut i: usize = 0;
-    while i < n {
-        let id = fragment_identifier_at(fragment_heads, i);
-        if seen_before(&mut set, id) {
-            return false;
-        }
-        i += 1;
-    }
-    true
-}
-
-fn fragments_distinct(fragment_heads: &[u64; 256], n: usize) -> bool
-    requires { (n ≤ 256) × (length fragment_heads.now ≡ 256) }
-    ensures { result ≡ distinct (map fragment_identifier (take n fragment_heads.now)) }
-{
-    if n <= 16 {
-        return few_fragments_distinct(fragment_heads, n);
-    }
-    many_fragments_distinct(fragment_heads, n)
-}
-
-// The bytes of the first `n`.
-fn lengths(fragment_heads: &[u64; 256], n: usize) -> usize
-    requires { (n ≤ 256) × (length fragment_heads.now ≡ 256) }
-    ensures { result ≡ sum (map fragment_length (take n fragment_heads.now)) }
-{
-    let mut sum: usize = 0;
-    let mut i: usize = 0;
-    while i < n {
-        sum += (fragment_heads[i] % 1099511627776) as usize;
-        i += 1;
-    }
-    sum
-}
-
+#[tactic(auto, unfolding(meaning::specs::Soundness::sound_fragments))]
 fn sound_fragments(fragment_heads: &[u64; 256], n: usize, total: usize) -> bool
-    requires { length fragment_heads.now ≡ 256 }
     ensures { result ≡ sound_fragments total n fragment_heads.now }
 {
-    if 256 < n {
-        return false;
-    }
-    if !fragments_distinct(fragment_heads, n) {
-        return false;
-    }
-    lengths(fragment_heads, n) <= total
+    n <= 256 && all_distinct(&fragment_heads[..n]) && lengths(&fragment_heads[..n]) <= total
 }
 
 // ---- the record
@@ -373,30 +226,17 @@ pub fn parts_sound(
     o: Options,
     held_count: usize,
     e: Extent,
-    packages: &[u32; 255],
-    map_heads: &[u32; 64],
-    fragment_heads: &[u64; 256],
+    kept: &Kept,
     w: usize,
     t: usize,
     m: usize,
 ) -> bool
-    requires { (length packages.now ≡ 255) × (length map_heads.now ≡ 64) × (length fragment_heads.now ≡ 256) }
-    ensures { result ≡ parts_sound (limits_of l.work l.total l.most) o held_count e packages.now map_heads.now fragment_heads.now w t m }
+    ensures { result ≡ parts_sound l o held_count e kept.now.packages kept.now.map_heads kept.now.fragment_heads w t m }
 {
-    if !sound_rooms(l.work, l.total, l.most, w, t, m) {
-        return false;
-    }
-    if !wants_assets(o) {
-        return false;
-    }
-    if !sound_held(l.work, o, held_count) {
-        return false;
-    }
-    if !sound_packages(packages, e.package_count) {
-        return false;
-    }
-    if !sound_maps(map_heads, e.map_count) {
-        return false;
-    }
-    sound_fragments(fragment_heads, e.fragment_count, t)
+    sound_rooms(l, w, t, m)
+        && wants_assets(o)
+        && sound_held(l, o, held_count)
+        && sound_packages(&kept.packages, e.package_count)
+        && sound_maps(&kept.map_heads, e.map_count)
+        && sound_fragments(&kept.fragment_heads, e.fragment_count, t)
 }

@@ -1,24 +1,17 @@
--- The day tally: when a sum fits a count, that all fit, the refusal and the tally after it in both cases, and that a call has one result.
+-- The day tally: that all sums fit a count, the refusal and the tally after it in both cases, and that a call has one result.
 -- Rests on Tally and AnswerLaws of `meaning`.
-use Prim.Native.Nat.{ℕ, ◌+◌, ◌-◌, ◌^◌, ◌<◌, ◌≤◌}
+use Prim.Native.Nat.{◌^◌, ◌<◌}
 use mathlib.Core.Path.{◌≡◌, refl, sym, ◌∙◌}
 use mathlib.Core.Bool.{Bool, true, false}
-use native.Mathlib.Omega.{arith}
-use lib.Dec.{leb, ltb}
-use borrow.Author.Tests.{leb-true, leb-false, ltb-true, lt-ltb, le-ltb}
+use borrow.Author.Tests.{ltb-true, lt-ltb}
+use Rattle.std.specs.Prelude.{Option, Some, None}
+use Rattle.std.specs.Option.{MatchOption, unwrap_or}
 use Rattle.meaning.specs.declared.Counts.{Counts}
 use Rattle.meaning.specs.declared.Answer.{Answer}
 use Rattle.meaning.specs.Refusals.{answer_number}
 use Rattle.meaning.specs.Tally.{add_counts, fits64, tally_refusal, tallied}
 use Rattle.meaning.proofs.ListLaws.{and_both}
 use Rattle.meaning.proofs.AnswerLaws.{answer_told}
-
--- The room above a count says whether a sum fits.
-pub room_above : (a b : ℕ) → a < 2 ^ 64 → leb b (18446744073709551615 - a) ≡ ltb (a + b) (2 ^ 64)
-room_above a b h = go (leb b (18446744073709551615 - a)) refl where
-  go : (t : Bool) → leb b (18446744073709551615 - a) ≡ t → t ≡ ltb (a + b) (2 ^ 64)
-  go true e = let l : b ≤ 18446744073709551615 - a = leb-true _ _ e in sym (lt-ltb (a + b) (2 ^ 64) (omega arith))
-  go false e = let l : 18446744073709551615 - a < b = leb-false _ _ e in sym (le-ltb (a + b) (2 ^ 64) (omega arith))
 
 -- Counts that all fit.
 pub record AllFit (s : Counts) : Type 0 where
@@ -46,6 +39,17 @@ all_fit s e =
       lost = ltb-true _ _ to_lost.1;
     }
 
+pub fitting : (s : Counts) → AllFit s → fits64 s ≡ true
+unfolding fits64
+fitting s f =
+    rw (lt-ltb _ _ f.bytes, lt-ltb _ _ f.accepted, lt-ltb _ _ f.written, lt-ltb _ _ f.rewritten, lt-ltb _ _ f.skipped, lt-ltb _ _ f.lost)
+
+pub not_fitting : (s : Counts) → (AllFit s → ⊥) → fits64 s ≡ false
+not_fitting s h = go (fits64 s) refl where
+  go : (t : Bool) → fits64 s ≡ t → t ≡ false
+  go true e = absurd (h (all_fit s e))
+  go false e = refl
+
 module _ (t c : Counts) where
   pub done_number : fits64 (add_counts t c) ≡ true → tally_refusal t c ≡ 0
   unfolding tally_refusal
@@ -62,6 +66,11 @@ module _ (t c : Counts) where
   pub unchanged : fits64 (add_counts t c) ≡ false → tallied t c ≡ t
   unfolding tallied
   unchanged e = rw (refused_number e)
+
+  -- what `unwrap_or` hands on of the sum
+  pub sum_or : (sum : Option Counts) → MatchOption sum (fits64 (add_counts t c) ≡ false) (λ s. (fits64 (add_counts t c) ≡ true) × (s ≡ add_counts t c)) → unwrap_or sum t ≡ tallied t c
+  sum_or None e = sym (unchanged e)
+  sum_or (Some s) e = e.1 ∙ sym (gained e.0)
 
   -- What a call of the tally promises of the tally after it and of the answer.
   abbrev pub Tallies : Counts → Answer → Type 0

@@ -1,8 +1,8 @@
 use Rattle.rules.proofs.MemberLaws.{empty}
 use borrow.Author.Tests.{not-true, not-false}
-use native.Mathlib.Omega.{arith}
 use mathlib.Core.Bool.{true, false}
 use mathlib.Core.Path.{◌≡◌, refl}
+use native.Mathlib.Omega.{arith}
 use Rattle.rules.proofs.begin_drops.Goals as goal
 
 pub returns-then-not-o : goal.returns-then-not-o

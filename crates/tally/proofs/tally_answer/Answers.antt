@@ -1,12 +1,12 @@
-use mathlib.Core.Path.{sym, ◌∙◌}
+use mathlib.Core.Path.{sym}
 use Rattle.meaning.specs.Refusals.{number_of, answer_number}
 use Rattle.tally.proofs.TallyLaws.{done_number, refused_number}
 use Rattle.tally.proofs.tally_answer.Goals as goal
 
-pub returns-then-fits : goal.returns-then-fits
+pub returns-in-Some : goal.returns-in-Some
 unfolding answer_number
-returns-then-fits c = sym (done_number _ _ (sym c.fits.ensures ∙ c.if-fits.true))
+returns-in-Some c = sym (done_number _ _ (c.in-Some.ensures).0)
 
-pub returns : goal.returns
+pub returns-in-None : goal.returns-in-None
 unfolding answer_number number_of
-returns c = sym (refused_number _ _ (sym c.fits.ensures ∙ c.if-fits.false))
+returns-in-None c = sym (refused_number _ _ (c.in-None.ensures))
