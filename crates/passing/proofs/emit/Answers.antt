@@ -1,4 +1,4 @@
-use mathlib.Core.Path.{refl, sym, ◌∙◌}
+use mathlib.Core.Path.{sym, ◌∙◌}
 use Rattle.passing.proofs.SignalLaws.{narrows_as}
 use Rattle.passing.proofs.emit.Goals as goal
 

@@ -1,7 +1,5 @@
 use Rattle.passing.proofs.StepLaws.{going_along, signal_room, going_signal}
 use Rattle.passing.proofs.RunLaws.{going_begin, going_some, going_done}
-use native.Mathlib.Omega.{arith}
-use mathlib.Core.Path.{◌∙◌}
 use Rattle.passing.proofs.packets.Goals as goal
 
 pub loop-next-init : goal.loop-next-init

@@ -1,6 +1,5 @@
-use Rattle.passing.proofs.StepLaws.{packet_length, gap_forth, along_begin, along_row, along_gap, along_withheld}
+use Rattle.passing.proofs.StepLaws.{along_begin, along_row, along_gap, along_withheld}
 use Rattle.passing.specs.declared.Progress.{Progress}
-use native.Mathlib.Omega.{arith}
 use mathlib.Core.Path.{refl, ap, ◌∙◌}
 use Rattle.passing.proofs.plain_packets.Goals as goal
 

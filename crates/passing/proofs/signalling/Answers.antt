@@ -1,6 +1,6 @@
 use lib.ListN.{length}
 use Rattle.meaning.specs.Push.{pass}
-use Rattle.passing.proofs.SignalLaws.{part_is, holding_anew, observer_fits, emitter_fits, signalled, fits_after}
+use Rattle.passing.proofs.SignalLaws.{part_is, holding_anew, emitter_fits, signalled, fits_after}
 use Rattle.passing.proofs.SparingLaws.{spares}
 use native.Mathlib.Omega.{arith}
 use Rattle.learning.proofs.PairLaws.{pairs_in_lem}
