@@ -1,36 +1,34 @@
--- An MPT whose list is held: gone through asset by asset beside the map room (Holding), at the count that its place has, and nothing
+-- An MPT whose list is held: gone through asset by asset beside the list (Holding), at the count that its place has, and nothing
 -- changes by it. Rests on MapLaws and on PairLaws.
-use Prim.Native.Nat.{ℕ, zero, suc, ◌+◌, ◌-◌, ◌*◌, ◌%◌, ◌≤◌, ◌<◌}
+use Prim.Native.Nat.{ℕ, zero, suc, ◌+◌, ◌-◌, ◌*◌, ◌/◌, ◌%◌, ◌≤◌, ◌<◌}
 use mathlib.Core.Path.{◌≡◌, refl, sym, ap, ap₂, ◌∙◌}
 use mathlib.Core.Bool.{Bool, true, false, cond, ◌&&◌}
 use mathlib.Core.List.{List, [], ◌∷◌, ◌++◌}
 use mathlib.Core.Option.{Option, none, some, some-injective}
-use native.Mathlib.Numerals.{add-one, add-two}
 use native.Mathlib.Omega.{arith}
-use lib.ListN.{length, take, drop, get_or, take-append-drop}
-use lib.Seq.{drop-cons, drop-drop}
+use lib.ListN.{length, take, drop, get_or, length-drop, take-append-drop}
+use lib.Seq.{drop-cons, drop-drop, take-take}
 use lib.Dec.{eqb, eqb-suc-suc}
-use borrow.Author.Tests.{eqb-true, ne_eqb, lt-ltb}
+use borrow.Author.Tests.{eqb-true, eq-eqb, ne_eqb, lt-ltb}
+use Rattle.std.specs.Prelude as code
+use Rattle.std.proofs.lemmas.List.{take_all}
+use Rattle.std.specs.Prelude.{Some, None}
 use Rattle.meaning.specs.Bytes.{Bytes}
 use Rattle.meaning.specs.Readers.{Out, bind, give, many}
 use Rattle.meaning.specs.Tables.{Entry, Mpt, entry, mpt_front, mpt, kind_number}
 use Rattle.meaning.specs.Learn.{Listed, asset_numbers, over, place_for, listed}
 use Rattle.meaning.specs.Record.{pair_of}
-use Rattle.meaning.specs.declared.Part.{Part}
 use Rattle.meaning.proofs.ListLaws.{clash, and_both, and_true, and_false}
 use Rattle.meaning.proofs.SoundnessKept.{put_head, put_is}
 use Rattle.meaning.proofs.SpareLaws.{numbers_length}
 use Rattle.meaning.proofs.Reading.{many_none, many_next}
-use Rattle.tables.specs.Answers.{Ends, AssetIs, carrier_of}
+use Rattle.tables.specs.Answers.{Ends, AssetIs, in_code}
 use Rattle.tables.specs.declared.assets.Asset.{Asset}
-use Rattle.tables.specs.declared.fields.End.{End}
-use Rattle.tables.specs.declared.locations.Carrier.{Carrier}
 use Rattle.learning.specs.Kept.{pairs_in, KeptMaps}
 use Rattle.learning.specs.News.{same_numbers, count_at, same_list, list_new}
 use Rattle.learning.specs.Learnt.{with_news, mpt_held, with_kinds, HeldIs, MptLearnt}
 use Rattle.learning.specs.declared.Extent.{Extent}
 use Rattle.learning.specs.declared.News.{News}
-use Rattle.learning.specs.declared.lists.Held.{Held}
 use Rattle.learning.proofs.PairLaws.{same_true}
 use Rattle.learning.proofs.MapLaws.{mpt_many, held_is}
 
@@ -116,18 +114,19 @@ module _ (x : Entry) where
         rw (q, e, eqb-suc-suc n l) (and_moved (eqb n l) (eqb a p) (eqb c (kind_number x.part)) (same_numbers (take (2 * l) ns) (asset_numbers (listed es))))
 
 -- the identifier of an entry as the code has it
-carrier_none : (q : Option ℕ) → Carrier.Nowhere ≡ carrier_of q → q ≡ none
+carrier_none : (q : Option ℕ) → None ≡ in_code q → q ≡ none
 carrier_none none e = refl
 carrier_none (some p) e = clash (cc)
 
-carrier_some : (q : Option ℕ) (p : ℕ) → Carrier.By p ≡ carrier_of q → q ≡ some p
+carrier_some : (q : Option ℕ) (p : ℕ) → Some p ≡ in_code q → q ≡ some p
 carrier_some none p e = clash (cc)
 carrier_some (some q) p e = cc
 
--- Whether an MPT gives the list that is held is whether its `left` entries from `from` on give what is left of that: `rest` assets at `at`.
-pub record Holding (held : Bool) (b : Bytes) (map_room : List ℕ) (from left at rest : ℕ) : Type 0 where
-  pub same : held ≡ entries_held (many left entry (drop from b)) rest (drop at map_room)
-  pub within : at + 2 * rest ≤ length map_room
+-- Whether an MPT gives the list that is held is whether its `left` entries from `from` on give what is left of that: these numbers, two for
+-- each asset.
+pub record Holding (held : Bool) (b : Bytes) (from left : ℕ) (rest : List ℕ) : Type 0 where
+  pub same : held ≡ entries_held (many left entry (drop from b)) (length rest / 2) rest
+  pub two_each : length rest % 2 ≡ 0
 
 -- what is read of a body gives what its entries give
 body_held : (o : Out (List Entry)) (front : Bytes) (n : ℕ) (ns : List ℕ)
@@ -136,62 +135,102 @@ body_held none front n ns = refl
 body_held (some x) front n ns = refl
 
 -- the count of entries is at h
-pub hold_start : (b : Bytes) (h : ℕ) → Ends (mpt_front b) b (End.At h) → h < length b → (left : ℕ) → left ≡ get_or b h 0 → left < 256
-    → (map_room : List ℕ) (base n : ℕ) → base + 2 * n ≤ length map_room → Holding (mpt_held (mpt b) (some n) (drop base map_room)) b map_room (h + 1) left base n
-hold_start b h f k left is low map_room base n l =
-    record { same = rw (mpt_many b h f k left is low) (body_held (many left entry (drop (h + 1) b)) (take h b) n (drop base map_room)); within = l }
+pub hold_start : (b : Bytes) (h : ℕ) → Ends (mpt_front b) b (Some h) → h < length b → (left : ℕ) → left ≡ get_or b h 0 → left < 256
+    → (list : List ℕ) → length list % 2 ≡ 0 → Holding (mpt_held (mpt b) (some (length list / 2)) list) b (h + 1) left list
+hold_start b h f k left is low list two =
+    record { same = rw (mpt_many b h f k left is low) (body_held (many left entry (drop (h + 1) b)) (take h b) (length list / 2) list); two_each = two }
 
-module _ (held : Bool) (b : Bytes) (map_room : List ℕ) (from left at rest : ℕ) (i : Holding held b map_room from left at rest) where
+module _ (held : Bool) (b : Bytes) (from left : ℕ) (rest : List ℕ) (i : Holding held b from left rest) where
+  abbrev assets : ℕ
+  assets = length rest / 2
+
   -- an entry that cannot be read
   pub hold_cut : 0 < left → entry (drop from b) ≡ none → held ≡ false
   hold_cut h q = i.same ∙ rw (many_none entry (drop from b) left h q)
 
-  pub hold_end : left ≡ 0 → held ≡ eqb rest 0
+  pub hold_end : left ≡ 0 → held ≡ eqb assets 0
   unfolding many same_numbers listed asset_numbers
-  hold_end z = i.same ∙ rw z (and_true (eqb rest 0))
+  hold_end z = i.same ∙ rw z (and_true (eqb assets 0))
 
-  module _ (h : 0 < left) (e : ℕ) (part : Part) where
-    abbrev found : Option ℕ → Entry
-    found q = record { part = part; carrier = q; bytes_of = take (e - from) (drop from b) }
+  -- all are given, or one is left
+  pub hold_all : left ≡ 0 → length rest ≡ 0 → held ≡ true
+  hold_all z none_left = hold_end z ∙ eq-eqb assets 0 (omega arith)
+
+  pub hold_less : left ≡ 0 → 0 < length rest → held ≡ false
+  hold_less z some_left = hold_end z ∙ ne_eqb assets 0 (λ (q : assets ≡ 0). absurd (omega (arith, i.two_each)))
+
+  module _ (r : Asset) (a : AssetIs b from (Some r)) (h : 0 < left) where
+    abbrev found : Entry
+    found = record { part = r.part; carrier = a.2.0; bytes_of = take (r.end - from) (drop from b) }
 
     abbrev further : Out (List Entry)
-    further = many (left - 1) entry (drop e b)
+    further = many (left - 1) entry (drop r.end b)
 
-    next : (q : Option ℕ) → entry (drop from b) ≡ some (found q, drop e b) → held ≡ entries_held (one (found q) further) rest (drop at map_room)
-    next q r = i.same ∙ rw (many_next entry (drop from b) left (found q) (drop e b) h r)
+    next : held ≡ entries_held (one found further) assets rest
+    next = i.same ∙ rw (many_next entry (drop from b) left found (drop r.end b) h a.2.1)
 
     -- one that is not listed
-    pub hold_past : AssetIs b from (Asset.Entry e part Carrier.Nowhere) → Holding held b map_room e (left - 1) at rest
-    hold_past a =
-        record {
-          same = next a.2.0 a.2.1 ∙ entry_past (found a.2.0) further rest (drop at map_room) (carrier_none a.2.0 a.2.2);
-          within = i.within;
-        }
+    pub hold_past : r.carrier ≡ None → Holding held b r.end (left - 1) rest
+    hold_past q = record { same = next ∙ entry_past found further assets rest (carrier_none a.2.0 (sym q ∙ a.2.2)); two_each = i.two_each }
 
-    module _ (p : ℕ) (a : AssetIs b from (Asset.Entry e part (Carrier.By p))) where
+    module _ (p : ℕ) (q : r.carrier ≡ Some p) where
+      carried : a.2.0 ≡ some p
+      carried = carrier_some a.2.0 p (sym q ∙ a.2.2)
+
       -- one more than the list has
-      pub hold_more : rest ≡ 0 → held ≡ false
-      hold_more z = next a.2.0 a.2.1 ∙ entry_more (found a.2.0) p (carrier_some a.2.0 p a.2.2) further rest (drop at map_room) z
+      pub hold_more : length rest < 2 → held ≡ false
+      hold_more z = next ∙ entry_more found p carried further assets rest (omega (arith, i.two_each))
 
-      module _ (some_left : 0 < rest) where
+      module _ (some_left : 2 ≤ length rest) where
         abbrev asset_same : Bool
-        asset_same = eqb (get_or map_room at 0) p && eqb (get_or map_room (at + 1) 0) (kind_number part)
+        asset_same = eqb (get_or rest 0 0) p && eqb (get_or rest 1 0) (kind_number r.part)
 
-        beside : held ≡ (asset_same && entries_held further (rest - 1) (drop (at + 2) map_room))
+        beside : held ≡ (asset_same && entries_held further (length (drop 2 rest) / 2) (drop 2 rest))
         beside =
-            let x : at < length map_room = omega (arith, i.within) in
-            let y : suc at < length map_room = omega (arith, i.within) in
-            let two : drop at map_room ≡ get_or map_room at 0 ∷ get_or map_room (at + 1) 0 ∷ drop (at + 2) map_room =
-            drop-cons map_room at 0 x ∙ rw (add-one at, add-two at) (ap (λ (l : List ℕ). get_or map_room at 0 ∷ l) (drop-cons map_room (suc at) 0 y)) in
-            let m : rest ≡ suc (rest - 1) = omega arith in
-            next a.2.0 a.2.1 ∙ ap₂ (entries_held (one (found a.2.0) further)) m two
-            ∙ entry_beside (found a.2.0) p (carrier_some a.2.0 p a.2.2) further (rest - 1) _ _ _
+            let x : 0 < length rest = omega arith in
+            let y : 1 < length rest = omega arith in
+            let two : rest ≡ get_or rest 0 0 ∷ get_or rest 1 0 ∷ drop 2 rest =
+            drop-cons rest 0 0 x ∙ ap (λ (l : List ℕ). get_or rest 0 0 ∷ l) (drop-cons rest 1 0 y) in
+            let m : assets ≡ suc (length (drop 2 rest) / 2) = omega (arith, length-drop 2 rest) in
+            next ∙ ap₂ (entries_held (one found further)) m two
+            ∙ entry_beside found p carried further (length (drop 2 rest) / 2) (get_or rest 0 0) (get_or rest 1 0) (drop 2 rest)
 
         pub hold_other : asset_same ≡ false → held ≡ false
-        hold_other q = beside ∙ rw q
+        hold_other e = beside ∙ rw e
 
-        pub hold_next : asset_same ≡ true → Holding held b map_room e (left - 1) (at + 2) (rest - 1)
-        hold_next q = record { same = beside ∙ rw q; within = omega (arith, i.within) }
+        pub hold_next : asset_same ≡ true → Holding held b r.end (left - 1) (take (length rest - 2) (drop 2 rest))
+        hold_next e =
+            let l : length (drop 2 rest) ≤ length rest - 2 = omega (arith, length-drop 2 rest) in
+            rw (take_all (length rest - 2) (drop 2 rest) l) (record { same = beside ∙ rw e; two_each = omega (arith, length-drop 2 rest, i.two_each) })
+
+-- a list is given by its numbers, whatever stands behind them
+front_list : (n : ℕ) (as' : Listed) (ns : List ℕ) → same_list (some n) as' (take (2 * n) ns) ≡ same_list (some n) as' ns
+front_list n as' ns = go (eqb n (length as')) refl
+  where
+    all : ℕ → List ℕ → Bool
+    all m ms = same_numbers (take (2 * m) ms) (asset_numbers as')
+
+    go : (a : Bool) → eqb n (length as') ≡ a → (a && all (length as') (take (2 * n) ns)) ≡ (a && all (length as') ns)
+    go false e = refl
+    go true e =
+        let m : n ≡ length as' = eqb-true n (length as') e in
+        let l : 2 * length as' ≤ 2 * n = omega arith in
+        rw (take-take (2 * length as') (2 * n) ns l)
+
+pub front_held : (o : Out Mpt) (n : ℕ) (ns list : List ℕ) (known : News) (r : code.Option News) → list ≡ take (2 * n) ns → length list ≡ 2 * n
+    → HeldIs o (some (length list / 2)) list known r → HeldIs o (some n) ns known r
+front_held o n ns list known r e l = go r
+  where
+    same : mpt_held o (some n) ns ≡ mpt_held o (some (length list / 2)) list
+    same = let m : length list / 2 ≡ n = omega arith in rw (m, e) (at o)
+      where
+        at : (x : Out Mpt) → mpt_held x (some n) ns ≡ mpt_held x (some n) (take (2 * n) ns)
+        at none = refl
+        at (some (m, more)) = sym (front_list n (listed m.entries) ns)
+
+    go : (x : code.Option News) → HeldIs o (some (length list / 2)) list known x → HeldIs o (some n) ns known x
+    go (Some news) h = (same ∙ h.0, h.1)
+    go None h = same ∙ h
 
 -- ---- the count at a place
 
@@ -224,7 +263,7 @@ held_within (suc i) (m ∷ ms) as' ns h = let k : i < length ms = held_within i 
 
 module _ (p i : ℕ) (e : Extent) (map_heads map_room : List ℕ) (at : i ≡ place_for p (pairs_in e.map_count map_heads))
     (ms : List (ℕ × ℕ)) (k : KeptMaps ms e.map_count map_heads) where
-  pub list_held : (b : Bytes) (news : News) → HeldIs (mpt b) (count_at i (pairs_in e.map_count map_heads)) (drop (512 * i) map_room) e.news (Held.With news)
+  pub list_held : (b : Bytes) (news : News) → HeldIs (mpt b) (count_at i (pairs_in e.map_count map_heads)) (drop (512 * i) map_room) e.news (Some news)
       → MptLearnt p (mpt b) ms e map_room (with_news e news) map_heads map_room
   unfolding list_new
   list_held b news h = go (mpt b) (sym (held_is p i e map_heads map_room at ms k (mpt b)) ∙ h.0) h.1

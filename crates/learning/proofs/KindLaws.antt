@@ -4,14 +4,13 @@ use mathlib.Core.Path.{◌≡◌, refl, sym, ap, ◌∙◌}
 use mathlib.Core.List.{List, ◌∷◌}
 use mathlib.Core.Option.{Option, none, some, some-injective}
 use lib.ListN.{take, drop}
+use Rattle.std.specs.Prelude.{Some}
 use Rattle.meaning.specs.Bytes.{Bytes}
 use Rattle.meaning.specs.Readers.{Out, bind, many}
 use Rattle.meaning.specs.Tables.{Entry, entry}
-use Rattle.meaning.specs.declared.Part.{Part}
 use Rattle.meaning.proofs.Reading.{many_next}
 use Rattle.tables.specs.Answers.{AssetIs}
 use Rattle.tables.specs.declared.assets.Asset.{Asset}
-use Rattle.tables.specs.declared.locations.Carrier.{Carrier}
 use Rattle.learning.specs.News.{also, kind_news, kinds_in}
 use Rattle.learning.specs.declared.News.{News}
 use Rattle.learning.proofs.AlsoLaws.{also_assoc, also_none}
@@ -31,10 +30,10 @@ pub record Met (b : Bytes) (at count : ℕ) (known : News) (from left : ℕ) (ne
   pub met : met_all known (many count entry (drop at b)) ≡ met_all news (many left entry (drop from b))
 
 module _ (b : Bytes) (at count : ℕ) (known : News) (from left : ℕ) (news : News) (i : Met b at count known from left news) where
-  pub met_next : (e : ℕ) (part : Part) (c : Carrier) → 0 < left → AssetIs b from (Asset.Entry e part c) → Met b at count known e (left - 1) (also news (kind_news part))
-  met_next e part c h a =
-      let x : Entry = record { part = part; carrier = a.2.0; bytes_of = take (e - from) (drop from b) } in
-      record { met = i.met ∙ ap (met_all news) (many_next entry (drop from b) left x (drop e b) h a.2.1) ∙ met_one news x (many (left - 1) entry (drop e b)) }
+  pub met_next : (r : Asset) → 0 < left → AssetIs b from (Some r) → Met b at count known r.end (left - 1) (also news (kind_news r.part))
+  met_next r h a =
+      let x : Entry = record { part = r.part; carrier = a.2.0; bytes_of = take (r.end - from) (drop from b) } in
+      record { met = i.met ∙ ap (met_all news) (many_next entry (drop from b) left x (drop r.end b) h a.2.1) ∙ met_one news x (many (left - 1) entry (drop r.end b)) }
 
   -- all of them
   pub met_end : left ≡ 0 → met_all known (many count entry (drop at b)) ≡ some news

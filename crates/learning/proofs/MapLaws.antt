@@ -1,16 +1,17 @@
--- The lists of assets that MPTs give, as the functions of `lists` read and write them: numbers written over a room, the assets of
--- the entries read so far (Listing), and a list at its place. Rests on MapPairLaws and on Reading, SoundnessKept and SpareLaws of `meaning`.
+-- The lists of assets that MPTs give, as the functions of `lists` read and write them: the assets of the entries read so far (Listing),
+-- and a list at its place. Rests on MapPairLaws and on Reading, SoundnessKept and SpareLaws of `meaning`.
 use Prim.Native.Nat.{ℕ, suc, max, ◌+◌, ◌-◌, ◌*◌, ◌≤◌, ◌<◌}
 use mathlib.Core.Path.{◌≡◌, refl, sym, ap, ap₂, ◌∙◌}
 use mathlib.Core.Bool.{Bool, true, false}
 use mathlib.Core.List.{List, [], ◌∷◌, ◌++◌, append_assoc, append-nil}
 use mathlib.Core.Option.{Option, none, some}
-use native.Mathlib.Nat.{add-zero}
 use native.Mathlib.Numerals.{add-one}
 use native.Mathlib.Omega.{arith}
-use lib.ListN.{length, take, drop, get_or, set, length-set, take-append-drop}
-use lib.Seq.{length-take-le, take-suc-set, paste-suc}
+use lib.ListN.{length, take, drop, get_or, set, length-set}
+use lib.Seq.{length-take-le, take-suc-set}
 use borrow.Author.Tests.{lt-ltb, le-ltb}
+use Rattle.std.specs.Prelude as code
+use Rattle.std.specs.Prelude.{Some}
 use Rattle.meaning.specs.Bytes.{Bytes}
 use Rattle.meaning.specs.Readers.{Out, bind, give, many, raw}
 use Rattle.meaning.specs.Tables.{Entry, Mpt, entry, mpt_front, mpt, kind_number}
@@ -21,10 +22,8 @@ use Rattle.meaning.proofs.SpareLaws.{numbers_length}
 use Rattle.meaning.proofs.TableLaws.{mpt_split}
 use Rattle.meaning.proofs.Reading.{past, u8_none, many_none, many_next, behind, behind_nothing, behind_one}
 use Rattle.octets.proofs.ByteLaws.{u8_at_lem}
-use Rattle.tables.specs.Answers.{Ends, AssetIs, carrier_of}
+use Rattle.tables.specs.Answers.{Ends, AssetIs, in_code}
 use Rattle.tables.specs.declared.assets.Asset.{Asset}
-use Rattle.tables.specs.declared.fields.End.{End}
-use Rattle.tables.specs.declared.locations.Carrier.{Carrier}
 use Rattle.learning.specs.News.{also, change_news, kinds_in, count_at, same_list, list_new, list_news}
 use Rattle.learning.specs.Learnt.{with_news, numbers_of, AssetsAre, mpt_held, with_kinds, HeadsAre, lost_one, ListLearnt, MptLearnt}
 use Rattle.learning.specs.Kept.{pairs_in, KeptMaps}
@@ -35,21 +34,6 @@ use Rattle.learning.proofs.AlsoLaws.{now_changed, met_changed}
 use Rattle.learning.proofs.KindLaws.{met_all, Met, met_end, met_these}
 use Rattle.learning.proofs.PairLaws.{pairs_in_lem}
 use Rattle.learning.proofs.MapPairLaws.{maps_after}
-
--- ---- numbers written over those of a room
-
-module _ (map_room : List ℕ) (base : ℕ) (ns : List ℕ) where
-  over_paste : (k : ℕ) → k ≤ length ns → over map_room base (take k ns) ≡ take base map_room ++ take k ns ++ drop (base + k) map_room
-  unfolding over
-  over_paste k h = rw (length-take-le k ns h) (sym (append_assoc (take base map_room) (take k ns) (drop (base + k) map_room)))
-
-  pub over_none : map_room ≡ over map_room base (take 0 ns)
-  unfolding over
-  over_none = sym (rw add-zero (take-append-drop base map_room))
-
-  -- one more
-  pub over_next : (i : ℕ) → base + i < length map_room → i < length ns → set (over map_room base (take i ns)) (base + i) (get_or ns i 0) ≡ over map_room base (take (i + 1) ns)
-  over_next i h l = rw (over_paste i (omega arith), add-one i, over_paste (suc i) l) (paste-suc map_room base ns i 0 h l)
 
 -- ---- the numbers of assets
 
@@ -75,12 +59,12 @@ listed_append (x ∷ xs) ys = go x.carrier (listed_append xs ys)
     go none ih = ih
     go (some p) ih = ap (λ (l : Listed). (p, x.part) ∷ l) ih
 
-numbers_one : (o : Option ℕ) (part : Part) → asset_numbers (list_asset o part []) ≡ numbers_of (carrier_of o) part
+numbers_one : (o : Option ℕ) (part : Part) → asset_numbers (list_asset o part []) ≡ numbers_of (in_code o) part
 unfolding asset_numbers
 numbers_one none part = refl
 numbers_one (some p) part = refl
 
-numbers_next : (pre : List Entry) (e : Entry) → asset_numbers (listed (pre ++ e ∷ [])) ≡ asset_numbers (listed pre) ++ numbers_of (carrier_of e.carrier) e.part
+numbers_next : (pre : List Entry) (e : Entry) → asset_numbers (listed (pre ++ e ∷ [])) ≡ asset_numbers (listed pre) ++ numbers_of (in_code e.carrier) e.part
 unfolding listed
 numbers_next pre e =
     ap asset_numbers (listed_append pre (e ∷ [])) ∙ numbers_append (listed pre) (listed (e ∷ []))
@@ -94,25 +78,22 @@ pub record Listing (b : Bytes) (at count : ℕ) (fresh : List ℕ) (from left n 
   pub reads : many count entry (drop at b) ≡ behind pre (many left entry (drop from b))
   pub numbers : take (2 * n) fresh ≡ asset_numbers (listed pre)
   pub few : n + left ≤ 255
-  pub map_room : length fresh ≡ 510
 
 module _ (b : Bytes) (at count : ℕ) where
-  pub list_start : (fresh : List ℕ) → count < 256 → length fresh ≡ 510 → Listing b at count fresh at count 0
+  pub list_start : (fresh : List ℕ) → count < 256 → Listing b at count fresh at count 0
   unfolding asset_numbers listed
-  list_start fresh h l = record { pre = []; reads = behind_nothing (many count entry (drop at b)); numbers = refl; few = omega arith; map_room = l }
+  list_start fresh h = record { pre = []; reads = behind_nothing (many count entry (drop at b)); numbers = refl; few = omega arith }
 
   module _ (fresh : List ℕ) (from left n : ℕ) (i : Listing b at count fresh from left n) where
-    pub list_next : (e : ℕ) (part : Part) (c : Carrier) (fresh' : List ℕ) (r : ℕ) → 0 < left → AssetIs b from (Asset.Entry e part c)
-        → take (2 * r) fresh' ≡ take (2 * n) fresh ++ numbers_of c part → r ≤ n + 1 → length fresh' ≡ 510
-        → Listing b at count fresh' e (left - 1) r
-    list_next e part c fresh' r h a t few same =
-        let x : Entry = record { part = part; carrier = a.2.0; bytes_of = take (e - from) (drop from b) } in
+    pub list_next : (q : Asset) (fresh' : List ℕ) (r : ℕ) → 0 < left → AssetIs b from (Some q)
+        → take (2 * r) fresh' ≡ take (2 * n) fresh ++ numbers_of q.carrier q.part → r ≤ n + 1 → Listing b at count fresh' q.end (left - 1) r
+    list_next q fresh' r h a t few =
+        let x : Entry = record { part = q.part; carrier = a.2.0; bytes_of = take (q.end - from) (drop from b) } in
         record {
           pre = i.pre ++ x ∷ [];
-          reads = i.reads ∙ rw (many_next entry (drop from b) left x (drop e b) h a.2.1) (behind_one i.pre x (many (left - 1) entry (drop e b)));
-          numbers = t ∙ ap₂ (λ (l : List ℕ) (k : Carrier). l ++ numbers_of k part) i.numbers a.2.2 ∙ sym (numbers_next i.pre x);
+          reads = i.reads ∙ rw (many_next entry (drop from b) left x (drop q.end b) h a.2.1) (behind_one i.pre x (many (left - 1) entry (drop q.end b)));
+          numbers = t ∙ ap₂ (λ (l : List ℕ) (k : code.Option ℕ). l ++ numbers_of k q.part) i.numbers a.2.2 ∙ sym (numbers_next i.pre x);
           few = omega (arith, i.few);
-          map_room = same;
         }
 
     -- one that cannot be read
@@ -123,9 +104,9 @@ module _ (b : Bytes) (at count : ℕ) where
     unfolding many
     list_all z = i.reads ∙ rw (z, append-nil i.pre)
 
-    list_count : n ≡ length (listed i.pre)
-    list_count =
-        let k : length (take (2 * n) fresh) ≡ 2 * n = length-take-le (2 * n) fresh (omega (arith, i.few, i.map_room)) in
+    list_count : length fresh ≡ 510 → n ≡ length (listed i.pre)
+    list_count all =
+        let k : length (take (2 * n) fresh) ≡ 2 * n = length-take-le (2 * n) fresh (omega (arith, i.few)) in
         omega (arith, k, ap length i.numbers, numbers_length (listed i.pre))
 
 module _ (b : Bytes) where
@@ -134,7 +115,7 @@ module _ (b : Bytes) where
   front_none q = rw q
 
   -- its count is at h
-  module _ (h : ℕ) (f : Ends (mpt_front b) b (End.At h)) where
+  module _ (h : ℕ) (f : Ends (mpt_front b) b (Some h)) where
     pub count_none : length b ≤ h → mpt b ≡ none
     unfolding mpt raw
     count_none k = rw (f.1.1, u8_none b h k)
@@ -147,16 +128,16 @@ module _ (b : Bytes) where
       pub entries_none : (fresh : List ℕ) (from left m : ℕ) → Listing b (h + 1) n fresh from left m → 0 < left → entry (drop from b) ≡ none → mpt b ≡ none
       entries_none fresh from left m i l q = rw (mpt_many, list_cut b (h + 1) n fresh from left m i l q)
 
-      pub assets_are : (fresh : List ℕ) (from left m : ℕ) → Listing b (h + 1) n fresh from left m → left ≡ 0
-          → (known news : News) → Met b (h + 1) n known from left news → AssetsAre (mpt b) known (Assets.Listed m news) fresh
-      assets_are fresh from left m i z known news j =
+      pub assets_are : (fresh : List ℕ) → length fresh ≡ 510 → (from left m : ℕ) → Listing b (h + 1) n fresh from left m → left ≡ 0
+          → (known news : News) → Met b (h + 1) n known from left news → AssetsAre (mpt b) known (Some (record { count = m; news = news })) fresh
+      assets_are fresh l from left m i z known news j =
           let all = list_all b (h + 1) n fresh from left m i z in (
             omega (arith, i.few),
             (
               record { front = take h b; entries = i.pre },
               drop from b,
               rw (mpt_many, all),
-              list_count b (h + 1) n fresh from left m i,
+              list_count b (h + 1) n fresh from left m i l,
               i.numbers,
               met_these b (h + 1) n known from left news j z i.pre (drop from b) all,
             ),
@@ -199,15 +180,16 @@ module _ (p i : ℕ) (e : Extent) (map_heads map_room : List ℕ) (at : i ≡ pl
   pub held_is : (o : Out Mpt) → mpt_held o (count_at i (pairs_in e.map_count map_heads)) (drop (512 * i) map_room) ≡ mpt_held o (count_at (place_for p ms) ms) (drop (512 * place_for p ms) map_room)
   held_is o = rw (place, pairs_in_lem k.pairs)
 
-  module _ (b : Bytes) (n : ℕ) (news : News) (fresh : List ℕ) (a : AssetsAre (mpt b) e.news (Assets.Listed n news) fresh) where
-    pub list_lost : 64 ≤ i → MptLearnt p (mpt b) ms e map_room (lost_one (with_news e news)) map_heads map_room
+  module _ (b : Bytes) (r : Assets) (fresh : List ℕ) (a : AssetsAre (mpt b) e.news (Some r) fresh) where
+    pub list_lost : 64 ≤ i → MptLearnt p (mpt b) ms e map_room (lost_one (with_news e r.news)) map_heads map_room
     list_lost h = rw (a.1.2, ← place, le-ltb i 64 h) (k, refl, ap (λ (z : News). lost_one (with_news e z)) a.1.5)
 
     pub list_kept : i < 64 → mpt_held (mpt b) (count_at i (pairs_in e.map_count map_heads)) (drop (512 * i) map_room) ≡ false
-        → (r : Extent) (map_heads' map_room' : List ℕ) → HeadsAre i p n fresh (with_news e news) map_heads map_room r map_heads' map_room' → MptLearnt p (mpt b) ms e map_room r map_heads' map_room'
-    list_kept h other r map_heads' map_room' x =
+        → (e' : Extent) (map_heads' map_room' : List ℕ) → HeadsAre i p r.count fresh (with_news e r.news) map_heads map_room e' map_heads' map_room'
+        → MptLearnt p (mpt b) ms e map_room e' map_heads' map_room'
+    list_kept h other e' map_heads' map_room' x =
         let g : place_for p ms < 64 = omega (arith, place) in
         let few = (mpt_split b a.1.0 a.1.1 a.1.2).few in
         let new = rw a.1.2 at (sym (held_is (mpt b)) ∙ other) in
         rw (a.1.2, lt-ltb (place_for p ms) 64 g)
-        (kept_list p a.1.0.entries fresh e map_heads map_room ms few g k (rw a.1.3 at a.1.4) new r map_heads' map_room' (rw (place, a.1.3, a.1.5) at x))
+        (kept_list p a.1.0.entries fresh e map_heads map_room ms few g k (rw a.1.3 at a.1.4) new e' map_heads' map_room' (rw (place, a.1.3, a.1.5) at x))

@@ -1,74 +1,116 @@
 -- The packages of a PLT as `packages` reads and keeps them: the slot of a service, an insertion there, the loop over the packages, whose
 -- invariant is `Sofar`, and what is told as changed. Rests on PairLaws, on the readers at an offset, and on what a PLT's packages hold to.
-use Prim.Native.Nat.{ℕ, suc, ◌+◌, ◌-◌, ◌*◌, ◌/◌, ◌%◌, ◌≤◌, ◌<◌}
+use Prim.Native.Nat.{ℕ, zero, suc, ◌+◌, ◌-◌, ◌*◌, ◌/◌, ◌≤◌, ◌<◌}
 use mathlib.Core.Path.{◌≡◌, refl, sym, ap, ap₂, ◌∙◌}
 use mathlib.Core.Bool.{Bool, true, false, cond, not, ◌&&◌, ◌||◌}
 use mathlib.Core.List.{List, [], ◌∷◌, ◌++◌, map, append-nil}
 use mathlib.Core.Option.{Option, none, some}
 use native.Mathlib.Numerals.{add-one}
 use native.Mathlib.Omega.{arith}
-use lib.ListN.{length, take, drop, get_or, set, drop_of_length-le, length-append}
+use lib.ListN.{length, take, drop, get_or, set, length-append, length-map, get_or-map}
 use lib.Arith.{lt_of_le-ne}
-use lib.Seq.{drop-cons}
+use lib.Seq.{drop-cons, length-take-le, get_or-take}
 use lib.Dec.{ltb, eqb}
 use borrow.Author.Tests.{ltb-true, ltb-false, lt-ltb, le-ltb, eqb-true, eq-eqb, ne_eqb}
+use Rattle.std.specs.Prelude as code
+use Rattle.std.specs.Prelude.{Some, Result, Ok, Err}
+use Rattle.std.specs.Ordering.{nat_cmp, ordering_index}
+use Rattle.std.specs.List.Sorted.{IsSearchInRange, IsBinarySearchResult, IsNonDecreasingBy}
+use Rattle.std.proofs.lemmas.Cmp.{ranked}
+use Rattle.std.proofs.lemmas.Bool.Decides.{nat_tests}
+use Rattle.std.proofs.lemmas.List.Sorted.{IsNonDecreasingBy-from_default}
 use Rattle.meaning.specs.Bytes.{Bytes}
 use Rattle.meaning.specs.Readers.{many}
 use Rattle.meaning.specs.Tables.{Package, package_entry, plt, service_of}
 use Rattle.meaning.specs.Learn.{insert_package, add_package, packages_in}
 use Rattle.meaning.specs.Record.{slots, pack_pair, pair_of}
+use Rattle.meaning.specs.Soundness.{rising, firsts}
 use Rattle.meaning.proofs.Reading.{u8_none, many_none, many_next, behind, behind_nothing, behind_one}
 use Rattle.octets.proofs.ByteLaws.{u8_at_lem}
-use Rattle.tables.specs.Answers.{name_of, carrier_of, PackageIs}
-use Rattle.tables.specs.declared.locations.Carrier.{Carrier}
-use Rattle.tables.specs.declared.packages.Named.{Named}
+use Rattle.tables.specs.Answers.{in_code, PackageIs}
 use Rattle.tables.specs.declared.packages.Package as read
 use Rattle.meaning.proofs.ListLaws.{clash, and_both, both_true}
-use Rattle.meaning.proofs.SoundnessKept.{plt_holds}
+use Rattle.meaning.proofs.SoundnessKept.{insert_rise, plt_holds}
 use Rattle.learning.specs.Kept.{pairs_in, Pairs, KeptPackages}
 use Rattle.learning.specs.News.{also, change_news, unlisted_news, unlisted, lists_service, plt_news, same_numbers, same_pairs}
-use Rattle.learning.specs.Learnt.{with_news, before, taken, PackagesAre, PltLearnt}
+use Rattle.learning.specs.Learnt.{with_news, before, SlotIs, taken, PackagesAre, PltLearnt}
 use Rattle.learning.specs.declared.Extent.{Extent}
 use Rattle.learning.specs.declared.News.{News}
 use Rattle.learning.specs.declared.packages.Services.{Services}
 use Rattle.learning.proofs.AlsoLaws.{now_changed, met_changed}
 use Rattle.learning.proofs.PairLaws.{same_refl, same_true, pairs_refl, pairs_true, pairs_as, pairs_in_lem, first_in, in_length, first_at, pairs_put, pairs_insert}
 
--- ---- the slot of a service, searched from the front
+-- ---- the slot of a service among packages whose services rise
 
--- The first i of n pairs come before the service.
-abbrev pub PassedBy : ℕ → ℕ → List ℕ → ℕ → Type 0
-PassedBy s n xs i = (i ≤ n) × (before s (pairs_in n xs) ≡ i + before s (drop i (pairs_in n xs)))
+rise_above : (a : ℕ) (ns : List ℕ) → rising (a ∷ ns) ≡ true → (j : ℕ) → j < length ns → a < get_or ns j 0
+unfolding rising
+rise_above a [] r j h = absurd (omega arith)
+rise_above a (b ∷ ns) r zero h = ltb-true a b (and_both (ltb a b) (rising (b ∷ ns)) r).0
+rise_above a (b ∷ ns) r (suc j) h =
+    let t = and_both (ltb a b) (rising (b ∷ ns)) r in
+    omega (arith, ltb-true a b t.0, rise_above b ns t.1 j (omega arith))
 
-module _ (s n : ℕ) (xs : List ℕ) (in_xs : n ≤ length xs) where
-  pub passed_none : PassedBy s n xs 0
-  passed_none = (omega arith, omega arith)
+rise_tail : (a : ℕ) (ns : List ℕ) → rising (a ∷ ns) ≡ true → rising ns ≡ true
+unfolding rising
+rise_tail a [] r = refl
+rise_tail a (b ∷ ns) r = (and_both (ltb a b) (rising (b ∷ ns)) r).1
 
-  module _ (i : ℕ) (k : PassedBy s n xs i) where
-    next : i < n → drop i (pairs_in n xs) ≡ get_or (pairs_in n xs) i (0, 0) ∷ drop (i + 1) (pairs_in n xs)
-    next h = rw (add-one i) (drop-cons (pairs_in n xs) i (0, 0) (omega (arith, in_length n xs in_xs)))
+rise_far : (ns : List ℕ) → rising ns ≡ true → (i j : ℕ) → i < j → j < length ns → get_or ns i 0 < get_or ns j 0
+rise_far [] r i j l h = absurd (omega arith)
+rise_far (a ∷ ns) r i zero l h = absurd (omega arith)
+rise_far (a ∷ ns) r zero (suc j) l h = rise_above a ns r j (omega arith)
+rise_far (a ∷ ns) r (suc i) (suc j) l h = rise_far ns (rise_tail a ns r) i j (omega arith) (omega arith)
 
-    -- here it is
-    pub passed_stop : i < n → s ≤ get_or xs i 0 / 65536 → (i ≡ before s (pairs_in n xs)) × (i ≤ n)
-    unfolding before
-    passed_stop h l =
-        let z : before s (drop i (pairs_in n xs)) ≡ 0 = rw (next h, first_in n xs i h, le-ltb (get_or xs i 0 / 65536) s l) in
-        (omega arith, omega arith)
+-- that many come before it
+before_is : (s : ℕ) (ps : List (ℕ × ℕ)) (at : ℕ) → at ≤ length ps → ((k : ℕ) → k < at → (get_or ps k (0, 0)).0 < s)
+    → (at < length ps → s ≤ (get_or ps at (0, 0)).0) → at ≡ before s ps
+unfolding before
+before_is s [] at l below above = omega arith
+before_is s (q ∷ qs) zero l below above = let h : s ≤ q.0 = above (omega arith) in rw (le-ltb q.0 s h)
+before_is s (q ∷ qs) (suc at) l below above =
+    let h : q.0 < s = below 0 (omega arith) in
+    rw (lt-ltb q.0 s h) (ap suc (before_is s qs at (omega arith) (λ k m. below (suc k) (omega arith)) (λ m. above (omega arith))))
 
-    -- one more
-    pub passed_next : i < n → get_or xs i 0 / 65536 < s → PassedBy s n xs (i + 1)
-    unfolding before
-    passed_next h l =
-        let z : before s (drop i (pairs_in n xs)) ≡ suc (before s (drop (i + 1) (pairs_in n xs))) = rw (next h, first_in n xs i h, lt-ltb (get_or xs i 0 / 65536) s l) in
-        (omega arith, omega arith)
+module _ (s n : ℕ) (xs : List ℕ) (in_xs : n ≤ length xs) (rise : rising (firsts (pairs_in n xs)) ≡ true) where
+  abbrev first : ℕ → ℕ
+  first k = get_or xs k 0 / 65536
 
-    -- behind all
-    pub passed_all : n ≤ i → (i ≡ before s (pairs_in n xs)) × (i ≤ n)
-    unfolding before
-    passed_all h =
-        let l : length (pairs_in n xs) ≤ i = omega (arith, in_length n xs in_xs) in
-        let z : before s (drop i (pairs_in n xs)) ≡ 0 = rw (drop_of_length-le (pairs_in n xs) l) in
-        (omega arith, omega arith)
+  firsts_rise : (i j : ℕ) → i < j → j < n → first i < first j
+  firsts_rise i j l h =
+      let ps = pairs_in n xs in
+      let m : length (firsts ps) ≡ n = length-map ps (λ (x : ℕ × ℕ). x.0) ∙ in_length n xs in_xs in
+      let there : (k : ℕ) → k < n → get_or (firsts ps) k 0 ≡ first k = λ k g. get_or-map (λ (x : ℕ × ℕ). x.0) ps k (0, 0) ∙ first_in n xs k g in
+      omega (arith, rise_far (firsts ps) rise i j l (omega arith), there i (omega arith), there j h)
+
+  -- the comparisons with it rise, as a binary search asks
+  compare_rise : IsNonDecreasingBy (λ y. ordering_index (nat_cmp (y / 65536) s)) (take n xs)
+  compare_rise = IsNonDecreasingBy-from_default (λ y. ordering_index (nat_cmp (y / 65536) s)) (take n xs) 0 (λ i j l h.
+      let m : length (take n xs) ≡ n = length-take-le n xs in_xs in
+      let here : get_or (take n xs) i 0 ≡ get_or xs i 0 = get_or-take n xs i 0 (omega arith) in
+      let there : get_or (take n xs) j 0 ≡ get_or xs j 0 = get_or-take n xs j 0 (omega arith) in
+      let keys : first i ≤ first j = grind (arith, firsts_rise i j, λ (e : i ≡ j). ap first e) in
+      rw (here, there) (grind (arith, nat_tests)))
+
+  at_slot : (i : ℕ) → i < n → get_or (take n xs) i 0 / 65536 ≡ (get_or (pairs_in n xs) i (0, 0)).0
+  at_slot i h = ap (λ (z : ℕ). z / 65536) (get_or-take n xs i 0 h) ∙ sym (first_in n xs i h)
+
+  pub searched : (r : Result ℕ ℕ) → IsSearchInRange r (length (take n xs)) → IsBinarySearchResult (λ y. nat_cmp (y / 65536) s) (take n xs) r → SlotIs s n xs r
+  searched (Ok at) in_range equal =
+      let m : length (take n xs) ≡ n = length-take-le n xs in_xs in
+      let l : at < n = omega arith in
+      let k : length (pairs_in n xs) ≡ n = in_length n xs in_xs in
+      let here : first at ≡ s = ap (λ (z : ℕ). z / 65536) (sym (get_or-take n xs at 0 l)) ∙ ranked _ s _ (sym (equal 0)) in
+      (before_is s (pairs_in n xs) at (omega arith) (λ j h. omega (arith, firsts_rise j at h l, first_in n xs j (omega arith))) (λ h. omega (arith, first_in n xs at l)), l, here)
+  searched (Err at) in_range parted =
+      let m : length (take n xs) ≡ n = length-take-le n xs in_xs in
+      let k : length (pairs_in n xs) ≡ n = in_length n xs in_xs in
+      let p = parted compare_rise in
+      let below : (j : ℕ) → j < at → get_or (take n xs) j 0 / 65536 < s = λ j h. ranked _ s _ (sym (p.0 j 0 (omega arith) h)) in
+      let above : at < n → s < get_or (take n xs) at 0 / 65536 = λ h. ranked _ s _ (sym (p.1 at 0 (omega arith) (omega arith))) in (
+        before_is s (pairs_in n xs) at (omega arith) (λ j h. omega (arith, below j h, at_slot j (omega arith))) (λ h. let g : at < n = omega arith in omega (arith, above g, at_slot at g)),
+        omega arith,
+        λ h e. omega (arith, above h, ap (λ (z : ℕ). z / 65536) (get_or-take n xs at 0 h)),
+      )
 
 -- ---- an insertion by its slot
 
@@ -106,42 +148,35 @@ module _ (s p : ℕ) where
           let n : q.0 ≡ s → ⊥ = d (omega arith) in
           rw (lt-ltb s q.0 (lt_of_le-ne l (λ e. n (sym e))))
 
--- a package, as one number, in its slot
-abbrev both : ℕ → ℕ × ℕ
-both p = (p / 65536, p % 65536)
+-- a package, as one number v, in its slot
+module _ (N s p v n at : ℕ) (xs : List ℕ) (small : p < 65536) (packed : v ≡ s * 65536 + p) (place : at ≡ before s (pairs_in n xs)) where
+  whole : pack_pair (s, p) ≡ v
+  unfolding pack_pair
+  whole = sym packed
 
-whole : (p : ℕ) → pack_pair (both p) ≡ p
-unfolding pack_pair
-whole p = omega arith
-
-module _ (N p n at : ℕ) (xs : List ℕ) (place : at ≡ before (p / 65536) (pairs_in n xs)) where
-  slot_for : {ps : List (ℕ × ℕ)} → Pairs N ps n xs → at ≡ before (p / 65536) ps
-  slot_for k = place ∙ ap (before (p / 65536)) (pairs_in_lem k)
+  slot_for : {ps : List (ℕ × ℕ)} → Pairs N ps n xs → at ≡ before s ps
+  slot_for k = place ∙ ap (before s) (pairs_in_lem k)
 
   -- its service was there
-  pub added_over : at < n → get_or xs at 0 / 65536 ≡ p / 65536 → (ps : List (ℕ × ℕ)) → Pairs N ps n xs → Pairs N (insert_package (p / 65536) (p % 65536) ps) n (set xs at p)
+  pub added_over : at < n → get_or xs at 0 / 65536 ≡ s → (ps : List (ℕ × ℕ)) → Pairs N ps n xs → Pairs N (insert_package s p ps) n (set xs at v)
   added_over h e ps k =
       let q = slot_for k in
       let l : at < length ps = omega (arith, k.count) in
-      pairs_as (pairs_put k (both p) (omega arith) at (omega arith) (omega (arith, k.few)))
-      (rw q (insert_over (p / 65536) (p % 65536) ps (rw q at l) (rw q at (first_at k at h ∙ e)))) (omega arith) (ap (set xs at) (whole p))
+      pairs_as (pairs_put k (s, p) small at (omega arith) (omega (arith, k.few)))
+      (rw q (insert_over s p ps (rw q at l) (rw q at (first_at k at h ∙ e)))) (omega arith) (ap (set xs at) whole)
 
   -- it was not
-  pub added_new : at ≤ n → n < N → (at < n → get_or xs at 0 / 65536 ≡ p / 65536 → ⊥) → (ys : List ℕ) → ys ≡ take (at + 1) xs ++ (take (n - at) (drop at xs) ++ drop (n + 1) xs)
-      → (ps : List (ℕ × ℕ)) → Pairs N ps n xs → Pairs N (insert_package (p / 65536) (p % 65536) ps) (n + 1) (set ys at p)
+  pub added_new : at ≤ n → n < N → (at < n → get_or xs at 0 / 65536 ≡ s → ⊥) → (ys : List ℕ) → ys ≡ take (at + 1) xs ++ (take (n - at) (drop at xs) ++ drop (n + 1) xs)
+      → (ps : List (ℕ × ℕ)) → Pairs N ps n xs → Pairs N (insert_package s p ps) (n + 1) (set ys at v)
   added_new h f d ys w ps k =
       let q = slot_for k in
-      let other : at < length ps → (get_or ps at (0, 0)).0 ≡ p / 65536 → ⊥ = λ l e. let m : at < n = omega (arith, k.count) in d m (sym (first_at k at m) ∙ e) in
-      pairs_as (pairs_insert k (both p) (omega arith) at h f ys w) (rw q (insert_new (p / 65536) (p % 65536) ps (rw q at other))) refl (ap (set ys at) (whole p))
+      let other : at < length ps → (get_or ps at (0, 0)).0 ≡ s → ⊥ = λ l e. let m : at < n = omega (arith, k.count) in d m (sym (first_at k at m) ∙ e) in
+      pairs_as (pairs_insert k (s, p) small at h f ys w) (rw q (insert_new s p ps (rw q at other))) refl (ap (set ys at) whole)
 
 -- ---- one package after another
 
--- a service and an identifier out of their number
-pub unpacked : (s q p : ℕ) (ps : List (ℕ × ℕ)) → q < 65536 → p ≡ s * 65536 + q → insert_package (p / 65536) (p % 65536) ps ≡ insert_package s q ps
-unpacked s q p ps h e = ap₂ (λ (a b : ℕ). insert_package a b ps) (omega arith) (omega arith)
-
 -- what the code takes is what the definitions add
-taken_is : (s q : Option ℕ) (ps : List (ℕ × ℕ)) → taken (name_of s) (carrier_of q) ps ≡ add_package s q ps
+taken_is : (s q : Option ℕ) (ps : List (ℕ × ℕ)) → taken (in_code s) (in_code q) ps ≡ add_package s q ps
 taken_is none q ps = refl
 taken_is (some s) none ps = refl
 taken_is (some s) (some p) ps = refl
@@ -150,6 +185,11 @@ packages_more : (pre : List Package) (x : Package) (ps : List (ℕ × ℕ)) → 
 unfolding packages_in
 packages_more [] x ps = refl
 packages_more (y ∷ pre) x ps = packages_more pre x (add_package (service_of y.name) y.carrier ps)
+
+add_rise : (s q : Option ℕ) (ps : List (ℕ × ℕ)) → rising (firsts ps) ≡ true → rising (firsts (add_package s q ps)) ≡ true
+add_rise none q ps r = r
+add_rise (some s) none ps r = r
+add_rise (some s) (some p) ps r = insert_rise s p ps r
 
 -- no count
 pub plt_none : (b : Bytes) → length b ≡ 0 → plt b ≡ none
@@ -162,17 +202,19 @@ pub record Sofar (b : Bytes) (all left from n : ℕ) (xs : List ℕ) : Type 0 wh
   pub pre : List Package
   pub reads : plt b ≡ behind pre (many left package_entry (drop from b))
   pub pairs : Pairs 255 (packages_in pre []) n xs
+  pub rise : rising (firsts (packages_in pre [])) ≡ true
   pub few : n + left ≤ 255
   pub counted : length pre + left ≡ all
 
 module _ (b : Bytes) where
   pub start : (count : ℕ) (xs : List ℕ) → 0 < length b → count ≡ get_or b 0 0 → count < 256 → Pairs 255 [] 0 xs → Sofar b count count 1 0 xs
-  unfolding plt packages_in
+  unfolding plt packages_in rising
   start count xs h q l k =
       record {
         pre = [];
         reads = rw (u8_at_lem b 0 1 h (omega arith) refl, q) (behind_nothing (many (get_or b 0 0) package_entry (drop 1 b)));
         pairs = k;
+        rise = refl;
         few = omega arith;
         counted = omega arith;
       }
@@ -183,23 +225,24 @@ module _ (b : Bytes) where
     broken h e = rw (i.reads, many_none package_entry (drop from b) left h e)
 
     -- one more
-    pub turn : (e : ℕ) (name : Named) (c : Carrier) → 0 < left → PackageIs b from (read.Package.Entry e name c) → (m : ℕ) (ys : List ℕ)
-        → ((ps : List (ℕ × ℕ)) → Pairs 255 ps n xs → Pairs 255 (taken name c ps) m ys) → m ≤ n + 1 → Sofar b all (left - 1) e m ys
-    turn e name c h p m ys k l =
-        let row : Package = record { name = p.2.0; carrier = p.2.1; bytes_of = take (e - from) (drop from b) } in
+    pub turn : (r : read.Package) → 0 < left → PackageIs b from (Some r) → (m : ℕ) (ys : List ℕ)
+        → ((ps : List (ℕ × ℕ)) → Pairs 255 ps n xs → Pairs 255 (taken r.name r.carrier ps) m ys) → m ≤ n + 1 → Sofar b all (left - 1) r.end m ys
+    turn r h p m ys k l =
+        let row : Package = record { name = p.2.0; carrier = p.2.1; bytes_of = take (r.end - from) (drop from b) } in
         let ps = packages_in i.pre [] in
         record {
           pre = i.pre ++ row ∷ [];
-          reads = i.reads ∙ rw (many_next package_entry (drop from b) left row (drop e b) h p.2.2) (behind_one i.pre row (many (left - 1) package_entry (drop e b)));
+          reads = i.reads ∙ rw (many_next package_entry (drop from b) left row (drop r.end b) h p.2.2) (behind_one i.pre row (many (left - 1) package_entry (drop r.end b)));
           pairs =
               pairs_as (k ps i.pairs)
-              (ap₂ (λ (a : Named) (q : Carrier). taken a q ps) p.2.3 p.2.4 ∙ taken_is (service_of p.2.0) p.2.1 ps ∙ sym (packages_more i.pre row [])) refl refl;
+              (ap₂ (λ (a q : code.Option ℕ). taken a q ps) p.2.3 p.2.4 ∙ taken_is (service_of p.2.0) p.2.1 ps ∙ sym (packages_more i.pre row [])) refl refl;
+          rise = rw (packages_more i.pre row []) (add_rise (service_of p.2.0) p.2.1 ps i.rise);
           few = omega (arith, i.few);
           counted = omega (arith, i.counted, length-append i.pre (row ∷ []));
         }
 
     -- none left
-    pub all_read : left ≡ 0 → PackagesAre (plt b) (Services.Read n (not (eqb n all))) xs
+    pub all_read : left ≡ 0 → PackagesAre (plt b) (Some (record { count = n; unlisted = not (eqb n all) })) xs
     unfolding many unlisted
     all_read z =
         let every : all ≡ length i.pre = omega (arith, i.counted) in
@@ -216,7 +259,13 @@ module _ (b : Bytes) (e : Extent) (ps : List (ℕ × ℕ)) (xs : List ℕ) (k : 
   pub plt_unread : plt b ≡ none → PltLearnt (plt b) ps e e xs
   plt_unread h = rw h (refl, k)
 
-  module _ (n : ℕ) (apart : Bool) (fresh : List ℕ) (r : PackagesAre (plt b) (Services.Read n apart) fresh) where
+  module _ (services : Services) (fresh : List ℕ) (r : PackagesAre (plt b) (Some services) fresh) where
+    abbrev n : ℕ
+    n = services.count
+
+    abbrev apart : Bool
+    apart = services.unlisted
+
     -- what is new but for a change
     abbrev met : News
     met = also e.news (unlisted_news apart)

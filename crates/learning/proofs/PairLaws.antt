@@ -2,14 +2,15 @@
 -- that are in it. Any number of slots, so that packages and map heads share it. Rests on Pairs and on meaning's record laws.
 use Prim.Native.Nat.{ℕ, zero, suc, max, ◌+◌, ◌-◌, ◌/◌, ◌%◌, ◌≤◌, ◌<◌}
 use mathlib.Core.Path.{◌≡◌, refl, sym, ap, ap₂, ◌∙◌}
-use mathlib.Core.Bool.{Bool, true, false, ◌&&◌}
+use mathlib.Core.Bool.{Bool, true, ◌&&◌}
 use mathlib.Core.List.{List, [], ◌∷◌, ◌++◌, map, map-append, append_assoc, append-nil}
 use native.Mathlib.Nat.{sub-zero, zero-sub, suc-sub-suc}
 use native.Mathlib.Numerals.{add-one}
 use native.Mathlib.Omega.{arith}
 use lib.ListN.{length, take, drop, get_or, set, replicate, length-append, length-map, length-replicate, length-drop, length-set, drop_of_length-le, take-append-drop, get_or-append, get_or-map}
-use lib.Seq.{length-take-le, take-append-le, take-set-lt, take-suc-set, set_split, set-append_left, append_snoc, take-suc, drop-cons, get_or-take}
+use lib.Seq.{length-take-le, take-append-le, take-set-lt, take-suc-set, set_split, set-append_left, append_snoc, drop-cons, get_or-take}
 use lib.Dec.{eqb}
+use lib.Pointwise.{pointwise}
 use borrow.Author.Tests.{eq-eqb, eqb-true}
 use Rattle.meaning.specs.Record.{slots, pack_pair, pair_of}
 use Rattle.meaning.specs.Soundness.{SecondsBelow}
@@ -239,22 +240,13 @@ same_true (x ∷ xs) (y ∷ ys) e =
     let h = and_both (eqb x y) (same_numbers xs ys) e in
     ap₂ (λ (z : ℕ) (l : List ℕ). z ∷ l) (eqb-true x y h.0) (same_true xs ys h.1)
 
--- two that differ at a slot
-pub same_not : (xs ys : List ℕ) (n i : ℕ) → i < n → (get_or xs i 0 ≡ get_or ys i 0 → ⊥) → same_numbers (take n xs) (take n ys) ≡ false
-same_not xs ys n i h d = go (same_numbers (take n xs) (take n ys)) refl
-  where
-    go : (a : Bool) → same_numbers (take n xs) (take n ys) ≡ a → same_numbers (take n xs) (take n ys) ≡ false
-    go false e = e
-    go true e =
-        absurd (d (sym (get_or-take n xs i 0 h) ∙ ap (λ (z : List ℕ). get_or z i 0) (same_true (take n xs) (take n ys) e) ∙ get_or-take n ys i 0 h))
-
--- one more that is the same
-pub same_next : (xs ys : List ℕ) (i : ℕ) → i < length xs → i < length ys → take i xs ≡ take i ys → get_or xs i 0 ≡ get_or ys i 0 → take (i + 1) xs ≡ take (i + 1) ys
-same_next xs ys i h l e g =
-    rw (add-one i) (take-suc xs i 0 h ∙ ap₂ (λ (z : List ℕ) (y : ℕ). z ++ y ∷ []) e g ∙ sym (take-suc ys i 0 l))
-
-pub same_all : (xs ys : List ℕ) (n i : ℕ) → i ≡ n → take i xs ≡ take i ys → same_numbers (take n xs) (take n ys) ≡ true
-same_all xs ys n i q e = rw (← q, e) (same_refl (take i ys))
+-- as the library compares slices
+pub same_is : (xs ys : List ℕ) → pointwise eqb xs ys ≡ same_numbers xs ys
+unfolding same_numbers
+same_is [] [] = refl
+same_is [] (y ∷ ys) = refl
+same_is (x ∷ xs) [] = refl
+same_is (x ∷ xs) (y ∷ ys) = ap (λ (b : Bool). eqb x y && b) (same_is xs ys)
 
 pub pairs_refl : (ps : List (ℕ × ℕ)) → same_pairs ps ps ≡ true
 unfolding same_pairs

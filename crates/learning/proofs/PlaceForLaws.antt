@@ -1,42 +1,55 @@
--- The place of an identifier among the first pairs of an array: past those that do not have it, and at the first that does.
--- Rests on specs/Kept and on the definition of a place.
-use Prim.Native.Nat.{ℕ, zero, suc, ◌+◌, ◌/◌, ◌<◌}
-use mathlib.Core.Path.{◌≡◌, ap}
-use mathlib.Core.Bool.{Bool, true, false, cond}
-use mathlib.Core.List.{List, [], ◌∷◌}
+-- The place of an identifier among pairs, and whether one is of a service, as a search of the array finds them. Rests on specs/Kept and on
+-- the definitions of both.
+use Prim.Native.Nat.{ℕ, suc, ◌+◌, ◌/◌, ◌≤◌}
+use mathlib.Core.Path.{◌≡◌, refl, ap, ◌∙◌}
+use mathlib.Core.Bool.{Bool, true, false, cond, not, ◌||◌}
+use mathlib.Core.List.{List, [], ◌∷◌, map}
 use native.Mathlib.Omega.{arith}
-use native.Mathlib.Numerals.{add-one}
-use lib.Dec.{eqb}
-use lib.ListN.{length, get_or}
-use borrow.Author.Tests.{eq-eqb, ne_eqb}
+use lib.Dec.{eqb, ltb}
+use lib.ListN.{length}
+use borrow.Author.Tests.{ltb-false}
+use Rattle.std.specs.Prelude.{Option, Some, None}
+use Rattle.std.specs.Option.{unwrap_or}
+use Rattle.std.specs.List.{position_or_len, list_any}
 use Rattle.meaning.specs.Learn.{place_for}
 use Rattle.meaning.specs.Record.{pair_of}
-use Rattle.learning.specs.Kept.{pairs_in}
+use Rattle.learning.specs.News.{lists_service}
 
--- One pair more whose first is not p.
-more_past : (p i : ℕ) (xs : List ℕ) → i < length xs → place_for p (pairs_in i xs) ≡ i → (get_or xs i 0 / 65536 ≡ p → ⊥) → place_for p (pairs_in (suc i) xs) ≡ suc i
-unfolding place_for pair_of
-more_past p i [] l e h = absurd (omega arith)
-more_past p zero (x ∷ xs) l e h = rw (ne_eqb (x / 65536) p h)
-more_past p (suc i) (x ∷ xs) l e h = go (eqb (x / 65536) p) e (λ d. more_past p i xs (omega arith) d h)
-  where
-    go : (b : Bool) → cond b 0 (suc (place_for p (pairs_in i xs))) ≡ suc i → (place_for p (pairs_in i xs) ≡ i → place_for p (pairs_in (suc i) xs) ≡ suc i)
-        → cond b 0 (suc (place_for p (pairs_in (suc i) xs))) ≡ suc (suc i)
-    go true z ih = absurd (omega arith)
-    go false z ih = ap suc (ih (omega arith))
+module _ (test : ℕ → Bool) where
+  within : (xs : List ℕ) → position_or_len test xs ≤ length xs
+  within [] = omega arith
+  within (x ∷ xs) = go (test x) (within xs)
+    where
+      go : (b : Bool) → position_or_len test xs ≤ length xs → cond (not b) (1 + position_or_len test xs) 0 ≤ suc (length xs)
+      go true h = omega arith
+      go false h = omega arith
 
-pub slot_next : (p i : ℕ) (xs : List ℕ) → i < length xs → place_for p (pairs_in i xs) ≡ i → (get_or xs i 0 / 65536 ≡ p → ⊥) → place_for p (pairs_in (i + 1) xs) ≡ i + 1
-slot_next p i xs l e h = rw add-one (more_past p i xs l e h)
+  -- where it stands, or their number
+  pub found_or : (r : Option ℕ) (xs : List ℕ) (n : ℕ) → length xs ≡ n
+      → r ≡ cond (ltb (position_or_len test xs) (length xs)) (Some (position_or_len test xs)) None → (unwrap_or r n ≡ position_or_len test xs) × (unwrap_or r n ≤ n)
+  found_or r xs n e q = go (ltb (position_or_len test xs) (length xs)) refl
+    where
+      i : ℕ
+      i = position_or_len test xs
 
--- The first whose first is p, among any number of them.
-pub slot_here : (p i n : ℕ) (xs : List ℕ) → i < n → i < length xs → place_for p (pairs_in i xs) ≡ i → get_or xs i 0 / 65536 ≡ p → place_for p (pairs_in n xs) ≡ i
-unfolding place_for pair_of
-slot_here p i zero xs m l e h = absurd (omega arith)
-slot_here p i (suc n) [] m l e h = absurd (omega arith)
-slot_here p zero (suc n) (x ∷ xs) m l e h = rw (eq-eqb (x / 65536) p h)
-slot_here p (suc i) (suc n) (x ∷ xs) m l e h = go (eqb (x / 65536) p) e (λ d. slot_here p i n xs (omega arith) (omega arith) d h)
-  where
-    go : (b : Bool) → cond b 0 (suc (place_for p (pairs_in i xs))) ≡ suc i → (place_for p (pairs_in i xs) ≡ i → place_for p (pairs_in n xs) ≡ i)
-        → cond b 0 (suc (place_for p (pairs_in n xs))) ≡ suc i
-    go true z ih = absurd (omega arith)
-    go false z ih = ap suc (ih (omega arith))
+      go : (b : Bool) → ltb i (length xs) ≡ b → (unwrap_or r n ≡ i) × (unwrap_or r n ≤ n)
+      go true t = let h : r ≡ Some i = q ∙ rw t in let l : i ≤ n = omega (arith, within xs) in rw h (refl, l)
+      go false t = let h : r ≡ None = q ∙ rw t in let l : n ≡ i = omega (arith, within xs, ltb-false i (length xs) t) in rw h (l, omega arith)
+
+module _ (p : ℕ) where
+  pub place_is : (xs : List ℕ) → place_for p (map pair_of xs) ≡ position_or_len (λ x. eqb (x / 65536) p) xs
+  unfolding place_for pair_of
+  place_is [] = refl
+  place_is (x ∷ xs) = go (eqb (x / 65536) p) (place_is xs)
+    where
+      test : ℕ → Bool
+      test z = eqb (z / 65536) p
+
+      go : (b : Bool) → place_for p (map pair_of xs) ≡ position_or_len test xs → cond b 0 (suc (place_for p (map pair_of xs))) ≡ cond (not b) (1 + position_or_len test xs) 0
+      go true h = refl
+      go false h = omega arith
+
+  pub lists_is : (xs : List ℕ) → lists_service p (map pair_of xs) ≡ list_any (λ x. eqb (x / 65536) p) xs
+  unfolding lists_service pair_of
+  lists_is [] = refl
+  lists_is (x ∷ xs) = ap (λ b. eqb (x / 65536) p || b) (lists_is xs)

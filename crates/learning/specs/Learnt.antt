@@ -1,19 +1,17 @@
 -- What the functions that read a PLT or an MPT promise, in the terms of the definitions: what the arrays hold afterwards, whatever they held.
-use Rattle.std.specs.Prelude.{ℕ, suc, max, ◌+◌, ◌*◌, ◌≤◌, ◌≡◌, Bool, true, false, cond, List, [], ◌∷◌, ◌++◌, length, take, drop, set, ltb}
+use Rattle.std.specs.Prelude.{ℕ, suc, max, ◌+◌, ◌*◌, ◌/◌, ◌≤◌, ◌<◌, ◌≡◌, ◌≢◌, Bool, true, false, cond, List, [], ◌∷◌, ◌++◌, length, take, drop, get_or, set, ltb, Some, None, Result, Ok, Err}
+use Rattle.std.specs.Prelude as code
 use Rattle.std.proofs.Math.Option.{Option, none, some}
 use Rattle.meaning.specs.Bytes.{Bytes}
 use Rattle.meaning.specs.Readers.{Out}
 use Rattle.meaning.specs.Tables.{Entry, Mpt, Package, kind_number}
 use Rattle.meaning.specs.Learn.{asset_numbers, over, place_for, listed, insert_package, packages_in}
 use Rattle.meaning.specs.declared.Part.{Part}
-use Rattle.tables.specs.declared.locations.Carrier.{Carrier}
-use Rattle.tables.specs.declared.packages.Named.{Named}
-use Rattle.learning.specs.Kept.{Pairs, KeptPackages, KeptMaps}
+use Rattle.learning.specs.Kept.{pairs_in, Pairs, KeptPackages, KeptMaps}
 use Rattle.learning.specs.News.{also, kinds_in, unlisted, plt_news, same_list, list_news}
 use Rattle.learning.specs.declared.Extent.{Extent}
 use Rattle.learning.specs.declared.News.{News}
 use Rattle.learning.specs.declared.lists.Assets.{Assets}
-use Rattle.learning.specs.declared.lists.Held.{Held}
 use Rattle.learning.specs.declared.packages.Services.{Services}
 
 abbrev pub with_news : Extent → News → Extent
@@ -26,17 +24,22 @@ unfoldable pub before : ℕ → List (ℕ × ℕ) → ℕ
 before s [] = 0
 before s (q ∷ qs) = cond (ltb q.0 s) (suc (before s qs)) 0
 
+-- The slot among n in which the package of a service is, or in which it would go.
+abbrev pub SlotIs : ℕ → ℕ → List ℕ → Result ℕ ℕ → Type 0
+SlotIs s n xs (Ok at) = (at ≡ before s (pairs_in n xs)) × (at < n) × (get_or xs at 0 / 65536 ≡ s)
+SlotIs s n xs (Err at) = (at ≡ before s (pairs_in n xs)) × (at ≤ n) × (at < n → get_or xs at 0 / 65536 ≢ s)
+
 -- One more package, if it has a service and an identifier.
-abbrev pub taken : Named → Carrier → List (ℕ × ℕ) → List (ℕ × ℕ)
-taken Named.Other c ps = ps
-taken (Named.Service s) Carrier.Nowhere ps = ps
-taken (Named.Service s) (Carrier.By p) ps = insert_package s p ps
+abbrev pub taken : code.Option ℕ → code.Option ℕ → List (ℕ × ℕ) → List (ℕ × ℕ)
+taken None c ps = ps
+taken (Some s) None ps = ps
+taken (Some s) (Some p) ps = insert_package s p ps
 
 -- The packages of a PLT's body that have a service and an identifier, in an array of their own, and whether those are not all.
-abbrev pub PackagesAre : Out (List Package) → Services → List ℕ → Type 0
-PackagesAre o (Services.Read n apart) xs =
-    (ys : List Package) × (more : Bytes) × (o ≡ some (ys, more)) × Pairs 255 (packages_in ys []) n xs × (apart ≡ unlisted ys)
-PackagesAre o Services.Nothing xs = o ≡ none
+abbrev pub PackagesAre : Out (List Package) → code.Option Services → List ℕ → Type 0
+PackagesAre o (Some r) xs =
+    (ys : List Package) × (more : Bytes) × (o ≡ some (ys, more)) × Pairs 255 (packages_in ys []) r.count xs × (r.unlisted ≡ unlisted ys)
+PackagesAre o None xs = o ≡ none
 
 -- What a PLT makes of the extent and of the packages.
 abbrev pub PltLearnt : Out (List Package) → List (ℕ × ℕ) → Extent → Extent → List ℕ → Type 0
@@ -56,16 +59,16 @@ PltLearnt (some (ys, more)) ps e r xs =
 -- ---- an MPT
 
 -- The listed assets of an MPT's body, as numbers at the front of an array of their own, and what is new with the kinds of all.
-abbrev pub AssetsAre : Out Mpt → News → Assets → List ℕ → Type 0
-AssetsAre o known (Assets.Listed n news) xs =
-    (n ≤ 255)
-    × ((m : Mpt) × (more : Bytes) × (o ≡ some (m, more)) × (n ≡ length (listed m.entries)) × (take (2 * n) xs ≡ asset_numbers (listed m.entries)) × (news ≡ also known (kinds_in m.entries)))
-AssetsAre o known Assets.Nothing xs = o ≡ none
+abbrev pub AssetsAre : Out Mpt → News → code.Option Assets → List ℕ → Type 0
+AssetsAre o known (Some r) xs =
+    (r.count ≤ 255)
+    × ((m : Mpt) × (more : Bytes) × (o ≡ some (m, more)) × (r.count ≡ length (listed m.entries)) × (take (2 * r.count) xs ≡ asset_numbers (listed m.entries)) × (r.news ≡ also known (kinds_in m.entries)))
+AssetsAre o known None xs = o ≡ none
 
 -- The two numbers of an asset, if it has an identifier.
-abbrev pub numbers_of : Carrier → Part → List ℕ
-numbers_of Carrier.Nowhere part = []
-numbers_of (Carrier.By p) part = p ∷ kind_number part ∷ []
+abbrev pub numbers_of : code.Option ℕ → Part → List ℕ
+numbers_of None part = []
+numbers_of (Some p) part = p ∷ kind_number part ∷ []
 
 -- Whether an MPT's body reads and its list is the one that is held, if one is: of that count, at the front of these numbers.
 abbrev pub mpt_held : Out Mpt → Option ℕ → List ℕ → Bool
@@ -77,9 +80,9 @@ abbrev pub with_kinds : News → Out Mpt → News
 with_kinds known none = known
 with_kinds known (some (m, more)) = also known (kinds_in m.entries)
 
-abbrev pub HeldIs : Out Mpt → Option ℕ → List ℕ → News → Held → Type 0
-HeldIs x o ns known (Held.With news) = (mpt_held x o ns ≡ true) × (news ≡ with_kinds known x)
-HeldIs x o ns known Held.No = mpt_held x o ns ≡ false
+abbrev pub HeldIs : Out Mpt → Option ℕ → List ℕ → News → code.Option News → Type 0
+HeldIs x o ns known (Some news) = (mpt_held x o ns ≡ true) × (news ≡ with_kinds known x)
+HeldIs x o ns known None = mpt_held x o ns ≡ false
 
 -- A list of n assets written at place i: its head, its numbers, and how many lists there are then. It is a change.
 pub record HeadsAre (i p n : ℕ) (fresh : List ℕ) (e : Extent) (map_heads map_room : List ℕ) (r : Extent) (map_heads' map_room' : List ℕ) : Type 0 where

@@ -7,6 +7,7 @@ ghost use Rattle.learning.specs.Learnt.{with_news};
 
 pub mod lists;
 pub mod packages;
+pub mod pairs;
 
 use octets::IdSet;
 
@@ -60,26 +61,12 @@ pub fn no_news() -> News
 pub fn changed(n: News) -> News
     ensures { result ≡ record { changed = true; caption = n.caption; carousel = n.carousel; other = n.other; unlisted = n.unlisted } }
 {
-    News {
-        changed: true,
-        caption: n.caption,
-        carousel: n.carousel,
-        other: n.other,
-        unlisted: n.unlisted,
-    }
+    News { changed: true, ..n }
 }
 
 // The extent with other news.
 pub fn with_news(e: Extent, news: News) -> Extent
     ensures { result ≡ with_news e news }
 {
-    Extent {
-        seen: e.seen,
-        package_count: e.package_count,
-        map_count: e.map_count,
-        fragment_count: e.fragment_count,
-        leading: e.leading,
-        lost: e.lost,
-        news,
-    }
+    Extent { news, ..e }
 }

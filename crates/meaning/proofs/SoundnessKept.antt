@@ -44,7 +44,7 @@ module _ (s p : ℕ) where
           above : q.0 ≤ s → (s ≡ q.0 → ⊥) → q.0 < s
           above l n = lt_of_le-ne l (λ e. n (sym e))
 
-  insert_rise : (qs : List (ℕ × ℕ)) → rising (firsts qs) ≡ true → rising (firsts (insert_package s p qs)) ≡ true
+  pub insert_rise : (qs : List (ℕ × ℕ)) → rising (firsts qs) ≡ true → rising (firsts (insert_package s p qs)) ≡ true
   unfolding insert_package rising
   insert_rise [] r = refl
   insert_rise (q ∷ qs) r = go (ltb s q.0) refl (eqb s q.0) refl

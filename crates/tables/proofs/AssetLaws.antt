@@ -23,10 +23,8 @@ use Rattle.meaning.proofs.Framed.{progress}
 use Rattle.meaning.proofs.Reading.{u8_none, u8_some, u16_at, bytes_at, bytes_none, counted8_none}
 use Rattle.octets.proofs.ByteLaws.{u8_at_lem}
 use Rattle.tables.specs.Answers.{Ends, LocationsAre, asset_tail, is_plain, AssetIs}
-use Rattle.tables.specs.declared.fields.End.{End}
-use Rattle.tables.specs.declared.locations.Carrier.{Carrier}
+use Rattle.std.specs.Prelude.{Some}
 use Rattle.tables.specs.declared.locations.Located.{Located}
-use Rattle.tables.specs.declared.assets.Asset.{Asset}
 
 -- ---- clock relation
 
@@ -35,7 +33,7 @@ module _ (s : Bytes) (at flags : ℕ) where
   abbrev Clock : Out Bytes
   Clock = announced (flags % 2) clock_relation (drop at s)
 
-  pub clock_absent : flags % 2 ≡ 0 → at ≤ length s → Ends Clock s (End.At at)
+  pub clock_absent : flags % 2 ≡ 0 → at ≤ length s → Ends Clock s (Some at)
   unfolding announced
   clock_absent z h = (h, ([], rw z))
 
@@ -57,7 +55,7 @@ module _ (s : Bytes) (at flags : ℕ) where
       clock_flag =
           rw (one, u8_at_lem s at (at + 1) (omega arith) (small at) refl, u8_at_lem s (at + 1) (at + 2) (omega arith) (small (at + 1)) (omega arith))
 
-      pub clock_short : get_or s (at + 1) 0 % 2 ≡ 0 → Ends Clock s (End.At (at + 2))
+      pub clock_short : get_or s (at + 1) 0 % 2 ≡ 0 → Ends Clock s (Some (at + 2))
       unfolding announced
       clock_short z = (h, ([], rw (clock_flag, z)))
 
@@ -76,7 +74,7 @@ module _ (s : Bytes) (at flags : ℕ) where
   unfolding asset_tail
   tail_clock k = rw k
 
-  module _ (counts : ℕ) (k : Ends (Clock s at flags) s (End.At counts)) where
+  module _ (counts : ℕ) (k : Ends (Clock s at flags) s (Some counts)) where
     -- the count of locations is not there
     pub tail_count : length s ≤ counts → Tail ≡ none
     unfolding asset_tail
@@ -92,13 +90,13 @@ module _ (s : Bytes) (at flags : ℕ) where
       pub tail_locations : many n location (drop (counts + 1) s) ≡ none → Tail ≡ none
       tail_locations l = counted ∙ rw l
 
-      module _ (ds : ℕ) (c : Carrier) (l : LocationsAre (many n location (drop (counts + 1) s)) s (Located.To ds c)) where
+      module _ (l : Located) (are : LocationsAre (many n location (drop (counts + 1) s)) s (Some l)) where
         -- the descriptors are cut
-        pub tail_descriptors : counted16 (drop ds s) ≡ none → Tail ≡ none
-        tail_descriptors d = counted ∙ rw (l.1.1, d)
+        pub tail_descriptors : counted16 (drop l.end s) ≡ none → Tail ≡ none
+        tail_descriptors d = counted ∙ rw (are.1.1, d)
 
-        pub tail_whole : (e : ℕ) → Ends (counted16 (drop ds s)) s (End.At e) → LocationsAre Tail s (Located.To e c)
-        tail_whole e d = (d.0, (l.1.0, counted ∙ rw (l.1.1, d.1.1), l.1.2))
+        pub tail_whole : (e : ℕ) → Ends (counted16 (drop l.end s)) s (Some e) → LocationsAre Tail s (Some (record { end = e; carrier = l.carrier }))
+        tail_whole e d = (d.0, (are.1.0, counted ∙ rw (are.1.1, d.1.1), are.1.2))
 
 -- ---- the same, plain
 
@@ -134,7 +132,7 @@ module _ (s : Bytes) (at flags : ℕ) (plain : is_plain flags s at ≡ true) whe
   pub plain_broken : counted16 (drop (at + 4) s) ≡ none → Tail s at flags ≡ none
   plain_broken d = plain_front ∙ rw d
 
-  pub plain_whole : (e p : ℕ) → Ends (counted16 (drop (at + 4) s)) s (End.At e) → p ≡ be16_at s (at + 2) → LocationsAre (Tail s at flags) s (Located.To e (Carrier.By p))
+  pub plain_whole : (e p : ℕ) → Ends (counted16 (drop (at + 4) s)) s (Some e) → p ≡ be16_at s (at + 2) → LocationsAre (Tail s at flags) s (Some (record { end = e; carrier = Some p }))
   unfolding first_of
   plain_whole e p d is = (d.0, (some (be16_at s (at + 2)) ∷ [], plain_front ∙ rw d.1.1, rw is))
 
@@ -298,11 +296,11 @@ module _ (s : Bytes) (at : ℕ) (small : (i : ℕ) → get_or s i 0 < 256) where
       pub entry_broken : Rest ≡ none → entry (drop at s) ≡ none
       entry_broken t = entry_none (drop at s) (asset_head s at small type_at n six is k-is h ∙ rw t)
 
-      pub entry_whole : (e : ℕ) (part : Part) (c : Carrier) → LocationsAre Rest s (Located.To e c) → part ≡ part_of (take 4 (drop type_at s))
-          → AssetIs s at (Asset.Entry e part c)
-      entry_whole e part c t p =
+      pub entry_whole : (l : Located) (part : Part) → LocationsAre Rest s (Some l) → part ≡ part_of (take 4 (drop type_at s))
+          → AssetIs s at (Some (record { end = l.end; part = part; carrier = l.carrier }))
+      entry_whole l part t p =
           let a = made (take 4 (drop type_at s)) t.1.0 in
-          let u = entry_at s at e a t.0 (asset_head s at small type_at n six is k-is h ∙ rw t.1.1) in
+          let u = entry_at s at l.end a t.0 (asset_head s at small type_at n six is k-is h ∙ rw t.1.1) in
           (t.0, u.0, (first_of t.1.0, rw p u.1, t.1.2))
 
 -- ---- the front of an MPT
@@ -313,7 +311,7 @@ unfolding mpt_front u8
 front_none [] h = refl
 front_none (b ∷ s) h = rw h
 
-pub front_at : (s : Bytes) (e : ℕ) → Ends (counted8 (drop 1 s)) s (End.At e) → mpt_front s ≡ counted16 (drop e s)
+pub front_at : (s : Bytes) (e : ℕ) → Ends (counted8 (drop 1 s)) s (Some e) → mpt_front s ≡ counted16 (drop e s)
 unfolding mpt_front u8 counted8
 front_at [] e h = clash (cc h.1.1)
 front_at (b ∷ s) e h = rw h.1.1

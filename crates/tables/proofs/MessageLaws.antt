@@ -12,8 +12,8 @@ use Rattle.meaning.specs.Readers.{Out, bind, bytes}
 use Rattle.meaning.specs.Messages.{is_long, message_body, message}
 use Rattle.meaning.proofs.Reading.{byte_at, byte_none, u16_at, u16_none, bytes_at, bytes_none}
 use Rattle.tables.specs.Answers.{FrameIs, MessageIs}
-use Rattle.tables.specs.declared.messages.Frame.TheVariants.{Part}
-use Rattle.tables.specs.declared.messages.Found.TheVariants as found
+use Rattle.std.specs.Prelude.{Some}
+use Rattle.tables.specs.declared.messages.Frame.{Frame}
 
 -- ---- o reads m bytes at a, and the code has m as n
 
@@ -21,7 +21,7 @@ module _ (o : Out Bytes) (s : Bytes) (at a m n : ℕ) (is : n ≡ m) (reads : o 
   pub part_cut : length s - a < n → o ≡ none
   part_cut h = reads ∙ bytes_none s a m (omega arith)
 
-  pub part_at : at < a → a + n ≤ length s → FrameIs o s at (Part a (a + n))
+  pub part_at : at < a → a + n ≤ length s → FrameIs o s at (Some (record { start = a; end = a + n }))
   part_at k h =
       let w : a + n - a ≡ m = omega arith in
       (k, omega arith, h, reads ∙ rw (bytes_at s a m (a + n) h (omega arith), w))
@@ -46,5 +46,5 @@ module _ (s : Bytes) where
     pub message_cut : message_body long (drop 3 s) ≡ none → message s ≡ none
     message_cut e = head ∙ rw e
 
-    pub message_at : (a e : ℕ) → FrameIs (message_body long (drop 3 s)) s 3 (Part a e) → MessageIs (message s) s (found.Message n a e)
-    message_at a e f = (f.0, f.1, f.2, head ∙ rw f.3)
+    pub message_at : (b : Frame) → FrameIs (message_body long (drop 3 s)) s 3 (Some b) → MessageIs (message s) s (Some (record { number = n; start = b.start; end = b.end }))
+    message_at b f = (f.0, f.1, f.2, head ∙ rw f.3)

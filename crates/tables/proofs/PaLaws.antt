@@ -13,7 +13,7 @@ use Rattle.meaning.specs.Readers.{bind, bytes, many}
 use Rattle.meaning.specs.Tables.{table, pa_head}
 use Rattle.meaning.proofs.Reading.{byte_at, byte_none, bytes_at, bytes_none, counted16_at, counted16_none}
 use Rattle.tables.specs.Answers.{TableIs, PaHeadIs}
-use Rattle.tables.specs.declared.fields.End.TheVariants.{At}
+use Rattle.std.specs.Prelude.{Some}
 use Rattle.tables.specs.declared.pa.Table.TheVariants.{To, Cut, Done}
 
 -- ---- n blocks of four bytes
@@ -49,7 +49,7 @@ module _ (s : Bytes) where
     unfolding pa_head
     pa_cut h = rw (byte_at s 0 1 one refl, low, fours_none n 1 one h)
 
-    pub pa_at : 1 + n * 4 ≤ length s → PaHeadIs (pa_head s) s (At (1 + n * 4))
+    pub pa_at : 1 + n * 4 ≤ length s → PaHeadIs (pa_head s) s (Some (1 + n * 4))
     unfolding pa_head
     pa_at h = let r = fours_at n 1 (1 + n * 4) refl h in (omega arith, h, (r.0, rw (byte_at s 0 1 one refl, low, r.1)))
 

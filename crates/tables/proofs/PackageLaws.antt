@@ -14,13 +14,10 @@ use Rattle.meaning.specs.Tables.{service_of, location, package_entry}
 use Rattle.meaning.proofs.Reading.{byte_at, bytes_at, bytes_none, counted8_none}
 use Rattle.meaning.proofs.Local.{location_local}
 use Rattle.meaning.proofs.Framed.{progress}
-use Rattle.tables.specs.Answers.{Ends, name_of, LocationIs, PackageIs}
-use Rattle.tables.specs.declared.fields.End.TheVariants.{At}
-use Rattle.tables.specs.declared.locations.Carrier.{Carrier}
-use Rattle.tables.specs.declared.locations.Located.TheVariants.{To}
-use Rattle.tables.specs.declared.packages.Named.{Named}
-use Rattle.tables.specs.declared.packages.Named.TheVariants.{Service, Other}
-use Rattle.tables.specs.declared.packages.Package.TheVariants.{Entry}
+use Rattle.tables.specs.Answers.{Ends, in_code, LocationIs, PackageIs}
+use Rattle.std.specs.Prelude.{Some, None}
+use Rattle.std.specs.Prelude as code
+use Rattle.tables.specs.declared.locations.Located.{Located}
 
 -- ---- names
 
@@ -32,12 +29,12 @@ other_length (a ∷ b ∷ []) h = absurd (h refl)
 other_length (a ∷ b ∷ c ∷ l) h = refl
 
 module _ (s : Bytes) (at end : ℕ) (some_in : at < end) (in_s : end ≤ length s) where
-  pub name_other : (end ≡ at + 3 → ⊥) → Other ≡ name_of (service_of (take (end - at - 1) (drop (at + 1) s)))
+  pub name_other : (end ≡ at + 3 → ⊥) → None ≡ in_code (service_of (take (end - at - 1) (drop (at + 1) s)))
   name_other h =
       let k : end - at - 1 ≤ length (drop (at + 1) s) = omega (arith, length-drop (at + 1) s) in
       rw (other_length (take (end - at - 1) (drop (at + 1) s)) (λ e. h (omega (arith, length-take-le (end - at - 1) (drop (at + 1) s) k))))
 
-  pub name_two : (n : ℕ) → n ≡ be16_at s (at + 1) → end ≡ at + 3 → Service n ≡ name_of (service_of (take (end - at - 1) (drop (at + 1) s)))
+  pub name_two : (n : ℕ) → n ≡ be16_at s (at + 1) → end ≡ at + 3 → Some n ≡ in_code (service_of (take (end - at - 1) (drop (at + 1) s)))
   unfolding service_of be16_at
   name_two n is h =
       let k : end - at - 1 ≡ 2 = omega arith in
@@ -78,7 +75,7 @@ module _ (s : Bytes) (at : ℕ) where
           | no k ↦ absurd (none-ne-some _ (sym (counted8_none s at (omega arith)) ∙ e))
         ]
 
-  module _ (name_end : ℕ) (name_ends : Ends (counted8 (drop at s)) s (At name_end)) where
+  module _ (name_end : ℕ) (name_ends : Ends (counted8 (drop at s)) s (Some name_end)) where
     pub name_in : (at < name_end) × (name_end ≤ length s)
     name_in = ((named name_end name_ends.1.0 name_ends.0 name_ends.1.1).0, name_ends.0)
 
@@ -86,12 +83,13 @@ module _ (s : Bytes) (at : ℕ) where
     unfolding package_entry
     package_placeless e = rw (name_ends.1.1, e)
 
-    pub package_at : (e : ℕ) (name : Named) (c : Carrier) → LocationIs (location (drop name_end s)) s (To e c)
-        → name ≡ name_of (service_of (take (name_end - at - 1) (drop (at + 1) s))) → PackageIs s at (Entry e name c)
+    pub package_at : (l : Located) (name : code.Option ℕ) → LocationIs (location (drop name_end s)) s (Some l)
+        → name ≡ in_code (service_of (take (name_end - at - 1) (drop (at + 1) s)))
+        → PackageIs s at (Some (record { end = l.end; name = name; carrier = l.carrier }))
     unfolding package_entry location
-    package_at e name c f is =
+    package_at l name f is =
         let w = named name_end name_ends.1.0 name_ends.0 name_ends.1.1 in
-        let l = progress location_local refl (drop name_end s) f.1.0 (drop e s) f.1.1 in
-        let k : at < e = omega (arith, w.0, l, f.0, length-drop name_end s, length-drop e s) in
-        let size : length (drop at s) - length (drop e s) ≡ e - at = omega (arith, f.0, length-drop at s, length-drop e s) in
+        let p = progress location_local refl (drop name_end s) f.1.0 (drop l.end s) f.1.1 in
+        let k : at < l.end = omega (arith, w.0, p, f.0, length-drop name_end s, length-drop l.end s) in
+        let size : length (drop at s) - length (drop l.end s) ≡ l.end - at = omega (arith, f.0, length-drop at s, length-drop l.end s) in
         (f.0, k, (name_ends.1.0, f.1.0, rw (name_ends.1.1, f.1.1, size), rw w.1 is, f.1.2))

@@ -4,35 +4,32 @@ ghost use Rattle.meaning.specs.Readers.{bytes, announced};
 ghost use Rattle.meaning.specs.Tables.{clock_relation, part_of, mpt_front};
 ghost use Rattle.tables.specs.Answers.{Ends, LocationsAre, asset_tail, is_plain, AssetIs};
 
-use crate::fields::{End, bytes_end, counted_end, descriptors_end};
-use crate::locations::{Carrier, Located, locations_at};
+use crate::fields::{bytes_end, counted_end, descriptors_end};
+use crate::locations::{Located, locations_at};
 use meaning::Part;
 use octets::{be32, id16, wide};
 
 // An entry: where it ends, its kind, its identifier.
 #[derive(Clone, Copy)]
-pub enum Asset {
-    Entry {
-        end: usize,
-        part: Part,
-        carrier: Carrier,
-    },
-    Broken,
+pub struct Asset {
+    pub end: usize,
+    pub part: Part,
+    pub carrier: Option<u16>,
 }
 
 // The clock relation that bit 0 of `flags` announces.
-fn clock_end(s: &[u8], at: usize, flags: u8) -> End
+fn clock_end(s: &[u8], at: usize, flags: u8) -> Option<usize>
     requires { at ≤ length s.now }
     ensures { Ends (announced (flags % 2) clock_relation (drop at s.now)) s.now result }
 {
     if flags % 2 == 0 {
-        return End::At(at);
+        return Some(at);
     }
     if s.len() - at < 2 {
-        return End::Nothing;
+        return None;
     }
     if s[at + 1] % 2 == 0 {
-        return End::At(at + 2);
+        return Some(at + 2);
     }
     bytes_end(s, at + 2, 4)
 }
@@ -55,37 +52,35 @@ fn is_plain(s: &[u8], at: usize, flags: u8) -> bool
 }
 
 // The same as `tail_at` where it is plain: neither a loop nor a choice by type is gone through.
-fn plain_tail(s: &[u8], at: usize, flags: u8) -> Located
+fn plain_tail(s: &[u8], at: usize, flags: u8) -> Option<Located>
     requires { is_plain flags s.now at ≡ true }
     ensures { LocationsAre (asset_tail flags (drop at s.now)) s.now result }
 {
-    let End::At(end) = descriptors_end(s, at + 4) else {
-        return Located::Broken;
-    };
-    Located::To(end, Carrier::By(id16(s, at + 2)))
+    let end = descriptors_end(s, at + 4)?;
+    Some(Located {
+        end,
+        carrier: Some(id16(s, at + 2)),
+    })
 }
 
 // What follows the flags: clock relation, locations, descriptors.
-fn tail_at(s: &[u8], at: usize, flags: u8) -> Located
+fn tail_at(s: &[u8], at: usize, flags: u8) -> Option<Located>
     requires { at ≤ length s.now }
     ensures { LocationsAre (asset_tail flags (drop at s.now)) s.now result }
 {
     if is_plain(s, at, flags) {
         return plain_tail(s, at, flags);
     }
-    let End::At(counts) = clock_end(s, at, flags) else {
-        return Located::Broken;
-    };
+    let counts = clock_end(s, at, flags)?;
     if s.len() <= counts {
-        return Located::Broken;
+        return None;
     }
-    let Located::To(ds, carrier) = locations_at(s, counts + 1, wide(s[counts])) else {
-        return Located::Broken;
-    };
-    let End::At(end) = descriptors_end(s, ds) else {
-        return Located::Broken;
-    };
-    Located::To(end, carrier)
+    let located = locations_at(s, counts + 1, wide(s[counts]))?;
+    let end = descriptors_end(s, located.end)?;
+    Some(Located {
+        end,
+        carrier: located.carrier,
+    })
 }
 
 // The kind whose four bytes are at `at`, read as one number: `stpp` is caption, `aapp` carousel.
@@ -104,36 +99,32 @@ fn part_of(s: &[u8], at: usize) -> Part
 }
 
 // The asset entry at `at`.
-pub fn asset_at(s: &[u8], at: usize) -> Asset
+pub fn asset_at(s: &[u8], at: usize) -> Option<Asset>
     ensures { AssetIs s.now at result }
 {
     let len = s.len();
     if len < 6 {
-        return Asset::Broken;
+        return None;
     }
     if len - 6 < at {
-        return Asset::Broken;
+        return None;
     }
     let type_at = at + 6 + wide(s[at + 5]);
     if len <= type_at + 4 {
-        return Asset::Broken;
+        return None;
     }
-    let Located::To(end, carrier) = tail_at(s, type_at + 5, s[type_at + 4]) else {
-        return Asset::Broken;
-    };
-    Asset::Entry {
-        end,
+    let tail = tail_at(s, type_at + 5, s[type_at + 4])?;
+    Some(Asset {
+        end: tail.end,
         part: part_of(s, type_at),
-        carrier,
-    }
+        carrier: tail.carrier,
+    })
 }
 
 // Where the count of entries is in an MPT's body.
-pub fn mpt_front(s: &[u8]) -> End
+pub fn mpt_front(s: &[u8]) -> Option<usize>
     ensures { Ends (mpt_front s.now) s.now result }
 {
-    let End::At(ds) = counted_end(s, 1) else {
-        return End::Nothing;
-    };
-    descriptors_end(s, ds)
+    let name_end = counted_end(s, 1)?;
+    descriptors_end(s, name_end)
 }

@@ -7,20 +7,19 @@ ghost use Rattle.tables.specs.Answers.{FrameIs, MessageIs};
 
 use octets::{be16, be32, id16};
 
+// A message: its number, and where its body starts and ends.
 #[derive(Clone, Copy)]
-pub enum Found {
-    Message {
-        number: u16,
-        start: usize,
-        end: usize,
-    },
-    Nothing,
+pub struct Message {
+    pub number: u16,
+    pub start: usize,
+    pub end: usize,
 }
 
+// A part behind its length: where it starts and ends.
 #[derive(Clone, Copy)]
-pub enum Frame {
-    Part(usize, usize),
-    Done,
+pub struct Frame {
+    pub start: usize,
+    pub end: usize,
 }
 
 // Whether a message's length has 32 bits.
@@ -43,27 +42,29 @@ fn is_long(number: u16) -> bool
 }
 
 // A part of `n` bytes from `start` on, whatever stands before it.
-fn part_from(s: &[u8], start: usize, n: usize) -> Frame
+fn part_from(s: &[u8], start: usize, n: usize) -> Option<Frame>
     requires { start ≤ length s.now }
     ensures { (o : Out Bytes) (at : ℕ) → at < start → o ≡ bytes n (drop start s.now) → FrameIs o s.now at result }
 {
     if s.len() - start < n {
-        return Frame::Done;
+        return None;
     }
-    let end = start + n;
-    Frame::Part(start, end)
+    Some(Frame {
+        start,
+        end: start + n,
+    })
 }
 
 // A part behind a 16-bit length at `at`.
-fn short_frame(s: &[u8], at: usize) -> Frame
+fn short_frame(s: &[u8], at: usize) -> Option<Frame>
     ensures { FrameIs (counted16 (drop at s.now)) s.now at result }
 {
     let len = s.len();
     if len < 2 {
-        return Frame::Done;
+        return None;
     }
     if len - 2 < at {
-        return Frame::Done;
+        return None;
     }
     let n = be16(s, at);
     let start = at + 2;
@@ -71,15 +72,15 @@ fn short_frame(s: &[u8], at: usize) -> Frame
 }
 
 // A part behind a 32-bit length at `at`.
-fn long_frame(s: &[u8], at: usize) -> Frame
+fn long_frame(s: &[u8], at: usize) -> Option<Frame>
     ensures { FrameIs (counted32 (drop at s.now)) s.now at result }
 {
     let len = s.len();
     if len < 4 {
-        return Frame::Done;
+        return None;
     }
     if len - 4 < at {
-        return Frame::Done;
+        return None;
     }
     let n = be32(s, at);
     let start = at + 4;
@@ -87,7 +88,7 @@ fn long_frame(s: &[u8], at: usize) -> Frame
 }
 
 // The part of an aggregate at `at`.
-pub fn frame_at(s: &[u8], at: usize, long: bool) -> Frame
+pub fn frame_at(s: &[u8], at: usize, long: bool) -> Option<Frame>
     ensures { FrameIs (message_body long (drop at s.now)) s.now at result }
 {
     if long {
@@ -97,15 +98,17 @@ pub fn frame_at(s: &[u8], at: usize, long: bool) -> Frame
 }
 
 // The message at the front of `s`.
-pub fn message(s: &[u8]) -> Found
+pub fn message_of(s: &[u8]) -> Option<Message>
     ensures { MessageIs (message s.now) s.now result }
 {
     if s.len() < 3 {
-        return Found::Nothing;
+        return None;
     }
     let number = id16(s, 0);
-    let Frame::Part(start, end) = frame_at(s, 3, is_long(number)) else {
-        return Found::Nothing;
-    };
-    Found::Message { number, start, end }
+    let body = frame_at(s, 3, is_long(number))?;
+    Some(Message {
+        number,
+        start: body.start,
+        end: body.end,
+    })
 }

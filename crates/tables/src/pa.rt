@@ -3,7 +3,6 @@ ghost use Rattle.std.specs.Prelude.{◌≡◌, ◌+◌, ◌-◌, ◌*◌, ◌%�
 ghost use Rattle.meaning.specs.Tables.{table, is_mpt, pa_head};
 ghost use Rattle.tables.specs.Answers.{TableIs, PaHeadIs};
 
-use crate::fields::End;
 use octets::{be16, wide};
 
 #[derive(Clone, Copy)]
@@ -14,17 +13,17 @@ pub enum Table {
 }
 
 // Where the tables of a PA body start.
-pub fn pa_tables(s: &[u8]) -> End
+pub fn pa_tables(s: &[u8]) -> Option<usize>
     ensures { PaHeadIs (pa_head s.now) s.now result }
 {
     if s.len() == 0 {
-        return End::Nothing;
+        return None;
     }
     let n = 1 + wide(s[0]) * 4;
     if s.len() < n {
-        return End::Nothing;
+        return None;
     }
-    End::At(n)
+    Some(n)
 }
 
 // The table at `at` of a PA body: its end, or that it is cut, or that there is none.

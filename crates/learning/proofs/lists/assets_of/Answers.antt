@@ -1,46 +1,51 @@
 use Rattle.learning.proofs.MapLaws.{list_start, list_next, front_none, count_none, entries_none, assets_are}
 use Rattle.learning.proofs.KindLaws.{met_next}
-use mathlib.Core.Path.{refl}
+use Prim.Native.Nat.{◌+◌, ◌-◌}
+use mathlib.Core.Path.{◌≡◌, refl, ◌∙◌}
 use native.Mathlib.Omega.{arith}
 use Rattle.learning.proofs.lists.assets_of.Goals as goal
 
-pub returns-in_default : goal.returns-in_default
-returns-in_default c = (front_none _ (rw c.in_default.is at c.mpt_front.ensures), omega arith)
+pub returns-in_err-front : goal.returns-in_err-front
+returns-in_err-front c = rw c.from_residual.ensures (front_none _ c.in_err-front.ensures)
 
-pub returns-then-b-front : goal.returns-then-b-front
-returns-then-b-front c =
-    (count_none _ c.in-At.front (rw c.in-At.is at c.mpt_front.ensures) (omega arith), omega arith)
+pub returns-in_err-get : goal.returns-in_err-get
+returns-in_err-get c =
+    rw c.from_residual-in_err-get.ensures (count_none _ c.in_ok-front.front c.in_ok-front.ensures c.in_err-get.ensures.lookup.3)
 
-pub loop-left-init : goal.loop-left-init
-loop-left-init c = (list_start _ _ _ _ c.wide-left.ensures.1 c.requires, record { met = refl })
+pub loop-init : goal.loop-init
+loop-init c =
+    let all : c.wide-all.result - 0 ≡ c.wide-all.result = omega arith in
+    rw all (list_start _ _ _ _ c.wide-all.ensures.1, record { met = refl }, c.told-fresh)
 
-pub returns-in_default-asset_at : goal.returns-in_default-asset_at
-returns-in_default-asset_at c =
-    let w = c.wide-left in
-    let l = c.loop-left in (
-      entries_none _ c.in-At.front (rw c.in-At.is at c.mpt_front.ensures)
-          (omega arith) w.result w.ensures.0 w.ensures.1 l.fresh l.from l.left l.n l.invariant.0 (omega arith)
-          (rw c.in_default-asset_at.is at c.asset_at.ensures),
-      l.invariant.0.map_room,
-    )
+pub returns-in_err-asset : goal.returns-in_err-asset
+returns-in_err-asset c =
+    let b = c.args.b.now in
+    let w = c.wide-all in
+    let l = c.loop in
+    let there = c.in_ok-get.ensures.lookup.3 in
+    rw c.from_residual-in_err-asset.ensures
+    (entries_none b c.in_ok-front.front c.in_ok-front.ensures there.0 w.result (w.ensures.0 ∙ there.1 0) w.ensures.1 l.fresh l.from (w.result - l.counter) l.count
+    l.invariant.0 (omega arith) c.in_err-asset.ensures)
 
-pub list_asset-n-requires : goal.list_asset-n-requires
-list_asset-n-requires c = let i = c.loop-left.invariant.0 in (omega (arith, i.few), i.map_room)
+pub list_asset-count-requires : goal.list_asset-count-requires
+list_asset-count-requires c = omega (arith, c.loop.invariant.0.few)
 
-pub loop-left-preserved : goal.loop-left-preserved
-loop-left-preserved c =
-    let l = c.loop-left in
-    let asset = rw c.in-Entry.is at c.asset_at.ensures in (
-      list_next _ _ _ l.fresh l.from l.left l.n l.invariant.0 c.in-Entry.end _ _ c.list_asset-n.new.fresh c.list_asset-n.result (omega arith)
-          asset c.list_asset-n.ensures.0 c.list_asset-n.ensures.2 c.list_asset-n.ensures.3,
-      rw c.with_kind-news.ensures (met_next _ _ _ _ l.from l.left l.news l.invariant.1 c.in-Entry.end _ _ (omega arith) asset),
+pub loop-preserved : goal.loop-preserved
+loop-preserved c =
+    let l = c.loop in
+    let q = c.list_asset-count in
+    let one_less : c.wide-all.result - (l.counter + 1) ≡ c.wide-all.result - l.counter - 1 = omega arith in
+    let asset = c.in_ok-asset.ensures in
+    rw one_less (
+      list_next _ _ _ l.fresh l.from _ l.count l.invariant.0 c.in_ok-asset.asset q.new.fresh q.result (omega arith) asset q.ensures.0 q.ensures.2,
+      rw c.with_kind-news.ensures (met_next _ _ _ _ l.from _ l.news l.invariant.1 c.in_ok-asset.asset (omega arith) asset),
+      q.array_long,
     )
 
 pub returns : goal.returns
 returns c =
-    let w = c.wide-left in
-    let l = c.loop-left in (
-      assets_are _ c.in-At.front (rw c.in-At.is at c.mpt_front.ensures)
-          (omega arith) w.result w.ensures.0 w.ensures.1 l.fresh l.from l.left l.n l.invariant.0 (omega arith) _ l.news l.invariant.1,
-      l.invariant.0.map_room,
-    )
+    let w = c.wide-all in
+    let l = c.loop in
+    let there = c.in_ok-get.ensures.lookup.3 in
+    assets_are _ c.in_ok-front.front c.in_ok-front.ensures there.0 w.result (w.ensures.0 ∙ there.1 0) w.ensures.1 l.fresh l.invariant.2 l.from _ l.count l.invariant.0 (omega arith) _
+    l.news l.invariant.1

@@ -1,14 +1,15 @@
+use mathlib.Core.Path.{◌≡◌, refl}
+use denote.Enum.Declared.{tag_of}
 use Rattle.meaning.specs.Tables.{kind_number}
+use Rattle.meaning.specs.declared.Part.{Part}
+use Rattle.meaning.specs.contracts.Part.{the_type}
 use Rattle.learning.proofs.lists.kind_number.Goals as goal
 
-pub returns-in-Caption : goal.returns-in-Caption
+tag_is : (part : Part) → tag_of the_type part ≡ kind_number part
 unfolding kind_number
-returns-in-Caption c = rw c.in-Caption.is
+tag_is Part.Caption = refl
+tag_is Part.Carousel = refl
+tag_is Part.Other = refl
 
-pub returns-in-Carousel : goal.returns-in-Carousel
-unfolding kind_number
-returns-in-Carousel c = rw c.in-Carousel.is
-
-pub returns-in-Other : goal.returns-in-Other
-unfolding kind_number
-returns-in-Other c = rw c.in-Other.is
+pub returns : goal.returns
+returns c = tag_is c.args.part

@@ -1,4 +1,3 @@
-use lib.ListN.{length-set}
 use Rattle.learning.proofs.MapLaws.{two_more}
 use mathlib.Core.List.{append-nil}
 use mathlib.Core.Path.{refl}
@@ -7,9 +6,9 @@ use native.Mathlib.Omega.{arith}
 use Rattle.learning.proofs.lists.list_asset.Goals as goal
 
 pub returns-in_default : goal.returns-in_default
-returns-in_default c = (rw (c.in_default.is, append-nil) refl, omega arith, omega arith, omega arith)
+returns-in_default c = (rw (c.in_default.is, append-nil) refl, omega arith, omega arith)
 
 pub returns : goal.returns
 returns c =
     let a = c.args in
-    (rw (c.in-By.is, c.kind_number.ensures) (two_more a.fresh.now (2 * a.n) (2 * (a.n + 1)) _ _ (omega arith) (omega arith)), omega arith, omega arith, simp length-set (omega arith))
+    (rw (c.in-Some.is, c.kind_number.ensures) (two_more a.fresh.now (2 * a.n) (2 * (a.n + 1)) _ _ (omega arith) (omega arith)), omega arith, omega arith)

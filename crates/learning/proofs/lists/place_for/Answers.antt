@@ -1,26 +1,21 @@
-use Rattle.meaning.specs.Learn.{place_for}
-use Rattle.learning.proofs.PlaceForLaws.{slot_next, slot_here}
-use borrow.Author.Rules.{rules}
+use lib.Dec.{eqb}
+use lib.ListN.{take, length}
+use lib.Seq.{length-take-le}
+use Prim.Native.Nat.{◌/◌}
+use mathlib.Core.Path.{◌≡◌, sym, ◌∙◌}
 use native.Mathlib.Omega.{arith}
-use mathlib.Core.Path.{◌≡◌, sym}
+use Rattle.std.proofs.Common.{rules, tests}
+use Rattle.std.proofs.lemmas.Iterator.{YieldsList-from_slice}
+use Rattle.std.proofs.lemmas.Iterator.Search.{position_from_yields_List}
+use Rattle.learning.proofs.PlaceForLaws.{found_or, place_is}
 use Rattle.learning.proofs.lists.place_for.Goals as goal
-
-pub loop-i-init : goal.loop-i-init
-unfolding place_for
-loop-i-init c = search rules
-
-pub returns-then-map_heads-i : goal.returns-then-map_heads-i
-returns-then-map_heads-i c =
-    let xs = c.args.map_heads.now in
-    let e = slot_here c.args.id c.loop-i.i c.args.n xs (omega arith) (omega arith) c.loop-i.invariant.1 c.if-map_heads-i.true in
-    (sym e, omega arith)
-
-pub loop-i-preserved : goal.loop-i-preserved
-loop-i-preserved c =
-    let xs = c.args.map_heads.now in
-    (omega arith, slot_next c.args.id c.loop-i.i xs (omega arith) c.loop-i.invariant.1 c.if-map_heads-i.false)
 
 pub returns : goal.returns
 returns c =
-    let e : c.loop-i.i ≡ c.args.n = omega arith in
-    (rw (← e) (sym c.loop-i.invariant.1), omega arith)
+    let a = c.args in
+    let xs = take a.n a.map_heads.now in
+    let l : length xs ≡ a.n = length-take-le a.n a.map_heads.now (omega arith) in
+    let found =
+    position_from_yields_List (λ x. eqb (x / 65536) a.id) _ _ _ c.position.ensures.ran (YieldsList-from_slice xs cc) (λ x b q k. search (rules, tests)) in
+    let at = found_or _ c.position.result xs a.n l found in
+    rw c.unwrap_or.ensures (at.0 ∙ sym (place_is a.id xs), at.1)

@@ -1,33 +1,38 @@
+use Prim.Native.Nat.{◌+◌, ◌-◌}
+use mathlib.Core.Path.{◌≡◌, ◌∙◌}
 use native.Mathlib.Omega.{arith}
 use Rattle.learning.proofs.PackageLaws.{plt_none, start, broken, turn, all_read}
 use Rattle.learning.proofs.packages.packages_of.Goals as goal
 
-pub returns-then-b-eq0 : goal.returns-then-b-eq0
-returns-then-b-eq0 c = plt_none c.args.b.now c.if-b-eq0.true
+pub returns-in_err-first : goal.returns-in_err-first
+returns-in_err-first c = rw c.from_residual.ensures (plt_none c.args.b.now (omega (arith, c.in_err-first.ensures.item.3)))
 
-pub loop-left-init : goal.loop-left-init
-loop-left-init c =
-    start c.args.b.now c.wide-all.result c.args.fresh.now (omega arith) c.wide-all.ensures.0 c.wide-all.ensures.1 c.requires
+pub loop-init : goal.loop-init
+loop-init c =
+    let all : c.wide-all.result - 0 ≡ c.wide-all.result = omega arith in
+    let there = c.in_ok-first.ensures.item.3 in
+    let w = c.wide-all.ensures in
+    rw all (start c.args.b.now c.wide-all.result c.args.fresh.now there.0 (w.0 ∙ there.1 0) w.1 c.requires)
 
-pub returns-in_default : goal.returns-in_default
-returns-in_default c =
-    let l = c.loop-left in
-    broken c.args.b.now _ l.left l.from l.n l.fresh l.invariant (omega arith)
-    (rw c.in_default.is at c.package_at.ensures)
+pub returns-in_err-package : goal.returns-in_err-package
+returns-in_err-package c =
+    let l = c.loop in
+    rw c.from_residual-in_err-package.ensures
+    (broken c.args.b.now _ _ l.from l.count l.fresh l.invariant (omega arith) c.in_err-package.ensures)
 
-pub take_package-n-requires : goal.take_package-n-requires
-take_package-n-requires c =
-    let l = c.loop-left in
-    (omega (arith, l.invariant.few), (_, l.invariant.pairs))
+pub take_package-count-requires : goal.take_package-count-requires
+take_package-count-requires c =
+    let k = c.loop.invariant in
+    (omega (arith, k.few), (_, k.pairs, k.rise))
 
-pub loop-left-preserved : goal.loop-left-preserved
-loop-left-preserved c =
-    let l = c.loop-left in
-    turn c.args.b.now _ l.left l.from l.n l.fresh l.invariant _ _ _ (omega arith)
-    (rw c.in-Entry.is at c.package_at.ensures)
-    c.take_package-n.result c.take_package-n.new.fresh c.take_package-n.ensures.0 c.take_package-n.ensures.1
+pub loop-preserved : goal.loop-preserved
+loop-preserved c =
+    let l = c.loop in
+    let q = c.take_package-count in
+    let one_less : c.wide-all.result - (l.counter + 1) ≡ c.wide-all.result - l.counter - 1 = omega arith in
+    rw one_less (turn c.args.b.now _ _ l.from l.count l.fresh l.invariant c.in_ok-package.package (omega arith) c.in_ok-package.ensures q.result q.new.fresh q.ensures.0 q.ensures.1)
 
 pub returns : goal.returns
 returns c =
-    let l = c.loop-left in
-    all_read c.args.b.now _ l.left l.from l.n l.fresh l.invariant (omega arith)
+    let l = c.loop in
+    all_read c.args.b.now _ _ l.from l.count l.fresh l.invariant (omega arith)

@@ -1,6 +1,6 @@
 use mathlib.Core.Path.{◌∙◌, sym}
 use native.Mathlib.Omega.{arith}
-use Rattle.learning.proofs.PairLaws.{pairs_none, pairs_length}
+use Rattle.learning.proofs.PairLaws.{pairs_none}
 use Rattle.learning.proofs.PackageLaws.{plt_unread, plt_known, plt_new}
 use Rattle.learning.proofs.packages.plt.Goals as goal
 
@@ -15,21 +15,21 @@ returns-in_default c =
 
 pub is_known-requires : goal.is_known-requires
 is_known-requires c =
-    let r = rw c.in-Read.is at c.packages_of.ensures in
-    (omega (arith, r.3.count, r.3.few), pairs_length r.3, pairs_length c.requires.1.pairs)
+    let r = rw c.in-Some.is at c.packages_of.ensures in
+    omega (arith, r.3.count, r.3.few)
 
 pub returns-then-is_known : goal.returns-then-is_known
 returns-then-is_known c =
     λ ps k.
     let a = c.args in
-    let r = rw c.in-Read.is at c.packages_of.ensures in
+    let r = rw c.in-Some.is at c.packages_of.ensures in
     let told = rw c.with_news-known.ensures at c.is_known.ensures in
-    rw (c.with_news-known.ensures, c.with_unlisted.ensures) (plt_known a.b.now a.e ps a.packages.now k _ _ _ r (sym told ∙ c.if-is_known.true))
+    rw (c.with_news-known.ensures, c.with_unlisted.ensures) (plt_known a.b.now a.e ps a.packages.now k _ _ r (sym told ∙ c.if-is_known.true))
 
 pub returns : goal.returns
 returns c =
     λ ps k.
     let a = c.args in
-    let r = rw c.in-Read.is at c.packages_of.ensures in
+    let r = rw c.in-Some.is at c.packages_of.ensures in
     let told = rw c.with_news-known.ensures at c.is_known.ensures in
-    rw (c.changed.ensures, c.with_news-known.ensures, c.with_unlisted.ensures) (plt_new a.b.now a.e ps a.packages.now k _ _ _ r (sym told ∙ c.if-is_known.false))
+    rw (c.changed.ensures, c.with_news-known.ensures, c.with_unlisted.ensures) (plt_new a.b.now a.e ps a.packages.now k _ _ r (sym told ∙ c.if-is_known.false))

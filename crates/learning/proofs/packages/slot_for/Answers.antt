@@ -1,21 +1,12 @@
+use Prim.Native.Nat.{◌/◌}
 use native.Mathlib.Omega.{arith}
-use Rattle.learning.proofs.PackageLaws.{passed_none, passed_stop, passed_next, passed_all}
+use Rattle.std.proofs.Common.{rules}
+use Rattle.std.proofs.lemmas.List.Sorted.{answers_always}
+use Rattle.learning.proofs.PackageLaws.{searched}
 use Rattle.learning.proofs.packages.slot_for.Goals as goal
-
-pub loop-i-init : goal.loop-i-init
-loop-i-init c = let a = c.args in passed_none a.service a.n a.fresh.now (omega arith)
-
-pub returns-then-service-fresh : goal.returns-then-service-fresh
-returns-then-service-fresh c =
-    let l = c.loop-i in
-    passed_stop c.args.service c.args.n c.args.fresh.now (omega arith) l.i l.invariant (omega arith) c.if-service-fresh.true
-
-pub loop-i-preserved : goal.loop-i-preserved
-loop-i-preserved c =
-    let l = c.loop-i in
-    passed_next c.args.service c.args.n c.args.fresh.now (omega arith) l.i l.invariant (omega arith) c.if-service-fresh.false
 
 pub returns : goal.returns
 returns c =
-    let l = c.loop-i in
-    passed_all c.args.service c.args.n c.args.fresh.now (omega arith) l.i l.invariant (omega arith)
+    let a = c.args in
+    let e = c.binary_search_by_key.ensures in
+    searched a.service a.n a.fresh.now (omega arith) c.requires.1 _ e.bound (e.position (λ y. y / 65536) (answers_always _ _ _ (λ f x r g called. search rules)))

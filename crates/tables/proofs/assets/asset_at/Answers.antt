@@ -18,15 +18,14 @@ returns-then-len-type_at c =
     let a = c.args in
     entry_cut a.s.now a.at (λ i. omega (arith, c.type_inv.s i)) _ c.wide.result (omega arith) c.wide.ensures.0 refl c.if-len-type_at.true
 
-pub returns-in_default : goal.returns-in_default
-returns-in_default c =
+pub returns-in_err-tail : goal.returns-in_err-tail
+returns-in_err-tail c =
     let a = c.args in
-    entry_broken a.s.now a.at (λ i. omega (arith, c.type_inv.s i)) _ c.wide.result (omega arith) c.wide.ensures.0 refl c.if-len-type_at.false
-    (rw c.in_default.is at c.tail_at.ensures)
+    rw c.from_residual.ensures
+    (entry_broken a.s.now a.at (λ i. omega (arith, c.type_inv.s i)) _ c.wide.result (omega arith) c.wide.ensures.0 refl c.if-len-type_at.false c.in_err-tail.ensures)
 
 pub returns : goal.returns
 returns c =
     let a = c.args in
-    let t = rw c.in-To.is at c.tail_at.ensures in
     entry_whole a.s.now a.at (λ i. omega (arith, c.type_inv.s i)) _ c.wide.result (omega arith) c.wide.ensures.0 refl c.if-len-type_at.false
-    _ _ _ t c.part_of.ensures
+    _ _ c.in_ok-tail.ensures c.part_of.ensures

@@ -6,9 +6,9 @@ pub overflow_add-at : goal.overflow_add-at
 overflow_add-at c =
     omega (arith, (plain_parts c.args.s.now c.args.at c.args.flags c.requires).room)
 
-pub returns-in_default : goal.returns-in_default
-returns-in_default c =
-    plain_broken c.args.s.now c.args.at c.args.flags c.requires (rw c.in_default.is at c.descriptors_end.ensures)
+pub returns-in_err-end : goal.returns-in_err-end
+returns-in_err-end c =
+    rw c.from_residual.ensures (plain_broken c.args.s.now c.args.at c.args.flags c.requires c.in_err-end.ensures)
 
 pub overflow_add-at-2 : goal.overflow_add-at-2
 overflow_add-at-2 c =
@@ -20,4 +20,4 @@ id16-requires c =
 
 pub returns : goal.returns
 returns c =
-    plain_whole c.args.s.now c.args.at c.args.flags c.requires _ _ (rw c.in-At.is at c.descriptors_end.ensures) c.id16.ensures
+    plain_whole c.args.s.now c.args.at c.args.flags c.requires _ _ c.in_ok-end.ensures c.id16.ensures

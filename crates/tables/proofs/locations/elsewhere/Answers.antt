@@ -1,4 +1,7 @@
 use Rattle.tables.proofs.locations.elsewhere.Goals as goal
 
-pub returns-in-At : goal.returns-in-At
-returns-in-At c = rw c.in-At.is
+pub returns-in_err-end : goal.returns-in_err-end
+returns-in_err-end c = rw (c.from_residual.ensures, c.in_err-end.was)
+
+pub returns : goal.returns
+returns c = rw c.in_ok-end.was
