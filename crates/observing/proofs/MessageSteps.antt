@@ -17,6 +17,7 @@ use Rattle.meaning.specs.Tables.{pa}
 use Rattle.meaning.specs.Learn.{Known, Learnt, learn_tables, pa_tables, learn_message, learn_messages, and_lost}
 use Rattle.meaning.proofs.Local.{message_body_local}
 use Rattle.meaning.proofs.Framed.{walk_none, walk_some}
+use Rattle.std.specs.Prelude.{Some}
 use Rattle.tables.specs.Answers.{FrameIs}
 use Rattle.tables.specs.declared.messages.Frame.{Frame}
 use Rattle.learning.specs.News.{also, change_news}
@@ -127,15 +128,15 @@ module _ (s : Bytes) (long : Bool) (q : ℕ) (known : Extent) (a₀ : Kept) (o�
       to_begin (part_step q) (part_new q) (λ fs. learn_messages q (read_each fs)) (λ fs. news_messages q (read_each fs)) (parts_fold q) (parts long) s 0 known a₀ o₀ (omega arith) x
 
   module _ (e : Extent) (at : ℕ) (a : Kept) (o : List ℕ) (i : PartsSofar s long q known a₀ o₀ e at a o) where
-    pub parts_next : (from to : ℕ) (f : FrameIs (message_body long (drop at s)) s at (Frame.Part from to)) (r : Extent) (b : Kept) (o' : List ℕ) → length o' ≡ length o
-        → Learns (part_step q (take (to - from) (drop from s))) (part_new q (take (to - from) (drop from s))) e a o r b o' → r.lost ≤ e.lost + length (take (to - from) (drop from s))
-        → PartsSofar s long q known a₀ o₀ r to b o'
-    parts_next from to f r b o' l g n =
-        let part = take (to - from) (drop from s) in
-        let next_parts : parts long (drop at s) ≡ part ∷ parts long (drop to s) =
-        ap (λ w. w.found) (walk_some (message_body_local long) (body_nil long) (drop at s) part (drop to s) f.3) in
+    pub parts_next : (f : Frame) → FrameIs (message_body long (drop at s)) s at (Some f) → (r : Extent) (b : Kept) (o' : List ℕ) → length o' ≡ length o
+        → Learns (part_step q (take (f.end - f.start) (drop f.start s))) (part_new q (take (f.end - f.start) (drop f.start s))) e a o r b o'
+        → r.lost ≤ e.lost + length (take (f.end - f.start) (drop f.start s)) → PartsSofar s long q known a₀ o₀ r f.end b o'
+    parts_next f h r b o' l g n =
+        let part = take (f.end - f.start) (drop f.start s) in
+        let next_parts : parts long (drop at s) ≡ part ∷ parts long (drop f.end s) =
+        ap (λ w. w.found) (walk_some (message_body_local long) (body_nil long) (drop at s) part (drop f.end s) h.3) in
         to_next (part_step q) (part_new q) (λ fs. learn_messages q (read_each fs)) (λ fs. news_messages q (read_each fs)) (parts_fold q) (parts long) s 0 known a₀ o₀ e at a o i
-        part to (omega (arith, f.0, f.1)) f.2 next_parts r b o' l g (omega (arith, n, f.0, f.1, f.2, length-take (to - from) (drop from s), length-drop from s))
+        part f.end (omega (arith, h.0, h.1)) h.2 next_parts r b o' l g (omega (arith, n, h.0, h.1, h.2, length-take (f.end - f.start) (drop f.start s), length-drop f.start s))
 
     pub parts_done : message_body long (drop at s) ≡ none → Learns (λ k. learn_messages q (read_each (parts long s)) k) (λ k. news_messages q (read_each (parts long s)) k) known a₀ o₀ e a o
     parts_done f =

@@ -1,5 +1,5 @@
 -- The tables of a PA body one after the other, as `learn_pa` meets them. Rests on FoldLaws and on the walk's laws of `tables`.
-use Prim.Native.Nat.{ℕ, ◌+◌, ◌-◌, ◌≤◌, ◌<◌}
+use Prim.Native.Nat.{ℕ, ◌+◌, ◌-◌, ◌≤◌}
 use mathlib.Core.Path.{◌≡◌, refl, ap, ◌∙◌}
 use mathlib.Core.Bool.{Bool, true, false, cond, ◌&&◌}
 use mathlib.Core.List.{List, []}
@@ -13,8 +13,9 @@ use Rattle.meaning.specs.Bytes.{Bytes}
 use Rattle.meaning.specs.Readers.{Out, raw, walk}
 use Rattle.meaning.specs.Tables.{Mpt, mpt, Table, table, is_plt, is_mpt, pa_head, pa}
 use Rattle.meaning.specs.Learn.{Known, learnt, listed, place_for, with_list, mpt_from, learn_mpt, learn_plt, learn_table, learn_tables, pa_tables}
+use Rattle.std.specs.Prelude.{Some}
 use Rattle.tables.specs.Answers.{TableIs, PaHeadIs}
-use Rattle.tables.specs.declared.fields.End.TheVariants.{At}
+use Rattle.tables.specs.declared.pa.Table as code
 use Rattle.tables.specs.declared.pa.Table.TheVariants.{To}
 use Rattle.tables.proofs.WalkLaws.{table_at, walk_next, walk_stops}
 use Rattle.learning.specs.declared.Extent.{Extent}
@@ -72,6 +73,12 @@ module _ (s : Bytes) (at e : ℕ) (h : TableIs (table (drop at s)) s at (To e)) 
         body = b i;
       }
 
+-- no table stands where the code finds none
+pub no_table : (s : Bytes) (at : ℕ) (r : code.Table) → ((e : ℕ) → r ≡ To e → ⊥) → TableIs (table (drop at s)) s at r → table (drop at s) ≡ none
+no_table s at (code.Table.To e) k h = absurd (k e refl)
+no_table s at code.Table.Cut k h = h.0
+no_table s at code.Table.Done k h = h.0
+
 -- ---- those before `at` are learned
 
 abbrev pub found : Bytes → List (Table × Bytes)
@@ -85,12 +92,6 @@ module _ (s : Bytes) (q tables : ℕ) (known : Extent) (a₀ : Kept) (o₀ : Lis
   tables_begin l x = to_begin (λ t. learn_table q t.0) (λ t. news_table q t.0) (learn_tables q) (news_tables q) (tables_fold q) found s tables known a₀ o₀ l x
 
   module _ (e : Extent) (at : ℕ) (a : Kept) (o : List ℕ) (i : TablesSofar s q tables known a₀ o₀ e at a o) where
-    pub tables_room : known.lost + length s ≤ 18446744073709551615 → (to : ℕ) → TableIs (table (drop at s)) s at (To to)
-        → (4 ≤ length (take (to - at) (drop at s))) × (e.lost < 18446744073709551615) × KeepsSome e a o
-    tables_room few to t =
-        let n = length-take-le (to - at) (drop at s) (omega (arith, length-drop at s, t.0, t.1)) in
-        (omega (arith, n, t.0), omega (arith, i.countable, few, t.0, t.1), i.some_known)
-
     pub tables_next : (to : ℕ) (t : TableIs (table (drop at s)) s at (To to)) (r : Extent) (b : Kept) (o' : List ℕ) → length o' ≡ length o
         → Learns (learn_table q (table_in (take (to - at) (drop at s)))) (news_table q (table_in (take (to - at) (drop at s)))) e a o r b o'
         → TablesSofar s q tables known a₀ o₀ r to b o'
@@ -116,6 +117,6 @@ pub pa_none : (s : Bytes) → pa_head s ≡ none → pa_tables (pa s) ≡ []
 unfolding pa
 pa_none s e = rw e
 
-pub pa_found : (s : Bytes) (n : ℕ) → PaHeadIs (pa_head s) s (At n) → pa_tables (pa s) ≡ found (drop n s)
+pub pa_found : (s : Bytes) (n : ℕ) → PaHeadIs (pa_head s) s (Some n) → pa_tables (pa s) ≡ found (drop n s)
 unfolding pa
 pa_found s n h = rw h.2.1

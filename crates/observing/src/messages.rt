@@ -11,8 +11,7 @@ use learning::lists::mpt;
 use learning::packages::plt;
 use learning::{Extent, Kept, changed, with_news};
 use octets::IdSet;
-use tables::fields::End;
-use tables::messages::{Found, Frame, frame_at, message};
+use tables::messages::{frame_at, message_of};
 use tables::pa::{Table, is_mpt, pa_tables, table_at};
 
 // A table: a PLT on identifier 0, or an MPT.
@@ -39,19 +38,16 @@ fn learn_pa(s: &[u8], id: u16, known: Extent, kept: &mut Kept, map_room: &mut [u
     requires { (known.lost + length s.now ≤ 18446744073709551615) × KeepsSome known kept.old map_room.old }
     ensures { (Learns (learn_tables id (pa_tables (pa s.now))) (news_tables id (pa_tables (pa s.now))) known kept.old map_room.old result kept.new map_room.new) × (result.lost ≤ known.lost + length s.now) }
 {
-    let mut e = known;
-    let End::At(tables) = pa_tables(s) else {
-        return e;
+    let Some(tables) = pa_tables(s) else {
+        return known;
     };
+    let mut e = known;
     let mut at = tables;
-    loop {
-        let from = at;
-        let Table::To(end) = table_at(s, from) else {
-            return e;
-        };
+    while let Table::To(end) = table_at(s, at) {
+        e = learn_table(&s[at..end], id, e, kept, map_room);
         at = end;
-        e = learn_table(&s[from..end], id, e, kept, map_room);
     }
+    e
 }
 
 // Makes `id` a data-carousel identifier.
@@ -71,13 +67,13 @@ fn learn_message(s: &[u8], id: u16, e: Extent, kept: &mut Kept, map_room: &mut [
     requires { (e.lost + length s.now ≤ 18446744073709551615) × KeepsSome e kept.old map_room.old }
     ensures { (Learns (learn_messages id (cons_message (message s.now) [])) (news_messages id (cons_message (message s.now) [])) e kept.old map_room.old result kept.new map_room.new) × (result.lost ≤ e.lost + length s.now) }
 {
-    let Found::Message { number, start, end } = message(s) else {
+    let Some(m) = message_of(s) else {
         return e;
     };
-    if number == 0 {
-        return learn_pa(&s[start..end], id, e, kept, map_room);
+    if m.number == 0 {
+        return learn_pa(&s[m.start..m.end], id, e, kept, map_room);
     }
-    if number == 0x8003 {
+    if m.number == 0x8003 {
         return learn_data(id, e, &mut kept.data_set);
     }
     e
@@ -97,13 +93,11 @@ fn learn_aggregate(
 {
     let mut e = known;
     let mut at: usize = 0;
-    loop {
-        let Frame::Part(start, end) = frame_at(s, at, long) else {
-            return e;
-        };
-        at = end;
-        e = learn_message(&s[start..end], id, e, kept, map_room);
+    while let Some(part) = frame_at(s, at, long) {
+        e = learn_message(&s[part.start..part.end], id, e, kept, map_room);
+        at = part.end;
     }
+    e
 }
 
 // Which part of a message a payload brings, by the top two bits of its first byte.

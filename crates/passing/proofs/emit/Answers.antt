@@ -1,9 +1,6 @@
-use mathlib.Core.Path.{refl, sym, ◌∙◌}
+use mathlib.Core.Path.{sym, ◌∙◌}
 use Rattle.passing.proofs.SignalLaws.{narrows_as}
 use Rattle.passing.proofs.emit.Goals as goal
-
-pub returns-then-has : goal.returns-then-has
-returns-then-has c = rw (sym c.has.ensures ∙ c.if-has.true) (c.taken_in.ensures, refl)
 
 pub returns : goal.returns
 returns c =

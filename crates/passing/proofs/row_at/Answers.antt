@@ -7,17 +7,11 @@ use Rattle.passing.proofs.row_at.Goals as goal
 pub loop-at-init : goal.loop-at-init
 loop-at-init c = row_begin _ _ _ _ _ c.requires
 
-pub overflow_sub-at : goal.overflow_sub-at
-overflow_sub-at c = omega (arith, c.loop-at.invariant.forth)
-
 pub overflow_add-at : goal.overflow_add-at
 overflow_add-at c = omega (arith, (packet_to c.args.limit c.args.run.now c.loop-at.at c.in-Packet.n (sym c.next.ensures ∙ c.in-Packet.is)).inside)
 
 pub slice_bounds-verdict_of-end : goal.slice_bounds-verdict_of-end
 slice_bounds-verdict_of-end c = omega (arith, (packet_to c.args.limit c.args.run.now c.loop-at.at c.in-Packet.n (sym c.next.ensures ∙ c.in-Packet.is)).inside)
-
-pub overflow_add-count : goal.overflow_add-count
-overflow_add-count c = omega (arith, c.loop-at.invariant.few, (packet_to c.args.limit c.args.run.now c.loop-at.at c.in-Packet.n (sym c.next.ensures ∙ c.in-Packet.is)).forth, (packet_to c.args.limit c.args.run.now c.loop-at.at c.in-Packet.n (sym c.next.ensures ∙ c.in-Packet.is)).inside)
 
 pub loop-at-smaller : goal.loop-at-smaller
 loop-at-smaller c = omega (arith, (packet_to c.args.limit c.args.run.now c.loop-at.at c.in-Packet.n (sym c.next.ensures ∙ c.in-Packet.is)).forth, (packet_to c.args.limit c.args.run.now c.loop-at.at c.in-Packet.n (sym c.next.ensures ∙ c.in-Packet.is)).inside)
@@ -29,17 +23,3 @@ pub returns-in-Withhold : goal.returns-in-Withhold
 returns-in-Withhold c =
     rw c.row_to.ensures
     (row_stops _ _ _ _ _ _ _ (Stop.Withhold _) ((packet_to c.args.limit c.args.run.now c.loop-at.at c.in-Packet.n (sym c.next.ensures ∙ c.in-Packet.is)), rw c.in-Withhold.is at c.verdict_of.ensures) c.loop-at.invariant)
-
-pub returns-in-Signalling : goal.returns-in-Signalling
-returns-in-Signalling c =
-    rw c.row_to-in-Signalling.ensures
-    (row_stops _ _ _ _ _ _ _ (Stop.Signalling _) ((packet_to c.args.limit c.args.run.now c.loop-at.at c.in-Packet.n (sym c.next.ensures ∙ c.in-Packet.is)), rw c.in-Signalling.is at c.verdict_of.ensures) c.loop-at.invariant)
-
-pub returns-in-Skip : goal.returns-in-Skip
-returns-in-Skip c = rw c.row_to-in-Skip.ensures (row_stops _ _ _ _ _ _ _ Stop.Skip (sym c.next.ensures ∙ c.in-Skip.is) c.loop-at.invariant)
-
-pub returns-in-Keep : goal.returns-in-Keep
-returns-in-Keep c = rw c.row_to-in-Keep.ensures (row_stops _ _ _ _ _ _ _ Stop.Keep (sym c.next.ensures ∙ c.in-Keep.is) c.loop-at.invariant)
-
-pub returns : goal.returns
-returns c = rw c.row_to-2.ensures (row_stops _ _ _ _ _ _ _ Stop.More (omega (arith, c.loop-at-test)) c.loop-at.invariant)

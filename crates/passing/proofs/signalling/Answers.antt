@@ -1,20 +1,10 @@
 use lib.ListN.{length}
 use Rattle.meaning.specs.Push.{pass}
-use Rattle.passing.proofs.SignalLaws.{part_is, holding_anew, observer_fits, emitter_fits, signalled, fits_after}
+use Rattle.passing.proofs.SignalLaws.{part_is, holding_anew, emitter_fits, signalled, fits_after}
 use Rattle.passing.proofs.SparingLaws.{spares}
 use native.Mathlib.Omega.{arith}
 use Rattle.learning.proofs.PairLaws.{pairs_in_lem}
 use Rattle.passing.proofs.signalling.Goals as goal
-
-pub observe-extent-requires : goal.observe-extent-requires
-observe-extent-requires c =
-    let a = c.args in
-    let x = c.requires.2 in
-    let h = x.7.holding in
-    rw (c.with_news-before.ensures, c.no_news.ensures, part_is _ c.requires.0.1 c.packet_payload-payload.ensures) (
-      observer_fits a.s.extent.lost _ c.requires.0.1 c.requires.1.lost_fit (rw h.fragments_kept.total h.fragments_kept.total_few),
-      (x.0.total, (pass x.0 a.t.modes a.t.options x.1 x.4).known, holding_anew h),
-    )
 
 pub refreshed-requires : goal.refreshed-requires
 refreshed-requires c =
