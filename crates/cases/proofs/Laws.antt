@@ -29,19 +29,6 @@ pub six : (n : Narrowing) → length (front_bytes n) ≡ 6
 unfolding front_bytes put32 put16
 six n = refl
 
-module _ (case_kind : ℕ) (M : Modes) (o : Options) (id : ℕ) (input : Bytes) where
-  pub case_table : case_kind ≡ 1 → change_as case_kind M o id input ≡ change_table o input
-  unfolding change_as
-  case_table k = rw (eq-eqb case_kind 1 k)
-
-  pub case_payload : (case_kind ≡ 1 → ⊥) → case_kind ≡ 2 → change_as case_kind M o id input ≡ change_payload o id input
-  unfolding change_as
-  case_payload n k = rw (ne_eqb case_kind 1 n, eq-eqb case_kind 2 k)
-
-  pub case_packet : (case_kind ≡ 1 → ⊥) → (case_kind ≡ 2 → ⊥) → change_as case_kind M o id input ≡ change_packet M o input
-  unfolding change_as
-  case_packet n m = rw (ne_eqb case_kind 1 n, ne_eqb case_kind 2 m)
-
 pub head_is : (s : Bytes) (at modes : ℕ) {o : Options} {M : Modes} {p id out input : ℕ} → p ≡ be16_at s at → o ≡ options_of (get_or s 0 0) p → M ≡ modes_of modes → id ≡ be16_at s (at + 2) → out ≡ be32_at s (at + 4)
     → input ≡ be32_at s (at + 8) → ◌≡◌ {A = Head} (record { options = o; modes = M; id = id; out = out; input = input }) (head_at s at modes)
 unfolding head_at

@@ -14,7 +14,7 @@ use Rattle.meaning.specs.declared.Options.{Options}
 use Rattle.meaning.specs.declared.Modes.{Modes}
 use Rattle.cases.specs.declared.streams.Asked.{Asked}
 use Rattle.cases.specs.Answers.{modes_of}
-use Rattle.cases.specs.Streams.{asked_at, head_fits, LengthsFit}
+use Rattle.cases.specs.Streams.{asked_at, head_fits, Fits, LengthsFit}
 
 module _ {s : Bytes} {most : ℕ} where
   pub fit_none : LengthsFit s 0 most
@@ -47,21 +47,13 @@ pub asked_is : (s : Bytes) (at modes : ℕ) {o : Options} {M : Modes} {p work to
 unfolding asked_at
 asked_is s at modes i o k w t m n = rw (o, i, k, w, t, m, n)
 
--- Each room is as long as is asked for, and there are no more calls than the program has lengths for.
-pub record Roomy (h : Asked) (work total map_room out : ℕ) : Type 0 where
-  pub work_fits : h.work ≤ work
-  pub total_fits : h.total ≤ total
-  pub map_room_fits : h.map_room ≤ map_room
-  pub out_fits : h.out ≤ out
-  pub calls_fit : h.calls ≤ 1024
-
-pub fits_rooms : {h : Asked} {work total map_room out : ℕ} → head_fits h work total map_room out ≡ true → Roomy h work total map_room out
+pub fits_rooms : {h : Asked} → head_fits h 131200 1048576 33000 262400 ≡ true → Fits h
 unfolding head_fits
-fits_rooms {h} {work} {total} {map_room} {out} e =
+fits_rooms {h} e =
     let d = and_both _ (leb h.calls 1024) e in
-    let c = and_both _ (leb h.out out) d.0 in
-    let b = and_both _ (leb h.map_room map_room) c.0 in
-    let a = and_both (leb h.work work) (leb h.total total) b.0 in
+    let c = and_both _ (leb h.out 262400) d.0 in
+    let b = and_both _ (leb h.map_room 33000) c.0 in
+    let a = and_both (leb h.work 131200) (leb h.total 1048576) b.0 in
     record {
       work_fits = leb-true _ _ a.0;
       total_fits = leb-true _ _ a.1;

@@ -1,5 +1,5 @@
 -- The bytes of an answer's head, and what a case asks for: docs/ARCHITECTURE.md, "Format of cases and answers".
-use Rattle.std.specs.Prelude.{ℕ, ◌+◌, ◌%◌, cond, List, [], ◌∷◌, ◌++◌, eqb, get_or}
+use Rattle.std.specs.Prelude.{ℕ, ◌+◌, ◌%◌, cond, List, [], ◌∷◌, ◌++◌, eqb, get_or, Result, Ok, Err}
 use Rattle.std.proofs.Math.Option.{Option}
 use Rattle.meaning.specs.Bytes.{Bytes, be16_at, be32_at, put32}
 use Rattle.meaning.specs.Narrow.{Change, change_table, change_payload, change_packet}
@@ -9,6 +9,8 @@ use Rattle.meaning.specs.declared.Narrowing.{Narrowing}
 use Rattle.meaning.specs.declared.Options.{Options}
 use Rattle.meaning.specs.declared.Modes.{Modes}
 use Rattle.cases.specs.declared.Head.{Head}
+use Rattle.cases.specs.declared.Given.{Given}
+use Rattle.cases.specs.declared.CaseKind.{CaseKind}
 
 unfoldable pub changed_flag : Narrowing → ℕ
 unfolding narrowing_changed
@@ -28,9 +30,24 @@ front_bytes n = (narrowing_number n ∷ []) ++ ((changed_flag n ∷ []) ++ put32
 unfoldable pub head_bytes : Narrowing → List ℕ → List ℕ → Bytes
 head_bytes n stayed went = front_bytes n ++ (row_bytes stayed ++ row_bytes went)
 
--- What a narrowing of a case kind, a table, a payload or else a packet, changes; the identifier is read for a payload alone.
-unfoldable pub change_as : ℕ → Modes → Options → ℕ → Bytes → Option Change
-change_as case_kind M o id input = cond (eqb case_kind 1) (change_table o input) (cond (eqb case_kind 2) (change_payload o id input) (change_packet M o input))
+-- The case kind of a number, or the number where there is none.
+unfoldable pub kind_of : ℕ → Result CaseKind ℕ
+kind_of n =
+    cond (eqb n 0) (Ok CaseKind.Stream)
+    (cond (eqb n 1) (Ok (CaseKind.Narrowing Given.Table))
+    (cond (eqb n 2) (Ok (CaseKind.Narrowing Given.Payload))
+    (cond (eqb n 3) (Ok (CaseKind.Narrowing Given.Packet))
+    (cond (eqb n 4) (Ok CaseKind.Calls)
+    (cond (eqb n 7) (Ok (CaseKind.WithModes Given.Table))
+    (cond (eqb n 8) (Ok (CaseKind.WithModes Given.Payload))
+    (cond (eqb n 9) (Ok (CaseKind.WithModes Given.Packet))
+    (Err n))))))))
+
+-- What a narrowing of a table, a payload or a packet changes; the identifier is read for a payload alone.
+abbrev pub change_as : Given → Modes → Options → ℕ → Bytes → Option Change
+change_as Given.Table M o id input = change_table o input
+change_as Given.Payload M o id input = change_payload o id input
+change_as Given.Packet M o id input = change_packet M o input
 
 -- The modes of a byte: bit 0 plain IP.
 unfoldable pub modes_of : ℕ → Modes

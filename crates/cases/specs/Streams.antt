@@ -1,6 +1,6 @@
 -- What the head of a stream asks for, whether lengths fit, and the bytes before those of a call: docs/ARCHITECTURE.md, "Format of cases
 -- and answers".
-use Rattle.std.specs.Prelude.{ℕ, ◌+◌, ◌*◌, ◌≤◌, ◌<◌, ◌≡◌, Bool, true, false, ◌&&◌, List, [], ◌∷◌, ◌++◌, leb, get_or}
+use Rattle.std.specs.Prelude.{ℕ, ◌+◌, ◌*◌, ◌≤◌, ◌<◌, ◌≡◌, Bool, true, false, ◌&&◌, List, [], ◌∷◌, ◌++◌, leb, get_or, Option, IfSome}
 use Rattle.meaning.specs.Bytes.{Bytes, be16_at, be32_at, put32}
 use Rattle.meaning.specs.Record.{Record}
 use Rattle.meaning.specs.Programs.{options_of}
@@ -30,6 +30,14 @@ unfoldable pub head_fits : Asked → ℕ → ℕ → ℕ → ℕ → Bool
 head_fits h work total map_room out =
     leb h.work work && leb h.total total && leb h.map_room map_room && leb h.out out && leb h.calls 1024
 
+-- Then each part that is asked for lies in its room, and there are no more calls than the program has lengths for.
+pub record Fits (h : Asked) : Type 0 where
+  pub work_fits : h.work ≤ 131200
+  pub total_fits : h.total ≤ 1048576
+  pub map_room_fits : h.map_room ≤ 33000
+  pub out_fits : h.out ≤ 262400
+  pub calls_fit : h.calls ≤ 1024
+
 -- Each of the first n lengths is at most `most`.
 pub record LengthsFit (s : Bytes) (n most : ℕ) : Type 0 where
   pub each : (i : ℕ) → i < n → be32_at s (4 * i) ≤ most
@@ -48,6 +56,6 @@ call_bytes number c held_count =
     ++ put32 c.lost))
 
 -- What a push promises, with the record that it hands back.
-abbrev pub CallAs : Record → Bytes → Bytes → List ℕ → Bytes → Bytes → Filter → Bytes → Bytes → List ℕ → Bytes → Type 0
+abbrev pub CallAs : Record → Bytes → Bytes → List ℕ → Bytes → Bytes → Option Filter → Bytes → Bytes → List ℕ → Bytes → Type 0
 CallAs r work bodies map_room chunk out f work' bodies' map_room' out' =
-    (x : Pushed) × PushedAs r work bodies map_room chunk out x work' bodies' map_room' out' × (f ≡ x.filter)
+    (x : Pushed) × PushedAs r work bodies map_room chunk out x work' bodies' map_room' out' × IfSome f (λ g. g ≡ x.filter)

@@ -9,7 +9,7 @@ ghost use Rattle.meaning.specs.Writing.{Wrote};
 ghost use Rattle.meaning.specs.Narrow.{narrow_refusal};
 ghost use Rattle.meaning.specs.Refusals.{narrowing_number, narrowing_length};
 ghost use Rattle.narrowing.specs.Answers.{NarrowedAs};
-ghost use Rattle.cases.specs.Answers.{changed_flag, three_bytes, row_bytes, front_bytes, head_bytes, change_as, modes_of, head_at};
+ghost use Rattle.cases.specs.Answers.{changed_flag, three_bytes, row_bytes, front_bytes, head_bytes, kind_of, change_as, modes_of, head_at};
 
 mod calls;
 mod streams;
@@ -34,6 +34,54 @@ pub const BODIES: usize = 1048576;
 
 pub const MAP_ROOM: usize = 33000;
 
+// The rooms beside that of a chunk: the filter's three, and the output.
+#[derive(Drop)]
+pub struct Rooms {
+    pub work: [u8; WORK],
+    pub bodies: [u8; BODIES],
+    pub map_room: [u16; MAP_ROOM],
+    pub out: [u8; OUTPUT],
+}
+
+// What is given to be narrowed.
+#[derive(Clone, Copy)]
+pub enum Given {
+    Table,
+    Payload,
+    Packet,
+}
+
+// A case's kind: a stream, calls, or a narrowing, with no modes or with modes.
+#[derive(Clone, Copy)]
+pub enum CaseKind {
+    Stream,
+    Calls,
+    Narrowing(Given),
+    WithModes(Given),
+}
+
+impl TryFrom<u8> for CaseKind {
+    type Error = u8;
+
+    ghost try_from_gives = { λ number kind. kind ≡ kind_of number };
+
+    #[tactic(auto, unfolding(crate::specs::Answers::kind_of))]
+    fn try_from(number: u8) -> Result<Self, u8> {
+        match number {
+            0 => Ok(CaseKind::Stream),
+            1 => Ok(CaseKind::Narrowing(Given::Table)),
+            2 => Ok(CaseKind::Narrowing(Given::Payload)),
+            3 => Ok(CaseKind::Narrowing(Given::Packet)),
+            4 => Ok(CaseKind::Calls),
+            7 => Ok(CaseKind::WithModes(Given::Table)),
+            8 => Ok(CaseKind::WithModes(Given::Payload)),
+            9 => Ok(CaseKind::WithModes(Given::Packet)),
+            _ => Err(number),
+        }
+    }
+}
+
+#[tactic(auto, unfolding(meaning::specs::Refusals::narrowing_number))]
 fn refused_number(n: Narrowing) -> u8
     ensures { result ≡ narrowing_number n }
 {
@@ -44,6 +92,7 @@ fn refused_number(n: Narrowing) -> u8
     }
 }
 
+#[tactic(auto, unfolding(crate::specs::Answers::changed_flag))]
 fn changed_flag(n: Narrowing) -> u8
     ensures { result ≡ changed_flag n }
 {
@@ -54,6 +103,7 @@ fn changed_flag(n: Narrowing) -> u8
     }
 }
 
+#[tactic(auto, unfolding(meaning::specs::Refusals::narrowing_length))]
 fn changed_length(n: Narrowing) -> usize
     ensures { result ≡ narrowing_length n }
 {
@@ -105,55 +155,27 @@ fn put_head(out: &mut [u8], r: Narrowed) -> usize
     put_row(out, b, went)
 }
 
-// The head of an answer, and the bytes that were written; answers whether both were taken.
-fn tell(rt: HostRuntime, r: Narrowed, out: &[u8]) -> bool
+// The head of an answer, and the bytes that were written; none where a write failed.
+fn tell(rt: HostRuntime, r: Narrowed, out: &[u8]) -> Option<()>
     requires { narrowing_length r.narrowing ≤ length out.now }
 {
     let mut head = [0u8; 30];
     put_head(&mut head, r);
-    if !write_all(rt, &head) {
-        return false;
-    }
+    write_all(rt, &head)?;
     let n = r.narrowing;
     let len = changed_length(n);
     write_all(rt, &out[0..len])
 }
 
-// The answer to a case of case kind 1 to 3, or to one of 7 to 9 that is the same with modes.
-fn narrow(
-    case_kind: u8,
-    o: Options,
-    modes: Modes,
-    id: u16,
-    input: &[u8],
-    out: &mut [u8],
-) -> Narrowed
-    ensures { NarrowedAs (narrow_refusal (length input.now) (length out.old)) (change_as case_kind modes o id input.now) out.old out.new result.narrowing result.stayed result.went }
+// The answer to a narrowing.
+fn narrow(given: Given, o: Options, modes: Modes, id: u16, input: &[u8], out: &mut [u8]) -> Narrowed
+    ensures { NarrowedAs (narrow_refusal (length input.now) (length out.old)) (change_as given modes o id input.now) out.old out.new result.narrowing result.stayed result.went }
 {
-    if case_kind == 1 {
-        return narrow_table(input, o, out);
+    match given {
+        Given::Table => narrow_table(input, o, out),
+        Given::Payload => narrow_payload(input, id, o, modes, out),
+        Given::Packet => narrow_packet(input, o, modes, out),
     }
-    if case_kind == 2 {
-        return narrow_payload(input, id, o, modes, out);
-    }
-    narrow_packet(input, o, modes, out)
-}
-
-// The input of a case, its narrowing and the answer; answers whether another may follow.
-fn answer_case(
-    rt: HostRuntime,
-    case_kind: u8,
-    o: Options,
-    modes: Modes,
-    id: u16,
-    input: &mut [u8],
-    out: &mut [u8],
-) -> bool {
-    if !fill_all(rt, input) {
-        return false;
-    }
-    let r = narrow(case_kind, o, modes, id, input, out);
-    tell(rt, r, out)
 }
 
 // The modes of a byte, one bit each.
@@ -189,109 +211,73 @@ fn head_at(head: &[u8], at: usize, modes: u8) -> Head
     }
 }
 
-// One narrowing, within the rooms that are lent; answers whether another case may follow.
+// One narrowing: its input and the answer. None, here and below, where the program ends: no other case may follow.
 fn one_narrowing(
     rt: HostRuntime,
-    case_kind: u8,
+    given: Given,
     h: Head,
-    input: &mut [u8],
-    out: &mut [u8],
-) -> bool {
-    let n = h.out;
-    let len = h.input;
-    if out.len() < n {
-        return false;
-    }
-    if input.len() < len {
-        return false;
-    }
+    input: &mut [u8; INPUT],
+    out: &mut [u8; OUTPUT],
+) -> Option<()> {
+    let lent = out.get_mut(0..h.out)?;
+    let came = input.get_mut(0..h.input)?;
+    fill_all(rt, came)?;
     let o = h.options;
     let m = h.modes;
-    answer_case(
-        rt,
-        case_kind,
-        o,
-        m,
-        h.id,
-        &mut input[0..len],
-        &mut out[0..n],
-    )
+    let r = narrow(given, o, m, h.id, came, lent);
+    tell(rt, r, lent)
 }
 
-// One case of case kind 1 to 3.
+// A narrowing with no modes.
 fn plain_case(
     rt: HostRuntime,
-    case_kind: u8,
+    given: Given,
     input: &mut [u8; INPUT],
     out: &mut [u8; OUTPUT],
-) -> bool {
+) -> Option<()> {
     let mut head = [0u8; 13];
-    if !fill_all(rt, &mut head) {
-        return false;
-    }
+    fill_all(rt, &mut head)?;
     if 15 < head[0] {
-        return false;
+        return None;
     }
-    one_narrowing(rt, case_kind, head_at(&head, 1, 0), input, out)
+    one_narrowing(rt, given, head_at(&head, 1, 0), input, out)
 }
 
-// One case of case kind 7 to 9, which are 1 to 3 with the wishes of case kind 4 and a byte of modes, of which bit 0 has a meaning.
+// A narrowing with the wishes of case kind 4 and a byte of modes, of which bit 0 has a meaning.
 fn case_with_modes(
     rt: HostRuntime,
-    case_kind: u8,
+    given: Given,
     input: &mut [u8; INPUT],
     out: &mut [u8; OUTPUT],
-) -> bool {
+) -> Option<()> {
     let mut head = [0u8; 14];
-    if !fill_all(rt, &mut head) {
-        return false;
-    }
+    fill_all(rt, &mut head)?;
     if 31 < head[0] {
-        return false;
+        return None;
     }
     let modes = head[1];
     if 1 < modes {
-        return false;
+        return None;
     }
-    one_narrowing(rt, case_kind % 6, head_at(&head, 2, modes), input, out)
+    one_narrowing(rt, given, head_at(&head, 2, modes), input, out)
 }
 
-// One case after its case kind; answers whether another may follow.
-fn one_case(
-    rt: HostRuntime,
-    case_kind: u8,
-    input: &mut [u8; INPUT],
-    work: &mut [u8; WORK],
-    bodies: &mut [u8; BODIES],
-    map_room: &mut [u16; MAP_ROOM],
-    out: &mut [u8; OUTPUT],
-) -> bool {
-    match case_kind {
-        0 => stream(rt, input, work, bodies, map_room, out),
-        1 | 2 | 3 => plain_case(rt, case_kind, input, out),
-        4 => calls(rt, input, work, bodies, map_room, out),
-        7 | 8 | 9 => case_with_modes(rt, case_kind, input, out),
-        _ => false,
+// One case.
+fn one_case(rt: HostRuntime, input: &mut [u8; INPUT], rooms: &mut Rooms) -> Option<()> {
+    let mut number = [0u8; 1];
+    fill_all(rt, &mut number)?;
+    match CaseKind::try_from(number[0]).ok()? {
+        CaseKind::Stream => stream(rt, input, rooms),
+        CaseKind::Calls => calls(rt, input, rooms),
+        CaseKind::Narrowing(given) => plain_case(rt, given, input, &mut rooms.out),
+        CaseKind::WithModes(given) => case_with_modes(rt, given, input, &mut rooms.out),
     }
 }
 
 // The cases in turn, in rooms that the caller lends: a loop beside large arrays of its own takes long to prove.
-fn in_turn(
-    rt: HostRuntime,
-    input: &mut [u8; INPUT],
-    work: &mut [u8; WORK],
-    bodies: &mut [u8; BODIES],
-    map_room: &mut [u16; MAP_ROOM],
-    out: &mut [u8; OUTPUT],
-) {
-    let mut case_kind = [0u8; 1];
-    let mut turns = u64::MAX;
-    while 0 < turns {
-        turns -= 1;
-        if !fill_all(rt, &mut case_kind) {
-            return;
-        }
-        if !one_case(rt, case_kind[0], input, work, bodies, map_room, out) {
+fn in_turn(rt: HostRuntime, input: &mut [u8; INPUT], rooms: &mut Rooms) {
+    for _ in 0..u64::MAX {
+        if one_case(rt, input, rooms).is_none() {
             return;
         }
     }
@@ -300,16 +286,11 @@ fn in_turn(
 // Answers to all cases of the input.
 pub fn answer_all(rt: HostRuntime) {
     let mut input = [0u8; INPUT];
-    let mut work = [0u8; WORK];
-    let mut bodies = [0u8; BODIES];
-    let mut map_room = [0u16; MAP_ROOM];
-    let mut out = [0u8; OUTPUT];
-    in_turn(
-        rt,
-        &mut input,
-        &mut work,
-        &mut bodies,
-        &mut map_room,
-        &mut out,
-    );
+    let mut rooms = Rooms {
+        work: [0u8; WORK],
+        bodies: [0u8; BODIES],
+        map_room: [0u16; MAP_ROOM],
+        out: [0u8; OUTPUT],
+    };
+    in_turn(rt, &mut input, &mut rooms);
 }

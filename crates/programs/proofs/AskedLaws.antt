@@ -17,7 +17,7 @@ use Rattle.meaning.specs.declared.Refusal.TheVariants.{Input, Wishes}
 use Rattle.meaning.specs.declared.Service.{Service}
 use Rattle.meaning.specs.declared.Service.TheVariants.{Every, Only}
 use Rattle.meaning.proofs.ListLaws.{or_true}
-use Rattle.programs.specs.declared.asked.Asked.{Asked}
+use Rattle.std.specs.Prelude.{Ok, Err}
 use Rattle.programs.specs.Asked.{asked_of}
 
 pub service_named : (f s : ℕ) → f ≡ 1 → Only s ≡ service_if f s
@@ -51,14 +51,14 @@ not_refused [] h k = absurd (omega arith)
 not_refused (a ∷ s) h k = rw (le-ltb (length s) 2 (omega arith), le-ltb 31 a k)
 
 module _ (s : Bytes) where
-  asked_nothing : input_refused s ≡ true → Asked.Refused Input ≡ asked_of s
+  asked_nothing : input_refused s ≡ true → Err Input ≡ asked_of s
   unfolding asked_of
   asked_nothing e = rw e
 
-  pub asked_short : length s < 3 → Asked.Refused Input ≡ asked_of s
+  pub asked_short : length s < 3 → Err Input ≡ asked_of s
   asked_short h = asked_nothing (refused_short s h)
 
-  pub asked_flags : 31 < get_or s 0 0 → Asked.Refused Input ≡ asked_of s
+  pub asked_flags : 31 < get_or s 0 0 → Err Input ≡ asked_of s
   asked_flags h = asked_nothing (refused_flags s h)
 
   -- By the options that are read from a head.
@@ -67,29 +67,29 @@ module _ (s : Bytes) where
     unfolding input_options
     read_options = rw (f, e)
 
-    pub asked_neither : wants_assets o ≡ false → Asked.Refused Wishes ≡ asked_of s
+    pub asked_neither : wants_assets o ≡ false → Err Wishes ≡ asked_of s
     unfolding asked_of
     asked_neither w = rw (not_refused s h k, ap wants_assets (sym read_options) ∙ w)
 
-    pub asked_for : wants_assets o ≡ true → Asked.For o ≡ asked_of s
+    pub asked_for : wants_assets o ≡ true → Ok o ≡ asked_of s
     unfolding asked_of
     asked_for w = rw (not_refused s h k, ap wants_assets (sym read_options) ∙ w, read_options)
 
   -- What is told of the input.
-  pub refusal_asked : {r : Refusal} → asked_of s ≡ Asked.Refused r → input_refusal s ≡ number_of r
+  pub refusal_asked : {r : Refusal} → asked_of s ≡ Err r → input_refusal s ≡ number_of r
   unfolding asked_of input_refusal number_of
   refusal_asked {r} e = go (input_refused s) (wants_assets (input_options s)) e
     where
-      go : (b w : Bool) → cond b (Asked.Refused Input) (cond w (Asked.For (input_options s)) (Asked.Refused Wishes)) ≡ Asked.Refused r → cond b 8 (cond w 0 9) ≡ number_of r
+      go : (b w : Bool) → cond b (Err Input) (cond w (Ok (input_options s)) (Err Wishes)) ≡ Err r → cond b 8 (cond w 0 9) ≡ number_of r
       go true w q = let z : Input ≡ r = cc in ap number_of z
       go false true q = let z : ◌≡◌ {A = ℕ} 0 1 = cc in absurd (omega arith)
       go false false q = let z : Wishes ≡ r = cc in ap number_of z
 
-  pub options_asked : {o : Options} → asked_of s ≡ Asked.For o → (input_refusal s ≡ 0) × (o ≡ input_options s) × (wants_assets o ≡ true)
+  pub options_asked : {o : Options} → asked_of s ≡ Ok o → (input_refusal s ≡ 0) × (o ≡ input_options s) × (wants_assets o ≡ true)
   unfolding asked_of input_refusal
   options_asked {o} e = go (input_refused s) (wants_assets (input_options s)) refl e
     where
-      go : (b w : Bool) → wants_assets (input_options s) ≡ w → cond b (Asked.Refused Input) (cond w (Asked.For (input_options s)) (Asked.Refused Wishes)) ≡ Asked.For o
+      go : (b w : Bool) → wants_assets (input_options s) ≡ w → cond b (Err Input) (cond w (Ok (input_options s)) (Err Wishes)) ≡ Ok o
           → ◌≡◌ {A = ℕ} (cond b 8 (cond w 0 9)) 0 × (o ≡ input_options s) × (wants_assets o ≡ true)
       go true w k q = let z : ◌≡◌ {A = ℕ} 0 1 = cc in absurd (omega arith)
       go false true k q = let z : o ≡ input_options s = cc in (refl, z, ap wants_assets z ∙ k)

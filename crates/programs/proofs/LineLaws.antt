@@ -15,6 +15,7 @@ use Rattle.meaning.specs.Programs.{digits, item, refused_line, sums_line}
 use Rattle.meaning.specs.declared.Counts.{Counts}
 use Rattle.meaning.proofs.Writes.{wrote_none, wrote_then}
 use Rattle.programs.specs.declared.lines.Ending.{Ending}
+use Rattle.programs.specs.declared.lines.Writes.{Writes}
 use Rattle.programs.specs.Lines.{last_line}
 pub use Rattle.meaning.proofs.Writes.{wrote_within}
 
@@ -84,19 +85,15 @@ sums_put c held_count p w x k h l n = wrote_then (wrote_then (wrote_then (wrote_
 
 -- ---- the last line
 
-module _ (e : Ending) (writes : Bool) where
-  pub last_failed : e.failed ≡ true → last_line e writes ≡ []
+module _ (e : Ending) (writes : Writes) where
+  pub last_refused : eqb (answer_number e.answer) 0 ≡ false → last_line e writes ≡ refused_line (answer_number e.answer)
   unfolding last_line
-  last_failed f = rw f
+  last_refused a = rw a
 
-  pub last_refused : e.failed ≡ false → eqb (answer_number e.answer) 0 ≡ false → last_line e writes ≡ refused_line (answer_number e.answer)
+  pub last_written : eqb (answer_number e.answer) 0 ≡ true → writes ≡ Writes.Stream → last_line e writes ≡ []
   unfolding last_line
-  last_refused f a = rw (f, a)
+  last_written a w = rw (a, w)
 
-  pub last_written : e.failed ≡ false → eqb (answer_number e.answer) 0 ≡ true → writes ≡ true → last_line e writes ≡ []
+  pub last_sums : eqb (answer_number e.answer) 0 ≡ true → writes ≡ Writes.Sums → last_line e writes ≡ sums_line e.sums e.held_count
   unfolding last_line
-  last_written f a w = rw (f, a, w)
-
-  pub last_sums : e.failed ≡ false → eqb (answer_number e.answer) 0 ≡ true → writes ≡ false → last_line e writes ≡ sums_line e.sums e.held_count
-  unfolding last_line
-  last_sums f a w = rw (f, a, w)
+  last_sums a w = rw (a, w)

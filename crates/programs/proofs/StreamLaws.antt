@@ -1,5 +1,6 @@
 -- A stream from its start over chunk after chunk to its end, and what is left to be told of an input. Rests on ProgramLaws and SeriesLaws
 -- of `meaning`: no call of a program is refused, and one chunk more is one call more.
+use Rattle.std.specs.Prelude.{Option, Some, None, Ok, Err}
 use Prim.Native.Nat.{ℕ, zero, suc, ◌-◌, ◌≤◌}
 use mathlib.Core.Path.{◌≡◌, refl, sym, ap, ◌∙◌, subst}
 use mathlib.Core.Bool.{Bool, cond, true, false, false≢true}
@@ -21,7 +22,7 @@ use Rattle.meaning.specs.Push.{push, called}
 use Rattle.meaning.specs.Tally.{add_counts, fits64, tally_refusal, tallied}
 use Rattle.meaning.specs.Series.{Series}
 use Rattle.meaning.specs.Readers.{walk}
-use Rattle.meaning.specs.Programs.{input_refused, input_refusal, input_options, chunk, program_limits, program_calls, sums_of, refused_line, sums_line, filter_writes, sums_writes}
+use Rattle.meaning.specs.Programs.{input_refused, input_refusal, input_options, chunk, program_limits, program_calls, sums_of, refused_line, filter_writes, sums_writes}
 use Rattle.meaning.specs.declared.Limits.{Limits}
 use Rattle.meaning.specs.declared.Options.{Options}
 use Rattle.meaning.specs.declared.Modes.{Modes}
@@ -35,14 +36,14 @@ use Rattle.meaning.proofs.ProgramLaws.{refusal_by_three, options_by_three, chunk
 use Rattle.recorder.specs.declared.Started.{Started}
 use Rattle.recorder.specs.Filter.{record_in}
 use Rattle.recorder.specs.Calls.{StartedAs, RoomsAfter}
-use Rattle.programs.specs.declared.pipe.Filled.{Filled}
-use Rattle.programs.specs.declared.asked.Asked.{Asked}
 use Rattle.programs.specs.declared.lines.Ending.{Ending}
+use Rattle.programs.specs.declared.lines.Writes.{Writes}
+use Rattle.programs.specs.declared.stream.Rooms.{Rooms}
 use Rattle.programs.specs.declared.stream.Standing.{Standing}
 use Rattle.programs.specs.Pipe.{came_of}
 use Rattle.programs.specs.Asked.{asked_of}
-use Rattle.programs.specs.Lines.{line_by, last_line}
-use Rattle.programs.specs.Stream.{first_of, to_write, TakenAs, ended_as, NextAs, goes_on, sums_refusal, Come, Goes, begun_as, ending_of, unasked_as, run_refusal, Ran, RanBy, line_for, Told}
+use Rattle.programs.specs.Lines.{well_line, line_by, last_line}
+use Rattle.programs.specs.Stream.{first_of, to_write, RoomsLong, TakenAs, Left, WrittenAs, ended_as, NextAs, goes_on, sums_refusal, Come, ComeIn, Goes, begun_as, ending_of, unasked_as, run_refusal, Ran, HeadedAs, RanBy, line_for, WroteLine, Told}
 use Rattle.programs.proofs.AskedLaws.{refusal_asked, options_asked}
 
 -- ---- a start
@@ -105,9 +106,9 @@ module _ (M : Modes) (o : Options) (w : wants_assets o ≡ true) (map_room : Lis
 -- ---- one chunk more
 
 -- Of nothing to be written no part is.
-pub none_to_write : (writes : Bool) (n : ℕ) (s : Bytes) → to_write writes n ≡ 0 → to_write writes (length (take (n - 0) s)) ≡ 0
-none_to_write true n s e = simp length-take (omega arith)
-none_to_write false n s e = refl
+pub none_to_write : (writes : Writes) (n : ℕ) (s : Bytes) → to_write writes n ≡ 0 → to_write writes (length (take (n - 0) s)) ≡ 0
+none_to_write Writes.Stream n s e = simp length-take (omega arith)
+none_to_write Writes.Sums n s e = refl
 
 tally_sums : (a b : Counts) → tally_refusal a b ≡ sums_refusal (add_counts a b)
 unfolding tally_refusal sums_refusal
@@ -127,9 +128,9 @@ room_long : (program_limits.work ≡ 65536) × (program_limits.total ≡ 65536)
 unfolding program_limits
 room_long = (refl, refl)
 
-module _ (M : Modes) (o : Options) (cs : List Bytes) (x y : Standing) (work bodies : Bytes) (map_room : List ℕ) (chunk out work' bodies' : Bytes) (map_room' : List ℕ) (out' : Bytes)
-    (h : Come M o cs x work bodies map_room) (done : answer_number x.answer ≡ 0) (some_bytes : 1 ≤ length chunk) (few : length chunk ≤ 32768) (out_long : length out ≡ 65536)
-    {writes : Bool} (t : TakenAs writes (record_in x.filter) x.sums work bodies map_room chunk out y work' bodies' map_room' out') where
+module _ (M : Modes) (o : Options) (cs : List Bytes) (x y : Standing) (chunk : Bytes) (rooms rooms' : Rooms)
+    (h : Come M o cs x rooms.work rooms.bodies rooms.map_room) (done : answer_number x.answer ≡ 0) (some_bytes : 1 ≤ length chunk) (few : length chunk ≤ 32768) (long : RoomsLong rooms)
+    (t : TakenAs (record_in x.filter) x.sums chunk rooms y rooms') where
   abbrev st : State
   st = (program_calls M o cs).state
 
@@ -139,11 +140,11 @@ module _ (M : Modes) (o : Options) (cs : List Bytes) (x y : Standing) (work bodi
   one : program_calls M o (cs ++ (chunk ∷ [])) ≡ joined (program_calls M o cs) (alone (push program_limits M o st chunk))
   one = calls_one M o h.assets_wanted cs chunk few
 
-  call_is : called (record_in x.filter) work bodies map_room chunk (length out)
+  call_is : called (record_in x.filter) rooms.work rooms.bodies rooms.map_room chunk (length rooms.out)
       ≡ record { number = 0; out = (push program_limits M o st chunk).out; counts = (push program_limits M o st chunk).counts; handed = record_of program_limits M o led (push program_limits M o st chunk).state }
   call_is =
-      ap (λ (n : ℕ). called (record_in x.filter) work bodies map_room chunk n) out_long
-      ∙ called_taken program_limits M o (record_in x.filter).leading st limits_good.0 limits_good.1 (calls_hold M o h.assets_wanted cs) (record_in x.filter) work bodies map_room (chunk, 65536)
+      ap (λ (n : ℕ). called (record_in x.filter) rooms.work rooms.bodies rooms.map_room chunk n) long.out_long
+      ∙ called_taken program_limits M o (record_in x.filter).leading st limits_good.0 limits_good.1 (calls_hold M o h.assets_wanted cs) (record_in x.filter) rooms.work rooms.bodies rooms.map_room (chunk, 65536)
       h.record_is h.state_is (h.work_long ∙ sym room_long.0) (h.bodies_long ∙ sym room_long.1) h.map_room_long (call_taken M o h.assets_wanted cs chunk few)
 
   answered : answer_number t.call.answer ≡ 0
@@ -156,14 +157,14 @@ module _ (M : Modes) (o : Options) (cs : List Bytes) (x y : Standing) (work bodi
   told : answer_number y.answer ≡ tally_refusal (program_calls M o cs).counts (push program_limits M o st chunk).counts
   told = t.answer_is ∙ (λ i. first_of (answered i) (tally_refusal (h.sums_are done i) (counted i)))
 
-  state_then : state_of (record_in t.call.filter) work' bodies' map_room' ≡ (push program_limits M o st chunk).state
+  state_then : state_of (record_in t.call.filter) rooms'.work rooms'.bodies rooms'.map_room ≡ (push program_limits M o st chunk).state
   state_then =
-      subst (λ (z : Called). RoomsAfter (eqb z.number 0) (push (record_in x.filter).limits (record_in x.filter).modes (record_in x.filter).options (state_of (record_in x.filter) work bodies map_room) chunk).state (record_in t.call.filter) work bodies map_room work' bodies' map_room')
+      subst (λ (z : Called). RoomsAfter (eqb z.number 0) (push (record_in x.filter).limits (record_in x.filter).modes (record_in x.filter).options (state_of (record_in x.filter) rooms.work rooms.bodies rooms.map_room) chunk).state (record_in t.call.filter) rooms.work rooms.bodies rooms.map_room rooms'.work rooms'.bodies rooms'.map_room)
       call_is t.pushed.rooms
-      ∙ push_same program_limits M o (record_in x.filter).leading st (record_in x.filter) (state_of (record_in x.filter) work bodies map_room) chunk h.record_is h.state_is
+      ∙ push_same program_limits M o (record_in x.filter).leading st (record_in x.filter) (state_of (record_in x.filter) rooms.work rooms.bodies rooms.map_room) chunk h.record_is h.state_is
 
-  pub come_next : length work' ≡ length work → length bodies' ≡ length bodies → length map_room' ≡ length map_room → Come M o (cs ++ (chunk ∷ [])) y work' bodies' map_room'
-  come_next w b m = record {
+  pub come_next : RoomsLong rooms' → Come M o (cs ++ (chunk ∷ [])) y rooms'.work rooms'.bodies rooms'.map_room
+  come_next long' = record {
     assets_wanted = h.assets_wanted;
     chunks_are = chunks_append cs (chunk ∷ []) h.chunks_are (some_bytes, few, tt);
     answer_is = told ∙ tally_sums _ _ ∙ ap (λ (z : Series). sums_refusal z.counts) (sym one);
@@ -173,63 +174,50 @@ module _ (M : Modes) (o : Options) (cs : List Bytes) (x y : Standing) (work bodi
         ∙ tally_fits _ _ (sym told ∙ e)
         ∙ ap (λ (z : Series). z.counts) (sym one);
     record_is = own_leading program_limits M o led (program_calls M o (cs ++ (chunk ∷ []))).state (record_in y.filter) (ap record_in t.filter_is ∙ t.pushed.handed_is ∙ ap (λ (z : Called). z.handed) call_is ∙ ap (λ (z : Series). record_of program_limits M o led z.state) (sym one));
-    state_is = ap (λ f. state_of (record_in f) work' bodies' map_room') t.filter_is ∙ state_then ∙ ap (λ (z : Series). z.state) (sym one);
-    work_long = w ∙ h.work_long;
-    bodies_long = b ∙ h.bodies_long;
-    map_room_long = m ∙ h.map_room_long;
+    state_is = ap (λ f. state_of (record_in f) rooms'.work rooms'.bodies rooms'.map_room) t.filter_is ∙ state_then ∙ ap (λ (z : Series). z.state) (sym one);
+    work_long = long'.work_long;
+    bodies_long = long'.bodies_long;
+    map_room_long = long'.map_room_long;
   }
 
 -- ---- on and on
 
-pub goes_none : {x : Standing} {work bodies : Bytes} {map_room : List ℕ} → Goes x work bodies map_room x work bodies map_room
-goes_none {x} {work} {bodies} {map_room} = λ M o cs h. ([], subst (λ (l : List Bytes). Come M o l x work bodies map_room) (sym (append-nil cs)) h)
+pub goes_none : (x : Standing) (rooms : Rooms) → Goes x rooms (Some x) rooms
+goes_none x rooms = λ M o cs h. ([], subst (λ (l : List Bytes). Come M o l x rooms.work rooms.bodies rooms.map_room) (sym (append-nil cs)) h)
 
-module _ {x₀ x : Standing} {work₀ bodies₀ work bodies : Bytes} {map_room₀ map_room : List ℕ} (g : Goes x₀ work₀ bodies₀ map_room₀ x work bodies map_room) where
-  goes_ended : (came : Filled) → Goes x₀ work₀ bodies₀ map_room₀ (ended_as x came) work bodies map_room
-  goes_ended (Filled.Bytes n) = g
-  goes_ended Filled.Failed = λ M o cs h.
-      let k = g M o cs h in
-      let z = k.1 in (
-        k.0,
-        record {
-          assets_wanted = z.assets_wanted;
-          chunks_are = z.chunks_are;
-          answer_is = z.answer_is;
-          sums_are = z.sums_are;
-          record_is = z.record_is;
-          state_is = z.state_is;
-          work_long = z.work_long;
-          bodies_long = z.bodies_long;
-          map_room_long = z.map_room_long;
-        },
-      )
+-- What holds of a value holds of what is answered of it.
+left_of : {A : Type 0} (P : A → Type 0) {a : A} (y : Option A) → Left (λ (x : A). x ≡ a) y → P a → Left P y
+left_of P (Some x) e p = subst P (sym e) p
+left_of P {a = a} None e p = (a, p)
 
-  module _ {writes : Bool} {y : Standing} {out work' bodies' : Bytes} {map_room' : List ℕ} {out' : Bytes} (done : answer_number x.answer ≡ 0) (long : length out ≡ 65536)
-      (w : length work' ≡ length work) (b : length bodies' ≡ length bodies) (m : length map_room' ≡ length map_room) where
-    goes_next : {chunk : Bytes} → 1 ≤ length chunk → length chunk ≤ 32768 → TakenAs writes (record_in x.filter) x.sums work bodies map_room chunk out y work' bodies' map_room' out'
-        → Goes x₀ work₀ bodies₀ map_room₀ y work' bodies' map_room'
+module _ {x₀ x : Standing} (rooms₀ rooms rooms' : Rooms) (g : Goes x₀ rooms₀ (Some x) rooms) where
+  goes_ended : (came : Option ℕ) → Goes x₀ rooms₀ (ended_as x came) rooms
+  goes_ended (Some n) = g
+  goes_ended None = λ M o cs h. let k = g M o cs h in (k.0, (x, k.1))
+
+  module _ {writes : Writes} {y : Option Standing} (done : answer_number x.answer ≡ 0) (long : RoomsLong rooms) (long' : RoomsLong rooms') where
+    goes_next : {chunk : Bytes} → 1 ≤ length chunk → length chunk ≤ 32768 → WrittenAs writes (record_in x.filter) x.sums chunk rooms y rooms' → Goes x₀ rooms₀ y rooms'
     goes_next {chunk} some_bytes few t = λ M o cs h.
         let k = g M o cs h in (
           k.0 ++ (chunk ∷ []),
-          subst (λ (l : List Bytes). Come M o l y work' bodies' map_room') (append_assoc cs k.0 (chunk ∷ []))
-              (come_next M o (cs ++ k.0) x y work bodies map_room chunk out work' bodies' map_room' out' k.1 done some_bytes few long t w b m),
+          left_of (λ z. Come M o (cs ++ (k.0 ++ (chunk ∷ []))) z rooms'.work rooms'.bodies rooms'.map_room) y t.is
+              (subst (λ (l : List Bytes). Come M o l t.standing rooms'.work rooms'.bodies rooms'.map_room) (append_assoc cs k.0 (chunk ∷ []))
+              (come_next M o (cs ++ k.0) x t.standing chunk rooms rooms' k.1 done some_bytes few long t.taken long')),
         )
 
-    pub goes_read : {came : Filled} {chunk : Bytes} → came_of came ≤ length chunk → length chunk ≡ 32768 → NextAs writes x came work bodies map_room chunk out y work' bodies' map_room' out'
-        → Goes x₀ work₀ bodies₀ map_room₀ y work' bodies' map_room'
-    goes_read {came} {chunk} within full t = go (came_of came) refl
+    pub goes_read : {came : Option ℕ} {chunk : Bytes} → came_of came ≤ length chunk → length chunk ≡ 32768 → NextAs writes x came chunk rooms y rooms' → {z : Option Standing} → y ≡ z → Goes x₀ rooms₀ z rooms'
+    goes_read {came} within full t is = subst (λ v. Goes x₀ rooms₀ v rooms') is (go (came_of came) refl)
       where
-        go : (n : ℕ) → came_of came ≡ n → Goes x₀ work₀ bodies₀ map_room₀ y work' bodies' map_room'
-        go zero e = let k = t.none_came e in rw (k.0, k.1, k.2, k.3) (goes_ended came)
+        go : (n : ℕ) → came_of came ≡ n → Goes x₀ rooms₀ y rooms'
+        go zero e = let k = t.none_came e in rw (k.0, k.1) (goes_ended came)
         go (suc n) e = goes_next (simp length-take (omega arith)) (simp length-take (omega arith)) (t.some_came (omega arith))
 
-pub going : (x : Standing) (came : Filled) → goes_on x came ≡ true → answer_number x.answer ≡ 0
-going x came e = go (eqb (came_of came) 0) x.failed e
+pub going : (x : Standing) (came : Option ℕ) → goes_on x came ≡ true → answer_number x.answer ≡ 0
+going x came e = go (eqb (came_of came) 0) e
   where
-    go : (none failed : Bool) → cond none false (cond failed false (eqb (answer_number x.answer) 0)) ≡ true → answer_number x.answer ≡ 0
-    go true failed q = absurd (false≢true q)
-    go false true q = absurd (false≢true q)
-    go false false q = eqb-true (answer_number x.answer) 0 q
+    go : (none : Bool) → cond none false (eqb (answer_number x.answer) 0) ≡ true → answer_number x.answer ≡ 0
+    go true q = absurd (false≢true q)
+    go false q = eqb-true (answer_number x.answer) 0 q
 
 -- ---- an input
 
@@ -241,84 +229,92 @@ held_by : (M : Modes) (o : Options) (leading : ℕ) (s : State) (x : Standing) �
 unfolding record_in record_of
 held_by M o leading s x e = ap (λ (r : Record). r.held_count) e
 
-module _ (head : Bytes) {work bodies : Bytes} {map_room : List ℕ} where
-  ran_unasked : (failed : Bool) (r : Refusal) → input_refusal head ≡ number_of r → length head ≤ 3 → Ran head [] work bodies map_room (unasked_as failed r) work bodies map_room
+module _ (head : Bytes) {rooms : Rooms} where
+  ran_unasked : (r : Refusal) → input_refusal head ≡ number_of r → length head ≤ 3 → Ran head [] rooms (unasked_as r) rooms
   unfolding run_refusal answer_number
-  ran_unasked failed r e short = record {
+  ran_unasked r e short = record {
     head_short = short;
     chunks_are = tt;
     answer_is = rw (e, refused_told r);
     sums_are = λ z. not_zero r z;
     held_is = λ z. not_zero r z;
-    rooms = (0, rw (e, refused_told r) (refl, refl, refl));
+    rooms_left = (0, rw (e, refused_told r) (refl, refl, refl));
   }
 
-  ran_stream : {cs : List Bytes} {x : Standing} {work' bodies' : Bytes} {map_room' : List ℕ} → input_refusal head ≡ 0 → length head ≤ 3
-      → Come all_off (input_options head) cs x work' bodies' map_room' → Ran head cs work bodies map_room (ending_of x) work' bodies' map_room'
+  ran_stream : {cs : List Bytes} {rooms' : Rooms} (x : Standing) → input_refusal head ≡ 0 → length head ≤ 3
+      → Come all_off (input_options head) cs x rooms'.work rooms'.bodies rooms'.map_room → Ran head cs rooms (ending_of x) rooms'
   unfolding run_refusal
-  ran_stream {cs} {x} {work'} {bodies'} {map_room'} e short h = record {
+  ran_stream {cs} {rooms'} x e short h = record {
     head_short = short;
     chunks_are = h.chunks_are;
     answer_is = rw e h.answer_is;
     sums_are = h.sums_are;
     held_is = λ z. held_by all_off (input_options head) (record_in x.filter).leading (program_calls all_off (input_options head) cs).state x h.record_is;
-    rooms = ((record_in x.filter).leading, rw e (ap (λ (r : Record). state_of r work' bodies' map_room') (sym h.record_is) ∙ h.state_is));
+    rooms_left = ((record_in x.filter).leading, rw e (ap (λ (r : Record). state_of r rooms'.work rooms'.bodies rooms'.map_room) (sym h.record_is) ∙ h.state_is));
   }
 
--- By what was read of a head.
-module _ {came : Filled} {n : ℕ} (s : Bytes) (is : came ≡ Filled.Bytes n) (short : length s ≤ 3) (work bodies : Bytes) (map_room : List ℕ) where
-  part_short : length (take n s) ≤ 3
-  part_short = simp length-take (omega arith)
+-- By what it asks for.
+module _ (head : Bytes) (short : length head ≤ 3) (rooms : Rooms) where
+  pub by_refusal : {r : Refusal} → asked_of head ≡ Err r → HeadedAs head rooms (Some (unasked_as r)) rooms
+  by_refusal {r} e = (([], ran_unasked head r (refusal_asked head e) short), λ z. refl)
 
-  pub by_refusal : {r : Refusal} → asked_of (take n s) ≡ Asked.Refused r → RanBy came s work bodies map_room (unasked_as false r) work bodies map_room
-  by_refusal {r} e = rw is (([], ran_unasked (take n s) false r (refusal_asked (take n s) e) part_short), λ z. refl)
+  pub asked_assets : {o : Options} → asked_of head ≡ Ok o → wants_assets o ≡ true
+  asked_assets e = (options_asked head e).2
 
-  pub asked_assets : {o : Options} → asked_of (take n s) ≡ Asked.For o → wants_assets o ≡ true
-  asked_assets e = (options_asked (take n s) e).2
+  -- Of a stream that did not fail, and of one that did.
+  pub by_stream : {o : Options} {x : Standing} (rooms' : Rooms) → asked_of head ≡ Ok o → ((cs : List Bytes) × ComeIn all_off o cs (Some x) rooms') → HeadedAs head rooms (Some (ending_of x)) rooms'
+  by_stream {o} {x} rooms' e h =
+      let k = options_asked head e in
+      ((h.0, ran_stream head x k.0 short (rw k.1 at h.1)), λ z. refl)
 
-  pub by_stream : {o : Options} {x : Standing} {work' bodies' : Bytes} {map_room' : List ℕ} → asked_of (take n s) ≡ Asked.For o → ((cs : List Bytes) × Come all_off o cs x work' bodies' map_room')
-      → RanBy came s work bodies map_room (ending_of x) work' bodies' map_room'
-  by_stream {o} e h =
-      let k = options_asked (take n s) e in
-      rw is ((h.0, ran_stream (take n s) k.0 part_short (rw k.1 at h.1)), λ z. absurd (false≢true (sym z ∙ ap (λ (m : ℕ). eqb m 0) k.0)))
+  pub by_failure : {o : Options} (rooms' : Rooms) → asked_of head ≡ Ok o → ((cs : List Bytes) × ComeIn all_off o cs None rooms') → HeadedAs head rooms None rooms'
+  by_failure {o} rooms' e h =
+      let k = options_asked head e in
+      ((h.0, (ending_of h.1.0, ran_stream head h.1.0 k.0 short (rw k.1 at h.1.1))), λ z. absurd (false≢true (sym z ∙ ap (λ (m : ℕ). eqb m 0) k.0)))
 
 -- There is a head.
-pub ran_some : (came : Filled) (s : Bytes) {work bodies : Bytes} {map_room : List ℕ} {e : Ending} {work' bodies' : Bytes} {map_room' : List ℕ}
-    → RanBy came s work bodies map_room e work' bodies' map_room' → (head : Bytes) × (cs : List Bytes) × Ran head cs work bodies map_room e work' bodies' map_room'
-ran_some (Filled.Bytes n) s r = (take n s, r.0.0, r.0.1)
-ran_some Filled.Failed s r = rw (r.0, r.1, r.2, r.3) ([], [], ran_unasked [] true Input refused_empty (omega arith))
+pub ran_some : (came : Option ℕ) (s : Bytes) (rooms rooms' : Rooms) (e : Option Ending) → RanBy came s rooms e rooms'
+    → (head : Bytes) × (cs : List Bytes) × Left (λ x. Ran head cs rooms x rooms') e
+ran_some (Some n) s rooms rooms' e r = (take n s, r.0.0, r.0.1)
+ran_some None s rooms rooms' e r = rw (r.0, r.1) ([], [], (unasked_as Input, ran_unasked [] Input refused_empty (omega arith)))
 
 -- ---- the last line
 
-line_same : (n m : ℕ) (writes : Bool) (c d : Counts) (h k : ℕ) → n ≡ m → (n ≡ 0 → c ≡ d) → (n ≡ 0 → h ≡ k) → line_by n writes c h ≡ line_by m writes d k
+line_same : (n m : ℕ) (writes : Writes) (c d : Counts) (h k : ℕ) → n ≡ m → (n ≡ 0 → c ≡ d) → (n ≡ 0 → h ≡ k) → line_by n writes c h ≡ line_by m writes d k
 line_same n m writes c d h k e p q = go (eqb n 0) refl
   where
     go : (b : Bool) → eqb n 0 ≡ b → line_by n writes c h ≡ line_by m writes d k
     go true z = let n-is = eqb-true n 0 z in λ i. line_by (e i) writes (p n-is i) (q n-is i)
     go false z =
-        ap (λ (b : Bool). cond b (cond writes [] (sums_line c h)) (refused_line n)) z
-        ∙ ap (λ (b : Bool). cond b (cond writes [] (sums_line d k)) (refused_line n)) (sym z)
+        ap (λ (b : Bool). cond b (well_line writes c h) (refused_line n)) z
+        ∙ ap (λ (b : Bool). cond b (well_line writes d k) (refused_line n)) (sym z)
         ∙ ap (λ (l : ℕ). line_by l writes d k) e
 
-module _ {work bodies : Bytes} {map_room : List ℕ} {e : Ending} {work' bodies' : Bytes} {map_room' : List ℕ} where
+module _ {rooms rooms' : Rooms} where
   -- An ending's is that of its input.
-  line_is : (head : Bytes) (cs : List Bytes) → Ran head cs work bodies map_room e work' bodies' map_room' → (writes : Bool) → last_line e writes ≡ cond e.failed [] (line_for writes head cs)
+  line_is : (e : Ending) (head : Bytes) (cs : List Bytes) → Ran head cs rooms e rooms' → (writes : Writes) → last_line e writes ≡ line_for writes head cs
   unfolding last_line line_for
-  line_is head cs r writes =
+  line_is e head cs r writes =
       let x = program_calls all_off (input_options head) cs in
-      ap (λ (l : Bytes). cond e.failed [] l)
-      (line_same (answer_number e.answer) (run_refusal head cs) writes e.sums x.counts e.held_count (length x.state.held) r.answer_is r.sums_are r.held_is)
+      line_same (answer_number e.answer) (run_refusal head cs) writes e.sums x.counts e.held_count (length x.state.held) r.answer_is r.sums_are r.held_is
 
-  pub told_as : {writes : Bool} {line line' : Bytes} {n : ℕ} → ((head : Bytes) × (cs : List Bytes) × Ran head cs work bodies map_room e work' bodies' map_room') → Wrote (last_line e writes) line 0 line' n
-      → Told writes work bodies map_room line (record { failed = e.failed; bytes = n }) work' bodies' map_room' line'
-  told_as {writes} {line} {line'} {n} r w = record {
-    head = r.0;
-    chunks = r.1;
-    head_short = r.2.head_short;
-    chunks_are = r.2.chunks_are;
-    written = subst (λ (l : Bytes). Wrote l line 0 line' n) (line_is r.0 r.1 r.2 writes) w;
-    rooms = r.2.rooms;
+  told_with : {writes : Writes} {line line' : Bytes} {n : Option ℕ} {e : Ending} {head : Bytes} {cs : List Bytes} → Ran head cs rooms e rooms' → WroteLine (line_for writes head cs) line n line'
+      → Told writes rooms line n rooms' line'
+  told_with {head = head} {cs = cs} r w = record {
+    head = head;
+    chunks = cs;
+    head_short = r.head_short;
+    chunks_are = r.chunks_are;
+    written = w;
+    rooms_left = r.rooms_left;
   }
+
+  pub told_as : {e : Ending} {writes : Writes} {line line' : Bytes} {n : ℕ} → ((head : Bytes) × (cs : List Bytes) × Ran head cs rooms e rooms') → Wrote (last_line e writes) line 0 line' n
+      → Told writes rooms line (Some n) rooms' line'
+  told_as {e} {writes} {line} {line'} {n} r w = told_with r.2 (subst (λ (l : Bytes). Wrote l line 0 line' n) (line_is e r.0 r.1 r.2 writes) w)
+
+  pub told_none : {writes : Writes} {line : Bytes} → ((head : Bytes) × (cs : List Bytes) × ((e : Ending) × Ran head cs rooms e rooms')) → Told writes rooms line None rooms' line
+  told_none r = told_with r.2.1 refl
 
 -- Where head and chunks are those of an input whose sums fit, it is what the definitions of the programs say: `sums` writes no more, and
 -- `filter` writes what its calls wrote before it.
@@ -335,17 +331,17 @@ module _ (s : Bytes) (fits : fits64 (sums_of s).counts ≡ true) where
       go true e = sym (eqb-true (input_refusal s) 0 e)
       go false e = refl
 
-  line_by_lem : (writes : Bool) → line_for writes (take 3 s) (walk chunk (drop 3 s)).found ≡ line_by (input_refusal s) writes (sums_of s).counts (length (sums_of s).state.held)
+  line_by_lem : (writes : Writes) → line_for writes (take 3 s) (walk chunk (drop 3 s)).found ≡ line_by (input_refusal s) writes (sums_of s).counts (length (sums_of s).state.held)
   unfolding line_for
   line_by_lem writes = rw (refusal_is, calls_are)
 
-  pub sums_last : line_for false (take 3 s) (walk chunk (drop 3 s)).found ≡ sums_writes s
+  pub sums_last : line_for Writes.Sums (take 3 s) (walk chunk (drop 3 s)).found ≡ sums_writes s
   unfolding sums_writes
-  sums_last = line_by_lem false
+  sums_last = line_by_lem Writes.Sums
 
-  pub filter_last : cond (eqb (input_refusal s) 0) (flatten (sums_of s).out) [] ++ line_for true (take 3 s) (walk chunk (drop 3 s)).found ≡ filter_writes s
+  pub filter_last : cond (eqb (input_refusal s) 0) (flatten (sums_of s).out) [] ++ line_for Writes.Stream (take 3 s) (walk chunk (drop 3 s)).found ≡ filter_writes s
   unfolding filter_writes
-  filter_last = ap (λ (l : Bytes). cond (eqb (input_refusal s) 0) (flatten (sums_of s).out) [] ++ l) (line_by_lem true) ∙ go (eqb (input_refusal s) 0)
+  filter_last = ap (λ (l : Bytes). cond (eqb (input_refusal s) 0) (flatten (sums_of s).out) [] ++ l) (line_by_lem Writes.Stream) ∙ go (eqb (input_refusal s) 0)
     where
       go : (b : Bool) → cond b (flatten (sums_of s).out) [] ++ cond b [] (refused_line (input_refusal s)) ≡ cond b (flatten (sums_of s).out) (refused_line (input_refusal s))
       go true = append-nil (flatten (sums_of s).out)

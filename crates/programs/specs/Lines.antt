@@ -1,16 +1,21 @@
--- The last line of a program: none where a read or a write failed, or where the stream was written; else that of a refusal, or that of
--- the sums.
-use Rattle.std.specs.Prelude.{ℕ, Bool, cond, [], eqb}
+-- The last line of a program: that of a refusal; else none where the stream was written, or that of the sums.
+use Rattle.std.specs.Prelude.{ℕ, cond, [], eqb}
 use Rattle.meaning.specs.Bytes.{Bytes}
 use Rattle.meaning.specs.Refusals.{answer_number}
 use Rattle.meaning.specs.Programs.{refused_line, sums_line}
 use Rattle.meaning.specs.declared.Counts.{Counts}
 use Rattle.programs.specs.declared.lines.Ending.{Ending}
+use Rattle.programs.specs.declared.lines.Writes.{Writes}
 
--- By a refusal's number, 0 for none; whether the stream was written; the sums, and how many bytes are held.
-abbrev pub line_by : ℕ → Bool → Counts → ℕ → Bytes
-line_by number writes c held_count = cond (eqb number 0) (cond writes [] (sums_line c held_count)) (refused_line number)
+-- Of a program that goes well; the sums, and how many bytes are held.
+abbrev pub well_line : Writes → Counts → ℕ → Bytes
+well_line Writes.Stream c held_count = []
+well_line Writes.Sums c held_count = sums_line c held_count
 
-unfoldable pub last_line : Ending → Bool → Bytes
+-- By a refusal's number, 0 for none.
+abbrev pub line_by : ℕ → Writes → Counts → ℕ → Bytes
+line_by number writes c held_count = cond (eqb number 0) (well_line writes c held_count) (refused_line number)
+
+unfoldable pub last_line : Ending → Writes → Bytes
 unfolding answer_number refused_line sums_line
-last_line e writes = cond e.failed [] (line_by (answer_number e.answer) writes e.sums e.held_count)
+last_line e writes = line_by (answer_number e.answer) writes e.sums e.held_count

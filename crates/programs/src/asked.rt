@@ -31,31 +31,26 @@ pub fn options_of(flags: u8, service: u16) -> Options
     }
 }
 
-// What a head asks for, or its refusal: it is too short, a flag is set that nothing is named by, or no start takes these wishes.
-#[derive(Clone, Copy)]
-pub enum Asked {
-    For(Options),
-    Refused(Refusal),
-}
-
-// A head, or any input: what comes behind the third byte does not matter.
-pub fn asked_of(head: &[u8]) -> Asked
+// What a head asks for, or its refusal: it is too short, a flag is set that nothing is named by, or no start takes these wishes. A head, or
+// any input: what comes behind the third byte does not matter.
+pub fn asked_of(head: &[u8]) -> Result<Options, Refusal>
     ensures { result ≡ asked_of head.now }
 {
     if head.len() < 3 {
-        return Asked::Refused(Refusal::Input);
+        return Err(Refusal::Input);
     }
     if 31 < head[0] {
-        return Asked::Refused(Refusal::Input);
+        return Err(Refusal::Input);
     }
     let o = options_of(head[0], id16(head, 1));
     if !wants_assets(o) {
-        return Asked::Refused(Refusal::Wishes);
+        return Err(Refusal::Wishes);
     }
-    Asked::For(o)
+    Ok(o)
 }
 
 // The number of a refusal.
+#[tactic(auto, unfolding(meaning::specs::Refusals::number_of))]
 pub fn number_of(r: Refusal) -> u8
     ensures { result ≡ number_of r }
 {
@@ -73,6 +68,7 @@ pub fn number_of(r: Refusal) -> u8
 }
 
 // The number of an answer, 0 where it is no refusal.
+#[tactic(auto, unfolding(meaning::specs::Refusals::answer_number))]
 pub fn answer_number(a: Answer) -> u8
     ensures { result ≡ answer_number a }
 {

@@ -74,30 +74,33 @@ pub fn put_sums(c: Counts, held_count: usize, out: &mut [u8]) -> usize
     put8(out, g, 10)
 }
 
-// What is left of an input to be told: whether a read or a write failed, the answer, the sums, and how many bytes are held.
+// What is left of an input to be told: the answer, the sums, and how many bytes are held.
 #[derive(Clone, Copy)]
 pub struct Ending {
-    pub failed: bool,
     pub answer: Answer,
     pub sums: Counts,
     pub held_count: usize,
 }
 
-// Writes the last line of a program that writes the stream, or of one that does not; answers its length, 0 where there is none.
-pub fn put_last(e: Ending, writes: bool, out: &mut [u8]) -> usize
+// What a program writes: the filtered stream, or a line of its sums.
+#[derive(Clone, Copy)]
+pub enum Writes {
+    Stream,
+    Sums,
+}
+
+// Writes the last line of a program; answers its length, 0 where there is none.
+pub fn put_last(e: Ending, writes: Writes, out: &mut [u8]) -> usize
     requires { 170 ≤ length out.old }
     ensures { Wrote (last_line e writes) out.old 0 out.new result }
 {
-    if e.failed {
-        return 0;
-    }
     let a = e.answer;
     if !is_done(a) {
         return put_refused(answer_number(a), out);
     }
-    if writes {
-        return 0;
-    }
     let sums = e.sums;
-    put_sums(sums, e.held_count, out)
+    match writes {
+        Writes::Stream => 0,
+        Writes::Sums => put_sums(sums, e.held_count, out),
+    }
 }

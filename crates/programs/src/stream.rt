@@ -1,18 +1,19 @@
 // A whole input: 01, the paragraph after the examples. Standard input has a flag byte, a service and a stream; the filtered stream is
 // written, or a line of sums, or the line of a refusal. No contract can say which bytes are read or written. All else is promised:
-// whatever was read, sums, record, rooms and last line are the definition's for it. A read or a write that fails ends the program.
-ghost use Rattle.std.specs.Prelude.{◌≡◌, ◌≤◌, true, false, List, length};
+// whatever was read, sums, record, rooms and last line are the definition's for it. A read or a write that fails ends the program: then
+// nothing is answered.
+ghost use Rattle.std.specs.Prelude.{◌≡◌, ◌≤◌, true, List, length, take, replicate, Some};
 ghost use Rattle.meaning.specs.Bytes.{Bytes};
 ghost use Rattle.meaning.specs.Wishes.{wants_assets};
 ghost use Rattle.meaning.specs.Refusals.{answer_number};
 ghost use Rattle.meaning.specs.Calls.{counts_of};
 ghost use Rattle.recorder.specs.Filter.{record_in};
 ghost use Rattle.programs.specs.Pipe.{came_of};
-ghost use Rattle.programs.specs.Stream.{first_of, to_write, TakenAs, with_failed, ended_as, NextAs, goes_on, MayPass, Goes, begun_as, Rooms, Come, ending_of, unasked_as, Ran, HeadIn, RanBy, Told};
+ghost use Rattle.programs.specs.Stream.{first_of, to_write, RoomsLong, TakenAs, WrittenAs, NextAs, goes_on, Goes, begun_as, ComeIn, Left, ending_of, unasked_as, Ran, HeadedAs, HeadIn, RanBy, Told};
 
-use crate::asked::{Asked, asked_of, is_done};
-use crate::lines::{Ending, put_last};
-use crate::pipe::{Filled, bytes_of, fill, write_all, write_last};
+use crate::asked::{asked_of, is_done};
+use crate::lines::{Ending, Writes, put_last};
+use crate::pipe::{fill, write_all, write_last};
 use meaning::{Answer, Counts, Modes, Options, Refusal};
 use recorder::{Filter, Started, start};
 use std::rt::HostRuntime;
@@ -28,14 +29,21 @@ const MAP_ROOM: usize = 32768;
 // The longest line, that of the sums.
 const LINE: usize = 170;
 
+// The rooms that a program lends beside a chunk: the filter's three, and the output of a call.
+#[derive(Drop)]
+pub struct Rooms {
+    pub work: [u8; ROOM],
+    pub bodies: [u8; ROOM],
+    pub map_room: [u16; MAP_ROOM],
+    pub out: [u8; ROOM],
+}
+
 // ---- one chunk
 
-// How far a stream has come: what was answered last, whether a read or a write failed, how many bytes the last call wrote, the sums, and
-// the record to go on with.
+// How far a stream has come: what was answered last, how many bytes the last call wrote, the sums, and the record to go on with.
 #[derive(Clone, Copy)]
 pub struct Standing {
     pub answer: Answer,
-    pub failed: bool,
     pub bytes: usize,
     pub sums: Counts,
     pub filter: Filter,
@@ -52,154 +60,107 @@ fn first_of(a: Answer, b: Answer) -> Answer
 }
 
 // One chunk, without writing what goes on: the call, and its counts added. A refused call has none.
-fn take_in(
-    f: Filter,
-    sums: Counts,
-    chunk: &[u8],
-    work: &mut [u8],
-    bodies: &mut [u8],
-    map_room: &mut [u16],
-    out: &mut [u8],
-) -> Standing
-    ensures { TakenAs false (record_in f) sums work.old bodies.old map_room.old chunk.now out.old result work.new bodies.new map_room.new out.new }
+fn take_in(f: Filter, sums: Counts, chunk: &[u8], rooms: &mut Rooms) -> Standing
+    ensures taken { TakenAs (record_in f) sums chunk.now rooms.old result rooms.new }
+    ensures long { RoomsLong rooms.new }
 {
+    let Rooms {
+        work,
+        bodies,
+        map_room,
+        out,
+    } = rooms;
     let p = f.push(chunk, work, bodies, map_room, out);
     let c = p.counts;
     let a = p.answer;
     let filter = p.filter;
     Standing {
         answer: first_of(a, tally_answer(sums, c)),
-        failed: false,
         bytes: c.bytes,
         sums: sum_of(sums, c),
         filter,
     }
 }
 
-// Writes the bytes where that is asked for; answers whether a write failed.
-fn unwritten(rt: HostRuntime, writes: bool, bytes: &[u8]) -> bool
-    ensures { to_write writes (length bytes.now) ≡ 0 → result ≡ false }
+// Writes the bytes where that is asked for.
+fn write_out(rt: HostRuntime, writes: Writes, bytes: &[u8]) -> Option<()>
+    ensures { to_write writes (length bytes.now) ≡ 0 → result ≡ Some tt }
 {
-    if !writes {
-        return false;
+    match writes {
+        Writes::Stream => write_all(rt, bytes),
+        Writes::Sums => Some(()),
     }
-    !write_all(rt, bytes)
-}
-
-// With what is told of a read or a write.
-fn with_failed(x: Standing, failed: bool) -> Standing
-    ensures { result ≡ with_failed x failed }
-{
-    let mut y = x;
-    y.failed = failed;
-    y
 }
 
 // One chunk; what goes on is written where that is asked for.
 fn one_chunk(
     rt: HostRuntime,
-    f: Filter,
-    sums: Counts,
-    writes: bool,
+    x: Standing,
+    writes: Writes,
     chunk: &[u8],
-    work: &mut [u8],
-    bodies: &mut [u8],
-    map_room: &mut [u16],
-    out: &mut [u8],
-) -> Standing
-    ensures { TakenAs writes (record_in f) sums work.old bodies.old map_room.old chunk.now out.old result work.new bodies.new map_room.new out.new }
+    rooms: &mut Rooms,
+) -> Option<Standing>
+    ensures written { WrittenAs writes (record_in x.filter) x.sums chunk.now rooms.old result rooms.new }
+    ensures long { RoomsLong rooms.new }
 {
-    let x = take_in(f, sums, chunk, work, bodies, map_room, out);
-    let n = x.bytes;
-    let failed = unwritten(rt, writes, &out[0..n]);
-    with_failed(x, failed)
+    let f = x.filter;
+    let sums = x.sums;
+    let y = take_in(f, sums, chunk, rooms);
+    let n = y.bytes;
+    write_out(rt, writes, &rooms.out[0..n])?;
+    Some(y)
 }
 
 // ---- all chunks
-
-// A stream whose input has no more to give: it ended, or a read failed.
-fn ended(x: Standing, came: Filled) -> Standing
-    ensures { result ≡ ended_as x came }
-{
-    let Filled::Failed = came else {
-        return x;
-    };
-    with_failed(x, true)
-}
 
 // A stream by what was read: the bytes that came are the next chunk, and where none came it has ended.
 fn next(
     rt: HostRuntime,
     x: Standing,
-    came: Filled,
-    writes: bool,
+    came: Option<usize>,
+    writes: Writes,
     chunk: &[u8],
-    work: &mut [u8],
-    bodies: &mut [u8],
-    map_room: &mut [u16],
-    out: &mut [u8],
-) -> Standing
+    rooms: &mut Rooms,
+) -> Option<Standing>
     requires { came_of came ≤ length chunk.now }
-    ensures { NextAs writes x came work.old bodies.old map_room.old chunk.now out.old result work.new bodies.new map_room.new out.new }
+    ensures next { NextAs writes x came chunk.now rooms.old result rooms.new }
+    ensures long { RoomsLong rooms.new }
 {
-    let n = bytes_of(came);
+    let n = came?;
     if n == 0 {
-        return ended(x, came);
+        return Some(x);
     }
-    let f = x.filter;
-    let sums = x.sums;
-    one_chunk(
-        rt,
-        f,
-        sums,
-        writes,
-        &chunk[0..n],
-        work,
-        bodies,
-        map_room,
-        out,
-    )
+    one_chunk(rt, x, writes, &chunk[0..n], rooms)
 }
 
-// Whether bytes came, nothing was refused and nothing failed.
-fn goes_on(x: Standing, came: Filled) -> bool
+// Whether bytes came and nothing was refused.
+fn goes_on(x: Standing, came: Option<usize>) -> bool
     ensures { result ≡ goes_on x came }
 {
-    if bytes_of(came) == 0 {
-        return false;
-    }
-    if x.failed {
-        return false;
-    }
     let a = x.answer;
-    is_done(a)
+    came.unwrap_or(0) != 0 && is_done(a)
 }
 
 // All chunks in turn, each with the record that the one before handed back. A refusal ends the program, and so does a failure.
 fn pass(
     rt: HostRuntime,
     first: Standing,
-    writes: bool,
+    writes: Writes,
     chunk: &mut [u8; CHUNK],
-    work: &mut [u8; ROOM],
-    bodies: &mut [u8; ROOM],
-    map_room: &mut [u16; MAP_ROOM],
-    out: &mut [u8; ROOM],
-) -> Standing
-    requires { MayPass first chunk.old out.old }
-    ensures { Goes first work.old bodies.old map_room.old result work.new bodies.new map_room.new }
+    rooms: &mut Rooms,
+) -> Option<Standing>
+    requires { answer_number first.answer ≡ 0 }
+    ensures { Goes first rooms.old result rooms.new }
 {
     let mut x = first;
-    let mut turns = u64::MAX;
-    while 0 < turns {
-        turns -= 1;
+    for _ in 0..u64::MAX {
         let came = fill(rt, chunk);
-        x = next(rt, x, came, writes, chunk, work, bodies, map_room, out);
+        x = next(rt, x, came, writes, chunk, rooms)?;
         if !goes_on(x, came) {
-            return x;
+            return Some(x);
         }
     }
-    x
+    Some(x)
 }
 
 fn no_counts() -> Counts
@@ -223,7 +184,6 @@ fn begun(s: Started) -> Standing
     let filter = s.filter;
     Standing {
         answer,
-        failed: false,
         bytes: 0,
         sums: no_counts(),
         filter,
@@ -235,18 +195,15 @@ fn started(
     rt: HostRuntime,
     o: Options,
     modes: Modes,
-    writes: bool,
+    writes: Writes,
     chunk: &mut [u8; CHUNK],
-    work: &mut [u8; ROOM],
-    bodies: &mut [u8; ROOM],
-    map_room: &mut [u16; MAP_ROOM],
-    out: &mut [u8; ROOM],
-) -> Standing
-    requires { (wants_assets o ≡ true) × Rooms chunk.old work.old bodies.old map_room.old out.old }
-    ensures { (cs : List Bytes) × Come modes o cs result work.new bodies.new map_room.new }
+    rooms: &mut Rooms,
+) -> Option<Standing>
+    requires { (wants_assets o ≡ true) × (rooms.old.map_room ≡ replicate 32768 0) }
+    ensures { (cs : List Bytes) × ComeIn modes o cs result rooms.new }
 {
-    let s = start(work, bodies, map_room, ROOM, o, modes);
-    pass(rt, begun(s), writes, chunk, work, bodies, map_room, out)
+    let s = start(&rooms.work, &rooms.bodies, &rooms.map_room, ROOM, o, modes);
+    pass(rt, begun(s), writes, chunk, rooms)
 }
 
 // ---- an input
@@ -259,121 +216,102 @@ fn ending(x: Standing) -> Ending
     let sums = x.sums;
     let f = x.filter;
     Ending {
-        failed: x.failed,
         answer,
         sums,
         held_count: f.held_count,
     }
 }
 
-// An input whose head is refused, or could not be read.
-fn unasked(failed: bool, refusal: Refusal) -> Ending
-    ensures { result ≡ unasked_as failed refusal }
+// An input whose head is refused.
+fn unasked(refusal: Refusal) -> Ending
+    ensures { result ≡ unasked_as refusal }
 {
     Ending {
-        failed,
         answer: Answer::Refused(refusal),
         sums: no_counts(),
         held_count: 0,
     }
 }
 
-// An input by what was read of its head, then its stream.
-fn by_head(
+// An input with this head, then its stream.
+fn headed(
     rt: HostRuntime,
-    came: Filled,
     head: &[u8],
-    writes: bool,
+    writes: Writes,
     chunk: &mut [u8; CHUNK],
-    work: &mut [u8; ROOM],
-    bodies: &mut [u8; ROOM],
-    map_room: &mut [u16; MAP_ROOM],
-    out: &mut [u8; ROOM],
-) -> Ending
-    requires { HeadIn came head.now × Rooms chunk.old work.old bodies.old map_room.old out.old }
-    ensures { RanBy came head.now work.old bodies.old map_room.old result work.new bodies.new map_room.new }
+    rooms: &mut Rooms,
+) -> Option<Ending>
+    requires { (length head.now ≤ 3) × (rooms.old.map_room ≡ replicate 32768 0) }
+    ensures { HeadedAs head.now rooms.old result rooms.new }
 {
-    let Filled::Bytes(n) = came else {
-        return unasked(true, Refusal::Input);
-    };
-    match asked_of(&head[0..n]) {
-        Asked::Refused(refusal) => unasked(false, refusal),
-        Asked::For(o) => {
+    match asked_of(head) {
+        Err(refusal) => Some(unasked(refusal)),
+        Ok(o) => {
             // No flag of an input turns a mode on.
             let modes = Modes { plain_ip: false };
-            let x = started(rt, o, modes, writes, chunk, work, bodies, map_room, out);
-            ending(x)
+            let x = started(rt, o, modes, writes, chunk, rooms)?;
+            Some(ending(x))
         }
     }
+}
+
+// An input by what was read of its head.
+fn by_head(
+    rt: HostRuntime,
+    came: Option<usize>,
+    head: &[u8],
+    writes: Writes,
+    chunk: &mut [u8; CHUNK],
+    rooms: &mut Rooms,
+) -> Option<Ending>
+    requires { HeadIn came head.now × (rooms.old.map_room ≡ replicate 32768 0) }
+    ensures { RanBy came head.now rooms.old result rooms.new }
+{
+    let len = came?;
+    headed(rt, &head[0..len], writes, chunk, rooms)
 }
 
 // An input, head and stream.
 fn run(
     rt: HostRuntime,
-    writes: bool,
+    writes: Writes,
     chunk: &mut [u8; CHUNK],
-    work: &mut [u8; ROOM],
-    bodies: &mut [u8; ROOM],
-    map_room: &mut [u16; MAP_ROOM],
-    out: &mut [u8; ROOM],
-) -> Ending
-    requires { Rooms chunk.old work.old bodies.old map_room.old out.old }
-    ensures { (head : Bytes) × (cs : List Bytes) × Ran head cs work.old bodies.old map_room.old result work.new bodies.new map_room.new }
+    rooms: &mut Rooms,
+) -> Option<Ending>
+    requires { rooms.old.map_room ≡ replicate 32768 0 }
+    ensures { (head : Bytes) × (cs : List Bytes) × Left (λ e. Ran head cs rooms.old e rooms.new) result }
 {
     let mut head = [0u8; 3];
     let came = fill(rt, &mut head);
-    by_head(rt, came, &head, writes, chunk, work, bodies, map_room, out)
+    by_head(rt, came, &head, writes, chunk, rooms)
 }
 
-// What is left to be done for an input: nothing where a read or a write failed, else a line of so many bytes is to be written.
-#[derive(Clone, Copy)]
-pub struct Last {
-    pub failed: bool,
-    pub bytes: usize,
-}
-
-// An input, and its last line.
+// An input, and its last line; answers the line's length.
 fn told(
     rt: HostRuntime,
-    writes: bool,
+    writes: Writes,
     chunk: &mut [u8; CHUNK],
-    work: &mut [u8; ROOM],
-    bodies: &mut [u8; ROOM],
-    map_room: &mut [u16; MAP_ROOM],
-    out: &mut [u8; ROOM],
+    rooms: &mut Rooms,
     line: &mut [u8; LINE],
-) -> Last
-    requires { Rooms chunk.old work.old bodies.old map_room.old out.old × (length line.old ≡ 170) }
-    ensures { Told writes work.old bodies.old map_room.old line.old result work.new bodies.new map_room.new line.new }
+) -> Option<usize>
+    requires { rooms.old.map_room ≡ replicate 32768 0 }
+    ensures { Told writes rooms.old line.old result rooms.new line.new }
 {
-    let e = run(rt, writes, chunk, work, bodies, map_room, out);
-    Last {
-        failed: e.failed,
-        bytes: put_last(e, writes, line),
-    }
+    let e = run(rt, writes, chunk, rooms)?;
+    Some(put_last(e, writes, line))
 }
 
 // A stream through a filter: it writes the filtered stream, or else a line of sums.
-pub fn stream(rt: HostRuntime, writes: bool) {
+pub fn stream(rt: HostRuntime, writes: Writes) {
     let mut chunk = [0u8; CHUNK];
-    let mut work = [0u8; ROOM];
-    let mut bodies = [0u8; ROOM];
-    let mut map_room = [0u16; MAP_ROOM];
-    let mut out = [0u8; ROOM];
+    let mut rooms = Rooms {
+        work: [0u8; ROOM],
+        bodies: [0u8; ROOM],
+        map_room: [0u16; MAP_ROOM],
+        out: [0u8; ROOM],
+    };
     let mut line = [0u8; LINE];
-    let last = told(
-        rt,
-        writes,
-        &mut chunk,
-        &mut work,
-        &mut bodies,
-        &mut map_room,
-        &mut out,
-        &mut line,
-    );
-    if last.failed {
-        return;
+    if let Some(n) = told(rt, writes, &mut chunk, &mut rooms, &mut line) {
+        write_last(rt, &line[0..n]);
     }
-    let n = last.bytes;
-    write_last(rt, &line[0..n]);
 }

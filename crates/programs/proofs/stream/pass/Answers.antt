@@ -1,33 +1,36 @@
+use native.Mathlib.Omega.{arith}
 use Rattle.programs.proofs.StreamLaws.{goes_none, goes_read, going}
-use borrow.Author.Tests.{not-false}
 use mathlib.Core.Path.{sym, ◌∙◌}
 use Rattle.programs.proofs.stream.pass.Goals as goal
 
-pub loop-turns-init : goal.loop-turns-init
-loop-turns-init c = (c.requires, goes_none)
+pub loop-init : goal.loop-init
+loop-init c = record {
+  not_refused = c.requires;
+  long = record { work_long = omega arith; bodies_long = omega arith; map_room_long = omega arith; out_long = omega arith };
+  goes = goes_none _ c.args.rooms.now;
+}
 
-pub next-x-requires : goal.next-x-requires
-next-x-requires c = c.fill-came.ensures
+pub returns-in_err-x : goal.returns-in_err-x
+returns-in_err-x c =
+    let i = c.loop.invariant in
+    let n = c.next.ensures in
+    goes_read c.args.rooms.now _ _ i.goes i.not_refused i.long n.long c.fill-came.ensures (omega (arith, c.fill-came.auto.buf)) n.next (c.in_err-x.was ∙ sym c.from_residual.ensures)
 
 pub returns-then-not-goes_on : goal.returns-then-not-goes_on
 returns-then-not-goes_on c =
-    let i = c.loop-turns.invariant in
-    let f = c.fill-came in
-    let o = c.next-x in
-    goes_read i.1 i.0.not_refused i.0.out_long o.auto.work o.auto.bodies o.auto.map_room f.ensures (f.auto.buf ∙ i.0.chunk_long) o.ensures
+    let i = c.loop.invariant in
+    let n = c.next.ensures in
+    goes_read c.args.rooms.now _ _ i.goes i.not_refused i.long n.long c.fill-came.ensures (omega (arith, c.fill-came.auto.buf)) n.next c.in_ok-x.was
 
-pub loop-turns-preserved : goal.loop-turns-preserved
-loop-turns-preserved c =
-    let i = c.loop-turns.invariant in
-    let f = c.fill-came in
-    let o = c.next-x in (
-      record {
-        not_refused = going o.result f.result (sym c.goes_on.ensures ∙ not-false _ c.if-not-goes_on.false-raw);
-        chunk_long = f.auto.buf ∙ i.0.chunk_long;
-        out_long = o.auto.out ∙ i.0.out_long;
-      },
-      goes_read i.1 i.0.not_refused i.0.out_long o.auto.work o.auto.bodies o.auto.map_room f.ensures (f.auto.buf ∙ i.0.chunk_long) o.ensures,
-    )
+pub loop-preserved : goal.loop-preserved
+loop-preserved c =
+    let i = c.loop.invariant in
+    let n = c.next.ensures in
+    record {
+      not_refused = going c.in_ok-x.x c.fill-came.result (sym c.if-not-goes_on.ensures);
+      long = n.long;
+      goes = goes_read c.args.rooms.now _ _ i.goes i.not_refused i.long n.long c.fill-came.ensures (omega (arith, c.fill-came.auto.buf)) n.next c.in_ok-x.was;
+    }
 
 pub returns : goal.returns
-returns c = c.loop-turns.invariant.1
+returns c = c.loop.invariant.goes

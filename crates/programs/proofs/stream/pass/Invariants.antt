@@ -1,8 +1,8 @@
-use Rattle.programs.specs.Stream.{Goes, MayPass}
+use mathlib.Core.Path.{◌≡◌}
+use Rattle.std.specs.Prelude.{Some}
+use Rattle.meaning.specs.Refusals.{answer_number}
+use Rattle.programs.specs.Stream.{RoomsLong, Goes}
 use Rattle.programs.proofs.stream.pass.Given as goal
 
-abbrev pub invariant-loop-turns : goal.invariant-loop-turns
-invariant-loop-turns l = MayPass l.x l.chunk l.out × Goes l.initial.x l.initial.work l.initial.bodies l.initial.map_room l.x l.work l.bodies l.map_room
-
-abbrev pub decreases-loop-turns : goal.decreases-loop-turns
-decreases-loop-turns l = l.turns
+abbrev pub invariant-loop : goal.invariant-loop
+invariant-loop l = record { not_refused : answer_number l.x.answer ≡ 0; long : RoomsLong l.rooms; goes : Goes l.initial.x l.initial.rooms (Some l.x) l.rooms }
