@@ -1,4 +1,5 @@
 -- The lengths of an answer's parts, and what each case kind changes.
+use Rattle.std.specs.Prelude.{Some, None, Ok, Err}
 use Prim.Native.Nat.{ℕ, ◌+◌, ◌≤◌}
 use mathlib.Core.Path.{◌≡◌, refl}
 use mathlib.Core.List.{List}
@@ -7,9 +8,8 @@ use lib.ListN.{length, get_or}
 use borrow.Author.Tests.{eq-eqb, ne_eqb}
 use Rattle.meaning.specs.Bytes.{Bytes, be16_at, be32_at, put16, put32}
 use Rattle.meaning.specs.Narrow.{Change, change_table, change_payload, change_packet}
-use Rattle.meaning.specs.Refusals.{narrowing_length}
+use Rattle.meaning.specs.Refusals.{Narrowing, narrowing_length}
 use Rattle.meaning.specs.Programs.{options_of}
-use Rattle.meaning.specs.declared.Narrowing.{Narrowing}
 use Rattle.meaning.specs.declared.Options.{Options}
 use Rattle.meaning.specs.declared.Modes.{Modes}
 use Rattle.narrowing.specs.Answers.{NarrowedAs}

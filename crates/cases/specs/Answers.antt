@@ -1,11 +1,10 @@
 -- The bytes of an answer's head, and what a case asks for: docs/ARCHITECTURE.md, "Format of cases and answers".
-use Rattle.std.specs.Prelude.{ℕ, ◌+◌, ◌%◌, cond, List, [], ◌∷◌, ◌++◌, eqb, get_or, Result, Ok, Err}
+use Rattle.std.specs.Prelude.{ℕ, ◌+◌, ◌%◌, cond, List, [], ◌∷◌, ◌++◌, eqb, get_or, Result, Ok, Err, Some, None}
 use Rattle.std.proofs.Math.Option.{Option}
 use Rattle.meaning.specs.Bytes.{Bytes, be16_at, be32_at, put32}
 use Rattle.meaning.specs.Narrow.{Change, change_table, change_payload, change_packet}
-use Rattle.meaning.specs.Refusals.{narrowing_number, narrowing_changed, narrowing_length}
+use Rattle.meaning.specs.Refusals.{Narrowing, narrowing_number, narrowing_changed, narrowing_length}
 use Rattle.meaning.specs.Programs.{is_one, options_of}
-use Rattle.meaning.specs.declared.Narrowing.{Narrowing}
 use Rattle.meaning.specs.declared.Options.{Options}
 use Rattle.meaning.specs.declared.Modes.{Modes}
 use Rattle.cases.specs.declared.Head.{Head}

@@ -86,9 +86,9 @@ fn refused_number(n: Narrowing) -> u8
     ensures { result ≡ narrowing_number n }
 {
     match n {
-        Narrowing::Refused(r) => number_of(r),
-        Narrowing::Unchanged => 0,
-        Narrowing::Changed(_) => 0,
+        Err(r) => number_of(r),
+        Ok(None) => 0,
+        Ok(Some(_)) => 0,
     }
 }
 
@@ -97,9 +97,9 @@ fn changed_flag(n: Narrowing) -> u8
     ensures { result ≡ changed_flag n }
 {
     match n {
-        Narrowing::Refused(_) => 0,
-        Narrowing::Unchanged => 0,
-        Narrowing::Changed(_) => 1,
+        Err(_) => 0,
+        Ok(None) => 0,
+        Ok(Some(_)) => 1,
     }
 }
 
@@ -108,9 +108,9 @@ fn changed_length(n: Narrowing) -> usize
     ensures { result ≡ narrowing_length n }
 {
     match n {
-        Narrowing::Refused(_) => 0,
-        Narrowing::Unchanged => 0,
-        Narrowing::Changed(k) => k,
+        Err(_) => 0,
+        Ok(None) => 0,
+        Ok(Some(k)) => k,
     }
 }
 

@@ -1,5 +1,6 @@
 -- Narrowing by demand 1: the lowest number that applies, and nothing changed where it is refused; and what a result tells of a change is what
 -- the definition changes. Rests on the promise of the three narrowings.
+use Rattle.std.specs.Prelude.{Ok, Err}
 use Prim.Native.Nat.{ℕ, ◌≤◌}
 use mathlib.Core.Path.{◌≡◌, refl, sym, ap, ap₂, ◌∙◌, subst}
 use mathlib.Core.Bool.{Bool, true, false, cond, not}
@@ -13,7 +14,6 @@ use Rattle.meaning.specs.Lists.{is_some}
 use Rattle.meaning.specs.Writing.{Wrote}
 use Rattle.meaning.specs.Narrow.{Change, narrow_refusal, change_made, changed_bytes, none_of_each, stays_of, goes_of}
 use Rattle.meaning.specs.Refusals.{number_of, narrowing_number, narrowing_changed, narrowing_length}
-use Rattle.meaning.specs.declared.Narrowing.{Narrowing}
 use Rattle.meaning.specs.declared.Refusal.TheVariants.{Long, Short}
 use Rattle.meaning.proofs.Writes.{wrote_none}
 use Rattle.narrowing.specs.Answers.{NarrowedAs}
@@ -95,7 +95,7 @@ module _ (n : Bytes) (c : Option Change) (d : Bytes) where
 result_with : (a b : Bool) (c : Option Change) (d : Bytes) → (r : narrow.Narrowed) × (d' : Bytes) × NarrowedAs (cond a (cond b 0 6) 5) c d d' r.narrowing r.stayed r.went
 unfolding change_made number_of narrowing_number narrowing_changed narrowing_length
 result_with true true none d = (
-  record { narrowing = Narrowing.Unchanged; stayed = none_of_each; went = none_of_each },
+  record { narrowing = (Ok None); stayed = none_of_each; went = none_of_each },
   d,
   record { number_is = refl; changed_is = refl; written = wrote_none d 0; stays_are = refl; goes_are = refl },
 )
@@ -105,12 +105,12 @@ result_with true true (some c) d = (
   record { number_is = refl; changed_is = refl; written = overwritten c.out d (length c.out) refl; stays_are = refl; goes_are = refl },
 )
 result_with true false c d = (
-  record { narrowing = Narrowing.Refused Short; stayed = none_of_each; went = none_of_each },
+  record { narrowing = Err Short; stayed = none_of_each; went = none_of_each },
   d,
   record { number_is = refl; changed_is = refl; written = wrote_none d 0; stays_are = refl; goes_are = refl },
 )
 result_with false b c d = (
-  record { narrowing = Narrowing.Refused Long; stayed = none_of_each; went = none_of_each },
+  record { narrowing = Err Long; stayed = none_of_each; went = none_of_each },
   d,
   record { number_is = refl; changed_is = refl; written = wrote_none d 0; stays_are = refl; goes_are = refl },
 )

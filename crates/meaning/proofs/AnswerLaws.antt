@@ -6,12 +6,11 @@ use mathlib.Core.Bool.{false, cond}
 use mathlib.Core.Option.{Option, none}
 use lib.Dec.{eqb}
 use borrow.Author.Tests.{eqb-false, eq-eqb}
-use Rattle.std.specs.Prelude.{Ok, Err}
-use Rattle.meaning.specs.Refusals.{Answer, number_of, answer_number, narrowing_number, narrowing_changed, narrowing_length}
+use Rattle.std.specs.Prelude.{Ok, Err, Some, None}
+use Rattle.meaning.specs.Refusals.{Answer, Narrowing, number_of, answer_number, narrowing_number, narrowing_changed, narrowing_length}
 use Rattle.meaning.specs.Narrow.{Change, change_made}
 use Rattle.meaning.specs.declared.Refusal.{Refusal}
 use Rattle.meaning.specs.declared.Refusal.TheVariants.{WorkRoom, FragmentRoom, MapRoom, Unsound, Long, Short, Tally, Input, Wishes}
-use Rattle.meaning.specs.declared.Narrowing.{Narrowing}
 use Rattle.meaning.proofs.ListLaws.{clash}
 
 -- The refusal with this number.
@@ -62,15 +61,15 @@ answer_told (Err a) (Err b) e = ap Err (number_told a b e)
 pub narrowing_told : (a b : Narrowing) → narrowing_number a ≡ narrowing_number b → narrowing_changed a ≡ narrowing_changed b
     → narrowing_length a ≡ narrowing_length b → a ≡ b
 unfolding narrowing_number narrowing_changed narrowing_length
-narrowing_told (Narrowing.Refused a) (Narrowing.Refused b) n c l = ap Narrowing.Refused (number_told a b n)
-narrowing_told (Narrowing.Refused a) Narrowing.Unchanged n c l = not_zero a n
-narrowing_told (Narrowing.Refused a) (Narrowing.Changed k) n c l = clash (cc)
-narrowing_told Narrowing.Unchanged (Narrowing.Refused b) n c l = not_zero b (sym n)
-narrowing_told Narrowing.Unchanged Narrowing.Unchanged n c l = refl
-narrowing_told Narrowing.Unchanged (Narrowing.Changed k) n c l = clash (cc)
-narrowing_told (Narrowing.Changed j) (Narrowing.Refused b) n c l = clash (cc)
-narrowing_told (Narrowing.Changed j) Narrowing.Unchanged n c l = clash (cc)
-narrowing_told (Narrowing.Changed j) (Narrowing.Changed k) n c l = ap Narrowing.Changed l
+narrowing_told (Err a) (Err b) n c l = ap Err (number_told a b n)
+narrowing_told (Err a) (Ok None) n c l = not_zero a n
+narrowing_told (Err a) (Ok (Some k)) n c l = clash (cc)
+narrowing_told (Ok None) (Err b) n c l = not_zero b (sym n)
+narrowing_told (Ok None) (Ok None) n c l = refl
+narrowing_told (Ok None) (Ok (Some k)) n c l = clash (cc)
+narrowing_told (Ok (Some j)) (Err b) n c l = clash (cc)
+narrowing_told (Ok (Some j)) (Ok None) n c l = clash (cc)
+narrowing_told (Ok (Some j)) (Ok (Some k)) n c l = ap (λ n. Ok (Some n)) l
 
 -- Refused, no change is made; accepted, the one that the definition has.
 pub none_made : (r : Refusal) (c : Option Change) → change_made (number_of r) c ≡ none

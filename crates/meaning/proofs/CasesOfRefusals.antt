@@ -1,7 +1,7 @@
 -- 01's refusal numbers and each boundary of a room: 01, "Refusal numbers" and "Rooms and their ends".
 use mathlib.Core.Path.{◌≡◌, refl}
 use mathlib.Core.Bool.{Bool, true, false}
-use Rattle.std.specs.Prelude.{Ok, Err}
+use Rattle.std.specs.Prelude.{Ok, Err, Some, None}
 use Rattle.meaning.specs.Wishes.{wants_assets}
 use Rattle.meaning.specs.declared.Options.{Options}
 use Rattle.meaning.specs.declared.Service.TheVariants.{Every}
@@ -10,16 +10,15 @@ use Rattle.meaning.specs.Rooms.{packet_limit, good_work_room, good_fragment_room
 use Rattle.meaning.specs.Refusals.{number_of, answer_number, narrowing_number, narrowing_changed, narrowing_length}
 use Rattle.meaning.specs.Start.{start_refusal}
 use Rattle.meaning.specs.declared.Refusal.TheVariants.{WorkRoom, FragmentRoom, MapRoom, Unsound, Long, Short, Tally, Input, Wishes}
-use Rattle.meaning.specs.declared.Narrowing.{Narrowing}
 
 pub record Numbers : Type 0 where
   pub starts : (number_of WorkRoom ≡ 1) × (number_of FragmentRoom ≡ 2) × (number_of MapRoom ≡ 3)
   pub calls : (number_of Unsound ≡ 4) × (number_of Long ≡ 5) × (number_of Short ≡ 6)
   pub others : (number_of Tally ≡ 7) × (number_of Input ≡ 8) × (number_of Wishes ≡ 9)
   pub answers : (answer_number (Ok tt) ≡ 0) × (answer_number (Err Tally) ≡ 7)
-  pub narrowings : (narrowing_number (Narrowing.Refused Long) ≡ 5) × (narrowing_number Narrowing.Unchanged ≡ 0) × (narrowing_number (Narrowing.Changed 9) ≡ 0)
-  pub changes : (narrowing_changed (Narrowing.Refused Long) ≡ false) × (narrowing_changed Narrowing.Unchanged ≡ false) × (narrowing_changed (Narrowing.Changed 9) ≡ true)
-  pub lengths : (narrowing_length (Narrowing.Refused Long) ≡ 0) × (narrowing_length Narrowing.Unchanged ≡ 0) × (narrowing_length (Narrowing.Changed 9) ≡ 9)
+  pub narrowings : (narrowing_number (Err Long) ≡ 5) × (narrowing_number (Ok None) ≡ 0) × (narrowing_number (Ok (Some 9)) ≡ 0)
+  pub changes : (narrowing_changed (Err Long) ≡ false) × (narrowing_changed (Ok None) ≡ false) × (narrowing_changed (Ok (Some 9)) ≡ true)
+  pub lengths : (narrowing_length (Err Long) ≡ 0) × (narrowing_length (Ok None) ≡ 0) × (narrowing_length (Ok (Some 9)) ≡ 9)
 
 pub numbers : Numbers
 unfolding number_of answer_number narrowing_number narrowing_changed narrowing_length

@@ -1,12 +1,14 @@
 -- Refusal numbers: 01, "Refusal numbers"; 9: 02 [1]. The lowest that applies is given, 0 for none.
-use Rattle.std.specs.Prelude.{ℕ, Bool, true, false, Result, Ok, Err}
+use Rattle.std.specs.Prelude.{ℕ, Bool, true, false, Option, Some, None, Result, Ok, Err}
 use Rattle.meaning.specs.declared.Refusal.{Refusal}
 use Rattle.meaning.specs.declared.Refusal.TheVariants.{WorkRoom, FragmentRoom, MapRoom, Unsound, Long, Short, Tally, Input, Wishes}
-use Rattle.meaning.specs.declared.Narrowing.{Narrowing}
 
--- What a call answers.
+-- What a call answers, and what narrowing does: where something changed, the length of what was written.
 abbrev pub Answer : Type 0
 Answer = Result (Unit {0}) Refusal
+
+abbrev pub Narrowing : Type 0
+Narrowing = Result (Option ℕ) Refusal
 
 -- 01's number of each.
 unfoldable pub number_of : Refusal → ℕ
@@ -28,16 +30,16 @@ answer_number (Err r) = number_of r
 -- What narrowing answers: the refusal's number, whether anything is changed, and the length of what was written, 0 where nothing was.
 unfoldable pub narrowing_number : Narrowing → ℕ
 unfolding number_of
-narrowing_number (Narrowing.Refused r) = number_of r
-narrowing_number Narrowing.Unchanged = 0
-narrowing_number (Narrowing.Changed n) = 0
+narrowing_number (Err r) = number_of r
+narrowing_number (Ok None) = 0
+narrowing_number (Ok (Some n)) = 0
 
 unfoldable pub narrowing_changed : Narrowing → Bool
-narrowing_changed (Narrowing.Refused r) = false
-narrowing_changed Narrowing.Unchanged = false
-narrowing_changed (Narrowing.Changed n) = true
+narrowing_changed (Err r) = false
+narrowing_changed (Ok None) = false
+narrowing_changed (Ok (Some n)) = true
 
 unfoldable pub narrowing_length : Narrowing → ℕ
-narrowing_length (Narrowing.Refused r) = 0
-narrowing_length Narrowing.Unchanged = 0
-narrowing_length (Narrowing.Changed n) = n
+narrowing_length (Err r) = 0
+narrowing_length (Ok None) = 0
+narrowing_length (Ok (Some n)) = n

@@ -76,10 +76,5 @@ pub enum Refusal {
 // What a call answers.
 pub type Answer = Result<(), Refusal>;
 
-// What narrowing answers; changed, with the length of what was written.
-#[derive(Clone, Copy)]
-pub enum Narrowing {
-    Refused(Refusal),
-    Unchanged,
-    Changed(usize),
-}
+// What narrowing answers: where something changed, the length of what was written.
+pub type Narrowing = Result<Option<usize>, Refusal>;

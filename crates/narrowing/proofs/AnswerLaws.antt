@@ -16,8 +16,7 @@ use Rattle.meaning.specs.Mmtp.{Mmtp, mmtp_of}
 use Rattle.meaning.specs.Tables.{table, pa}
 use Rattle.meaning.specs.Narrow.{change_of, new_body, new_table, narrow_table, parts_of_table, change_table, tables_parts, pa_message, parts_of_message, payload_bytes, narrow_payload, change_payload, packet_for, narrow_packet, parts_of_packet, change_packet, narrow_refusal, change_made, none_of_each}
 use Rattle.meaning.specs.Narrow as meant
-use Rattle.meaning.specs.Refusals.{narrowing_number, narrowing_changed, narrowing_length}
-use Rattle.meaning.specs.declared.Narrowing.{Narrowing}
+use Rattle.meaning.specs.Refusals.{Narrowing, narrowing_number, narrowing_changed, narrowing_length}
 use Rattle.meaning.specs.declared.Part.{Part}
 use Rattle.meaning.specs.declared.Options.{Options}
 use Rattle.meaning.specs.declared.Modes.{Modes}
@@ -27,7 +26,7 @@ use Rattle.tables.specs.Answers.{TableIs}
 use Rattle.tables.specs.declared.pa.Table as code
 use Rattle.tlv.specs.Answers.{Behind, PartIs, MmtpIs}
 use Rattle.tlv.specs.declared.Mmtp as read
-use Rattle.std.specs.Prelude.{Some, None}
+use Rattle.std.specs.Prelude.{Some, None, Ok, Err}
 use Rattle.meaning.specs.declared.Refusal.{Refusal}
 use Rattle.narrowing.specs.Tables.{ChangeIs, is_change, tables_in, tables_change, after_table}
 use Rattle.narrowing.specs.Answers.{NarrowedAs, RefusedAs, PaFound, body_after, signal_of, Rows, no_rows, counted_in, CountsBelow}
@@ -72,16 +71,16 @@ module _ (x : ℕ) (n : Option meant.Change) (d : Bytes) (q : Narrowing) (s w : 
   none_answer d' g e a c l z =
       record { number_is = a; changed_is = rw e c; written = rw (e, l, g) (wrote_none d 0); stays_are = rw e z.0; goes_are = rw e z.1 }
 
-  pub refused_answer : (r : Refusal) → RefusedAs x (Some r) → (q ≡ Narrowing.Refused r) × (s ≡ none_of_each) × (w ≡ none_of_each) → NarrowedAs x n d d q s w
+  pub refused_answer : (r : Refusal) → RefusedAs x (Some r) → (q ≡ Err r) × (s ≡ none_of_each) × (w ≡ none_of_each) → NarrowedAs x n d d q s w
   unfolding narrowing_number narrowing_changed narrowing_length
   refused_answer r h e = none_answer d refl (rw (← h) (none_made r n)) (rw e.0 h) (rw e.0) (rw e.0) (e.1, e.2)
 
-  pub unchanged_answer : (d' : Bytes) → d' ≡ d → x ≡ 0 → n ≡ none → (q ≡ Narrowing.Unchanged) × (s ≡ none_of_each) × (w ≡ none_of_each) → NarrowedAs x n d d' q s w
+  pub unchanged_answer : (d' : Bytes) → d' ≡ d → x ≡ 0 → n ≡ none → (q ≡ (Ok None)) × (s ≡ none_of_each) × (w ≡ none_of_each) → NarrowedAs x n d d' q s w
   unfolding narrowing_number narrowing_changed narrowing_length
   unchanged_answer d' g z h e = none_answer d' g (all_made x n z ∙ h) (rw e.0 (sym z)) (rw e.0) (rw e.0) (e.1, e.2)
 
   pub changed_answer : (d' : Bytes) (k : ℕ) (counts : Rows) (o : Options) (ps : List Part) (y : Bytes) → x ≡ 0 → n ≡ some (change_of o ps y) → Wrote y d 0 d' k
-      → counts ≡ counted_in o no_rows ps → (q ≡ Narrowing.Changed k) × (s ≡ get_or counts 0 []) × (w ≡ get_or counts 1 []) → NarrowedAs x n d d' q s w
+      → counts ≡ counted_in o no_rows ps → (q ≡ Ok (Some k)) × (s ≡ get_or counts 0 []) × (w ≡ get_or counts 1 []) → NarrowedAs x n d d' q s w
   unfolding narrowing_number narrowing_changed narrowing_length
   changed_answer d' k counts o ps y z h u c e =
       let r = c ∙ counted_rows o ps in

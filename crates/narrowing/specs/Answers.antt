@@ -1,6 +1,6 @@
 -- What the three narrowings answer, by the definition that gives the number, the change and the length of each answer, with the whole
 -- output and the counts of the entries that stayed and went; and what the functions below them answer.
-use Rattle.std.specs.Prelude.{ℕ, ◌+◌, ◌-◌, ◌≤◌, ◌≡◌, Bool, true, false, cond, ◌&&◌, List, [], ◌∷◌, map, length, take, drop, get_or, set, leb, eqb, Some, None}
+use Rattle.std.specs.Prelude.{ℕ, ◌+◌, ◌-◌, ◌≤◌, ◌≡◌, Bool, true, false, cond, ◌&&◌, List, [], ◌∷◌, map, length, take, drop, get_or, set, leb, eqb, Some, None, Ok, Err}
 use Rattle.std.specs.Prelude as code
 use Rattle.std.proofs.Math.Option.{Option, none, some}
 use Rattle.meaning.specs.Bytes.{Bytes, be16_at}
@@ -13,8 +13,7 @@ use Rattle.meaning.specs.Messages.{indicator, aggregated}
 use Rattle.meaning.specs.Tables.{Entry, pa_head, kind_number}
 use Rattle.meaning.specs.Wishes.{wanted}
 use Rattle.meaning.specs.Narrow.{Change, narrow_payload, pa_message, pa_bytes, change_made, changed_bytes, none_of_each, stays_of, goes_of}
-use Rattle.meaning.specs.Refusals.{number_of, narrowing_number, narrowing_changed, narrowing_length}
-use Rattle.meaning.specs.declared.Narrowing.{Narrowing}
+use Rattle.meaning.specs.Refusals.{Narrowing, number_of, narrowing_number, narrowing_changed, narrowing_length}
 use Rattle.meaning.specs.declared.Refusal.{Refusal}
 use Rattle.meaning.specs.declared.Part.{Part}
 use Rattle.meaning.specs.declared.Options.{Options}

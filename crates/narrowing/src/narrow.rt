@@ -77,18 +77,18 @@ pub fn narrow_table(t: &[u8], o: Options, out: &mut [u8]) -> Narrowed
     ensures { NarrowedAs (narrow_refusal (length t.now) (length out.old)) (change_table o t.now) out.old out.new result.narrowing result.stayed result.went }
 {
     if let Some(r) = refusal(t.len(), out.len()) {
-        return without_counts(Narrowing::Refused(r));
+        return without_counts(Err(r));
     }
     let Table::To(end) = table_at(t, 0) else {
-        return without_counts(Narrowing::Unchanged);
+        return without_counts(Ok(None));
     };
     let change = change_of(&t[4..end], t[0], 0, o);
     if !changes(change) {
-        return without_counts(Narrowing::Unchanged);
+        return without_counts(Ok(None));
     }
     let u = &t[0..end];
     let n = table_to(u, change, o, out, 0);
-    answer_of(Narrowing::Changed(n), count_table(u, o, [[0u64; 3]; 2]))
+    answer_of(Ok(Some(n)), count_table(u, o, [[0u64; 3]; 2]))
 }
 
 // Whether a payload is whole and unaggregated, and its message's number that of a PA message.
@@ -173,15 +173,15 @@ pub fn narrow_payload(
     ensures { NarrowedAs (narrow_refusal (length payload.now) (length out.old)) (change_payload o pid payload.now) out.old out.new result.narrowing result.stayed result.went }
 {
     if let Some(r) = refusal(payload.len(), out.len()) {
-        return without_counts(Narrowing::Refused(r));
+        return without_counts(Err(r));
     }
     let Some(changed) = changed_pa(payload, pid, o) else {
-        return without_counts(Narrowing::Unchanged);
+        return without_counts(Ok(None));
     };
     let n = payload_to(payload, changed, pid, o, out, 0);
     let pa = changed.pa;
     answer_of(
-        Narrowing::Changed(n),
+        Ok(Some(n)),
         count_tables(&payload[9..pa.end], pa.tables, o),
     )
 }
@@ -254,13 +254,13 @@ pub fn narrow_packet(p: &[u8], o: Options, modes: Modes, out: &mut [u8]) -> Narr
     ensures { NarrowedAs (narrow_refusal (length p.now) (length out.old)) (change_packet modes o p.now) out.old out.new result.narrowing result.stayed result.went }
 {
     if let Some(r) = refusal(p.len(), out.len()) {
-        return without_counts(Narrowing::Refused(r));
+        return without_counts(Err(r));
     }
     let Some(mmtp) = mmtp_of(p) else {
-        return without_counts(Narrowing::Unchanged);
+        return without_counts(Ok(None));
     };
     if mmtp.payload_type != 2 {
-        return without_counts(Narrowing::Unchanged);
+        return without_counts(Ok(None));
     }
     let payload = packet_payload(p);
     let rewritten = rewrite(
@@ -274,7 +274,7 @@ pub fn narrow_packet(p: &[u8], o: Options, modes: Modes, out: &mut [u8]) -> Narr
         0,
     );
     let Some(n) = rewritten else {
-        return without_counts(Narrowing::Unchanged);
+        return without_counts(Ok(None));
     };
-    answer_of(Narrowing::Changed(n), count_payload(payload, o))
+    answer_of(Ok(Some(n)), count_payload(payload, o))
 }

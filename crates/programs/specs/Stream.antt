@@ -12,7 +12,6 @@ use Rattle.meaning.specs.Programs.{input_refusal, input_options, program_limits,
 use Rattle.meaning.specs.declared.Options.{Options}
 use Rattle.meaning.specs.declared.Modes.{Modes}
 use Rattle.meaning.specs.declared.Counts.{Counts}
-use Rattle.meaning.specs.declared.Answer.TheVariants.{Refused}
 use Rattle.meaning.specs.declared.Refusal.{Refusal}
 use Rattle.recorder.specs.declared.Pushed.{Pushed}
 use Rattle.recorder.specs.declared.Started.{Started}
@@ -113,7 +112,7 @@ abbrev pub ending_of : Standing → Ending
 ending_of x = record { answer = x.answer; sums = x.sums; held_count = x.filter.held_count }
 
 abbrev pub unasked_as : Refusal → Ending
-unasked_as r = record { answer = Refused r; sums = counts_of 0; held_count = 0 }
+unasked_as r = record { answer = Err r; sums = counts_of 0; held_count = 0 }
 
 -- The refusal of an input with this head and these chunks: that of the head, or that of its sums.
 unfoldable pub run_refusal : Bytes → List Bytes → ℕ

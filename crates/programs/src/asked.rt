@@ -73,8 +73,8 @@ pub fn answer_number(a: Answer) -> u8
     ensures { result ≡ answer_number a }
 {
     match a {
-        Answer::Done => 0,
-        Answer::Refused(r) => number_of(r),
+        Ok(()) => 0,
+        Err(r) => number_of(r),
     }
 }
 

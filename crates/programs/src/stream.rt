@@ -227,7 +227,7 @@ fn unasked(refusal: Refusal) -> Ending
     ensures { result ≡ unasked_as refusal }
 {
     Ending {
-        answer: Answer::Refused(refusal),
+        answer: Err(refusal),
         sums: no_counts(),
         held_count: 0,
     }
