@@ -7,7 +7,7 @@ use mathlib.Core.List.{List, [], flatten}
 use native.Mathlib.Omega.{arith}
 use lib.ListN.{length, take}
 use lib.Dec.{leb, eqb}
-use borrow.Author.Tests.{leb-true, eqb-true}
+use borrow.Author.Tests.{clash, leb-true, eqb-true}
 use Rattle.meaning.specs.Bytes.{Bytes}
 use Rattle.meaning.specs.Wishes.{copies_all}
 use Rattle.meaning.specs.Rooms.{packet_limit}
@@ -29,6 +29,7 @@ use Rattle.recorder.specs.declared.Filter.{Filter}
 use Rattle.recorder.specs.declared.call.CarriedOut.{CarriedOut}
 use Rattle.soundness.specs.Parts.{parts_sound}
 use Rattle.recorder.specs.Filter.{record_in, extent_of, begun_of, handed_of}
+use Rattle.learning.specs.declared.Kept.{Kept}
 use Rattle.recorder.specs.Slots.{cleared_in}
 use Rattle.recorder.specs.Calls.{RoomFor, CarriedOutAs, CarriesOut, PushedAs, DroppedAs}
 use Rattle.recorder.proofs.StateLaws.{Whole, record_parts, state_held, record_back, state_again}

@@ -1,4 +1,6 @@
-use mathlib.Core.Path.{refl, sym, ◌∙◌}
+use mathlib.Core.Path.{◌≡◌, refl, sym, ◌∙◌}
+use native.Mathlib.Omega.{arith}
+use lib.ListN.{length}
 use borrow.Author.Tests.{not-true, not-false}
 use Rattle.meaning.specs.Record.{state_of}
 use Rattle.recorder.specs.Filter.{record_in, extent_of}
@@ -14,18 +16,24 @@ unfolding record_in
 dropped-requires c =
     let a = c.args in
     let s = sym c.is_sound.ensures ∙ not-false _ c.if-not-is_sound.false-raw in
-    let g = c.well_formed.0.1.1.1.1.1.1.1.1.1.1.1.1.1 in
-    let all = whole_record a.self g.0.1.0.1 g.1.0.1.0.1 g.1.1.0.1.0.1 g.1.1.1.0.1.0.1 in
+    let p : length c.args.self.kept.packages ≡ 255 = omega arith in
+    let m : length c.args.self.kept.map_heads ≡ 64 = omega arith in
+    let h : length c.args.self.kept.fragment_heads ≡ 256 = omega arith in
+    let d : length c.args.self.kept.data_set.words ≡ 1024 = omega arith in
+    let all = whole_record c.args.self d p m h in
     let h = (state_held (record_in a.self) a.work.now a.bodies.now a.map_room.now (extent_of a.self) s all (record { seen_is = refl; packages_are = refl; map_heads_are = refl; fragments_are = refl; leading_is = refl })).tables_kept in
-    ((state_of (record_in a.self) a.work.now a.bodies.now a.map_room.now).known, rw (c.clear.ensures, c.clear-2.ensures, c.extent_of-e.ensures) h)
+    ((state_of (record_in a.self) a.work.now a.bodies.now a.map_room.now).known, rw (c.clear_unused.ensures, c.extent_of-e.ensures) h)
 
 pub returns : goal.returns
 unfolding record_in
 returns c =
     let a = c.args in
     let s = sym c.is_sound.ensures ∙ not-false _ c.if-not-is_sound.false-raw in
-    let g = c.well_formed.0.1.1.1.1.1.1.1.1.1.1.1.1.1 in
-    let all = whole_record a.self g.0.1.0.1 g.1.0.1.0.1 g.1.1.0.1.0.1 g.1.1.1.0.1.0.1 in
+    let p : length c.args.self.kept.packages ≡ 255 = omega arith in
+    let m : length c.args.self.kept.map_heads ≡ 64 = omega arith in
+    let h : length c.args.self.kept.fragment_heads ≡ 256 = omega arith in
+    let d : length c.args.self.kept.data_set.words ≡ 1024 = omega arith in
+    let all = whole_record c.args.self d p m h in
     let h = (state_held (record_in a.self) a.work.now a.bodies.now a.map_room.now (extent_of a.self) s all (record { seen_is = refl; packages_are = refl; map_heads_are = refl; fragments_are = refl; leading_is = refl })).tables_kept in
     counted_as a.self a.work.now a.bodies.now a.map_room.now _ s
-    (c.dropped.ensures (state_of (record_in a.self) a.work.now a.bodies.now a.map_room.now).known (rw (c.clear.ensures, c.clear-2.ensures, c.extent_of-e.ensures) h))
+    (c.dropped.ensures (state_of (record_in a.self) a.work.now a.bodies.now a.map_room.now).known (rw (c.clear_unused.ensures, c.extent_of-e.ensures) h))

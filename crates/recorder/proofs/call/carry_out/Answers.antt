@@ -13,7 +13,7 @@ use Rattle.recorder.proofs.call.carry_out.Goals as goal
 pub returns-then-copies_all : goal.returns-then-copies_all
 returns-then-copies_all c L k em ew h =
     let all = sym c.copies_all.ensures ∙ c.if-copies_all.true in
-    all_copied L _ _ k _ _ _ _ _ _ _ _ _ _ _ _ _ all (c.requires.1 all) c.copied.ensures.0 c.copied.ensures.1 h
+    all_copied L _ _ k _ _ _ _ _ _ _ _ _ _ all (c.requires.1 all) c.copied.ensures.0 c.copied.ensures.1 h
 
 pub returns-in_default : goal.returns-in_default
 returns-in_default c L k em ew h =
@@ -23,7 +23,7 @@ returns-in_default c L k em ew h =
     let held = take a.b.held_count a.work.now in
     let len : length (held ++ a.chunk.now) ≡ a.b.held_count + length a.chunk.now = omega (arith, length-append held a.chunk.now, length-take-le a.b.held_count a.work.now (omega (arith, c.requires.0.work_room))) in
     ran_as (not_all L _ _ _ _ (sym c.copies_all.ensures ∙ c.if-copies_all.false)) (not_all_leads L _ _ _ _ (sym c.copies_all.ensures ∙ c.if-copies_all.false))
-    (held_ends L a.b.modes a.b.options k held a.chunk.now a.out.now _ (length a.work.now) terms.result.limit a.b.extent c.all_held.result _ _ _ _ _ _ (ap (λ (t : Terms). t.limit) terms.ensures) ew
+    (held_ends L a.b.modes a.b.options k held a.chunk.now a.out.now _ (length a.work.now) terms.result.limit a.b.extent c.all_held.result _ _ _ (ap (λ (t : Terms). t.limit) terms.ensures) ew
     (front_holds terms.result.limit a.b.held_count a.chunk.now a.work.now (omega (arith, c.requires.0.work_room)) _ c.front_of.ensures c.in_default.is)
     (rw (← len) at e.0) (ap (λ (n : ℕ). take n c.all_held.new.work) len ∙ e.1.front) h)
 
@@ -105,5 +105,5 @@ returns c L known em ew h =
     ran_as
     (ap (λ (t : Terms). filtered L t.modes t.options (record { held = held; known = known }) a.chunk.now) terms.ensures ∙ not_all L _ _ _ _ (sym c.copies_all.ensures ∙ c.if-copies_all.false))
     (not_all_leads L _ _ _ _ (sym c.copies_all.ensures ∙ c.if-copies_all.false))
-    (parts_carried L terms.result known held a.chunk.now (held ++ take k a.chunk.now) (drop k a.chunk.now) a.out.now _ _ _ (length a.work.now) c.copy-n.result a.b.extent _ _ _ _ _ _ _ _ _ _ _ _ c.in_parts-x.result c.held_on.result
+    (parts_carried L terms.result known held a.chunk.now (held ++ take k a.chunk.now) (drop k a.chunk.now) a.out.now _ _ _ (length a.work.now) c.copy-n.result a.b.extent _ _ _ _ _ _ c.in_parts-x.result c.held_on.result
     (ap (λ (t : Terms). t.limit) terms.ensures) ew (em ∙ sym (ap (λ (t : Terms). t.most) terms.ensures)) (run_parts held a.chunk.now k) f.1 (run_front a.b.held_count k a.chunk.now a.work.now _ c.copy-n.result f.0 (omega (arith, f.0, c.requires.0.work_room)) c.copy-n.ensures) h passed on)
