@@ -71,8 +71,8 @@ impl IdSet {
         ensures { result ≡ how_many (in_set self.now.words) 65536 }
     {
         let mut n: u32 = 0;
-        for word in &self.words {
-            n += word_ones(*word);
+        for i in 0..1024 {
+            n += word_ones(self.words[i]);
         }
         n
     }

@@ -5,12 +5,12 @@ use native.Mathlib.Nat.{mod-eq_of_lt}
 use mathlib.Core.Path.{refl}
 use Rattle.octets.proofs.sets.IdSet.count.Goals as goal
 
-pub loop-word-init : goal.loop-word-init
+pub loop-i-init : goal.loop-i-init
 unfolding how_many
-loop-word-init c = (refl, omega arith)
+loop-i-init c = (refl, omega arith)
 
-pub loop-word-preserved : goal.loop-word-preserved
-loop-word-preserved c =
+pub loop-i-preserved : goal.loop-i-preserved
+loop-i-preserved c =
     let w = mod-eq_of_lt c.word_ones-n.ensures.2 in
-    let n = rw w at (ones_turn c.args.self.now.words c.loop-word.word-index) in
+    let n = rw w at (ones_turn c.args.self.now.words c.loop-i.i) in
     (omega arith, omega arith)

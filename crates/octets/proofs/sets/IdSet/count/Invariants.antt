@@ -3,5 +3,5 @@ use mathlib.Core.Path.{◌≡◌}
 use Prim.Native.Nat.{◌*◌, ◌≤◌}
 use Rattle.octets.proofs.sets.IdSet.count.Given as goal
 
-abbrev pub invariant-loop-word : goal.invariant-loop-word
-invariant-loop-word l = (l.n ≡ how_many (in_set l.self.words) (l.word-index * 64)) × (l.n ≤ 64 * l.word-index)
+abbrev pub invariant-loop-i : goal.invariant-loop-i
+invariant-loop-i l = (l.n ≡ how_many (in_set l.self.words) (l.i * 64)) × (l.n ≤ 64 * l.i)
