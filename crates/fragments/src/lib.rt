@@ -148,6 +148,7 @@ pub enum Grown {
     Absent,
 }
 
+// Stays: heads and room are lent to each method, not held in a struct: a payload makes a call or two, and the struct would be made for it and taken apart.
 impl Held {
     // The sense of a number of leading fragments that is handed in: at most all lead.
     fn nearest(self) -> usize

@@ -36,6 +36,7 @@ pub fn move_free(from: Leading, to: Leading, all: usize, bodies: &mut [u8])
 
 // Where the fragment at `index` stands, and where the free bytes do, behind those that lead. Counted as if none were free, it has `own` bytes
 // from `start` on; all fragments have `all` bytes.
+// Stays: `index` is the count where there is no fragment: a first stands there, and `place_of`, `pack` and `first_fits` would unwrap an Option to that.
 #[derive(Clone, Copy)]
 pub struct Place {
     pub index: usize,

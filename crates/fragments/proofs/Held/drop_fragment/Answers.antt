@@ -3,9 +3,8 @@ use Rattle.fragments.proofs.GrowLaws.{dropped}
 use Rattle.fragments.proofs.Held.drop_fragment.Goals as goal
 
 pub drop_found-requires : goal.drop_found-requires
-drop_found-requires c = let a = c.args in (c.index_of-found.ensures.1, some_numbers a.self.count a.self.leading a.fragment_heads.now a.bodies.now c.requires)
+drop_found-requires c = let a = c.args in (c.index_of-found.ensures.1, some_numbers c.requires)
 
 pub returns : goal.returns
 returns c =
-    let a = c.args in
-    dropped a.id a.self.count a.self.leading a.fragment_heads.now a.bodies.now _ _ _ _ c.index_of-found.ensures.0 c.drop_found.ensures
+    dropped c.index_of-found.ensures.0 c.drop_found.ensures

@@ -6,8 +6,7 @@ use Rattle.fragments.proofs.Held.hold_first.Goals as goal
 
 pub first_fits-requires : goal.first_fits-requires
 first_fits-requires c =
-    let a = c.args in
-    let n = some_numbers a.self.count a.self.leading a.fragment_heads.now a.bodies.now c.requires in
+    let n = some_numbers c.requires in
     let place = c.place_of-place in
     omega (arith, place.ensures.2.all_is, n.within)
 
@@ -16,24 +15,21 @@ put_behind-requires c =
     let a = c.args in
     let place = c.place_of-place in
     let r = first_room place.result.index a.body.now _ a.bodies.now (sym c.first_fits.ensures ∙ c.if-first_fits.true) in
-    (r.0, place.ensures.2, some_numbers a.self.count a.self.leading a.fragment_heads.now a.bodies.now c.requires, omega (arith, r.1))
+    (r.0, place.ensures.2, some_numbers c.requires, omega (arith, r.1))
 
 pub returns-then-first_fits : goal.returns-then-first_fits
 returns-then-first_fits c =
-    let a = c.args in
     let place = c.place_of-place in
-    first_held a.id a.flags a.body.now a.self.count a.self.leading a.fragment_heads.now a.bodies.now place.result (place.ensures.0 ∙ c.unwrap_or.ensures ∙ c.index_of-found.ensures.0) place.ensures.2 _ _ _ place.ensures.1 c.put_behind.ensures
+    first_held (place.ensures.0 ∙ c.unwrap_or.ensures ∙ c.index_of-found.ensures.0) place.ensures.2 place.ensures.1 c.put_behind.ensures
 
 pub drop_found-requires : goal.drop_found-requires
 drop_found-requires c =
-    let a = c.args in
-    (c.index_of-found.ensures.1, some_numbers a.self.count a.self.leading a.fragment_heads.now a.bodies.now c.requires)
+    (c.index_of-found.ensures.1, some_numbers c.requires)
 
 pub returns : goal.returns
 returns c =
-    let a = c.args in
     let place = c.place_of-place in
-    let n = some_numbers a.self.count a.self.leading a.fragment_heads.now a.bodies.now c.requires in
+    let n = some_numbers c.requires in
     let at = place.ensures.0 ∙ c.unwrap_or.ensures in
-    first_not_held a.id a.flags a.body.now a.self.count a.self.leading a.fragment_heads.now a.bodies.now place.result (at ∙ c.index_of-found.ensures.0) place.ensures.2 _ _ _ n.few
-    (sym c.first_fits.ensures ∙ c.if-first_fits.false) _ at c.drop_found.ensures
+    first_not_held (at ∙ c.index_of-found.ensures.0) place.ensures.2 n.few
+    (sym c.first_fits.ensures ∙ c.if-first_fits.false) at c.drop_found.ensures
