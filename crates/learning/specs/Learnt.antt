@@ -65,11 +65,11 @@ PltLearnt (some (ys, more)) ps e r xs =
 -- ---- an MPT
 
 -- The listed assets of an MPT's body, as numbers at the front of an array of their own, and what is new with the kinds of all.
-abbrev pub AssetsAre : Out Mpt → News → code.Option Assets → List ℕ → Type 0
-AssetsAre o known (Some r) xs =
+abbrev pub AssetsAre : Out Mpt → News → code.Option Assets → Type 0
+AssetsAre o known (Some r) =
     (r.count ≤ 255)
-    × ((m : Mpt) × (more : Bytes) × (o ≡ some (m, more)) × (r.count ≡ length (listed m.entries)) × (take (2 * r.count) xs ≡ asset_numbers (listed m.entries)) × (r.news ≡ also known (kinds_in m.entries)))
-AssetsAre o known None xs = o ≡ none
+    × ((m : Mpt) × (more : Bytes) × (o ≡ some (m, more)) × (r.count ≡ length (listed m.entries)) × (take (2 * r.count) r.numbers ≡ asset_numbers (listed m.entries)) × (r.news ≡ also known (kinds_in m.entries)))
+AssetsAre o known None = o ≡ none
 
 -- The two numbers of an asset, if it has an identifier.
 abbrev pub numbers_of : code.Option ℕ → Part → List ℕ
