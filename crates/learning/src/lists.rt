@@ -46,8 +46,9 @@ fn with_kind(n: News, part: Part) -> News
     }
 }
 
-// The assets of an MPT's body as far as they are read: so many are listed, an identifier and a kind for each, and what is new with the kinds
-// of all. Stays: an array and a count, since there is no heap (fixed memory), so no Vec.
+// The assets of an MPT's body as far as they are read: the numbers of those that are listed, an identifier and a kind for each, and what is
+// new with the kinds of all.
+// Stays: an array and a count, since there is no heap (fixed memory), so no Vec.
 #[derive(Clone, Copy)]
 pub struct Assets {
     pub numbers: [u16; 510],
