@@ -12,7 +12,7 @@ use lib.Seq.{drop-cons}
 use lib.Dec.{eqb}
 use Rattle.meaning.specs.Bytes.{Bytes, be16, be16_at, be32_at}
 use Rattle.meaning.specs.Readers.{Out, Reader, bind, ◌>>=◌, give, u8, bytes, counted8, counted16, announced, many, raw}
-use borrow.Author.Tests.{eq-eqb, eqb-true, leb-true}
+use borrow.Author.Tests.{eq-eqb, eqb-true, le-leb, leb-true}
 use Rattle.meaning.specs.Tables.{clock_relation, location_body, location, asset, entry, same_bytes, part_of, mpt_front, first_of}
 use Rattle.meaning.specs.Tables as meant
 use Rattle.meaning.specs.declared.Part.{Part}
@@ -99,6 +99,11 @@ module _ (s : Bytes) (at flags : ℕ) where
         tail_whole e d = (d.0, (are.1.0, counted ∙ rw (are.1.1, d.1.1), are.1.2))
 
 -- ---- the same, plain
+
+-- by its last test where the others are met
+pub plain_so : (s : Bytes) (at flags : ℕ) → flags % 2 ≡ 0 → at + 4 ≤ length s → get_or s at 0 ≡ 1 → eqb (get_or s (at + 1) 0) 0 ≡ is_plain flags s at
+unfolding is_plain
+plain_so s at flags z room one = rw (eq-eqb _ _ z, le-leb _ _ room, eq-eqb _ _ one)
 
 module _ (s : Bytes) (at flags : ℕ) (plain : is_plain flags s at ≡ true) where
   pub record Plain : Type 0 where

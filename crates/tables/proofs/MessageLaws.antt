@@ -2,15 +2,15 @@
 -- Rests on the reading laws of meaning.
 use Prim.Native.Nat.{ℕ, ◌+◌, ◌-◌, ◌≤◌, ◌<◌}
 use mathlib.Core.Path.{◌≡◌, refl, ◌∙◌}
-use mathlib.Core.Bool.{Bool}
+use mathlib.Core.Bool.{Bool, true, false, cond}
 use mathlib.Core.Option.{none, some}
 use native.Mathlib.Decide.{dec_lt}
 use native.Mathlib.Omega.{arith}
 use lib.ListN.{length, drop}
-use Rattle.meaning.specs.Bytes.{Bytes, be16_at}
+use Rattle.meaning.specs.Bytes.{Bytes, be16_at, be32_at}
 use Rattle.meaning.specs.Readers.{Out, bind, bytes}
 use Rattle.meaning.specs.Messages.{is_long, message_body, message}
-use Rattle.meaning.proofs.Reading.{byte_at, byte_none, u16_at, u16_none, bytes_at, bytes_none}
+use Rattle.meaning.proofs.Reading.{byte_at, byte_none, u16_at, u16_none, bytes_at, bytes_none, counted16_at, counted16_none, counted32_at, counted32_none}
 use Rattle.tables.specs.Answers.{FrameIs, MessageIs}
 use Rattle.std.specs.Prelude.{Some}
 use Rattle.tables.specs.declared.messages.Frame.{Frame}
@@ -25,6 +25,25 @@ module _ (o : Out Bytes) (s : Bytes) (at a m n : ℕ) (is : n ≡ m) (reads : o 
   part_at k h =
       let w : a + n - a ≡ m = omega arith in
       (k, omega arith, h, reads ∙ rw (bytes_at s a m (a + n) h (omega arith), w))
+
+-- ---- a length of either width
+
+pub width_some : (long : Bool) → 0 < cond long 4 2
+width_some true = omega arith
+width_some false = omega arith
+
+-- what is cut
+pub frame_none : (s : Bytes) (at : ℕ) (long : Bool) → length s < at + cond long 4 2 → message_body long (drop at s) ≡ none
+unfolding message_body
+frame_none s at true h = counted32_none s at h
+frame_none s at false h = counted16_none s at h
+
+-- and what is not
+pub frame_reads : (s : Bytes) (at : ℕ) (long : Bool) → at + cond long 4 2 ≤ length s
+    → message_body long (drop at s) ≡ bytes (cond long (be32_at s at) (be16_at s at)) (drop (at + cond long 4 2) s)
+unfolding message_body
+frame_reads s at true h = counted32_at s at h
+frame_reads s at false h = counted16_at s at h
 
 -- ---- a message
 

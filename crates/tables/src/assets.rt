@@ -39,16 +39,7 @@ fn is_plain(s: &[u8], at: usize, flags: u8) -> bool
     requires { at ≤ length s.now }
     ensures { result ≡ is_plain flags s.now at }
 {
-    if flags % 2 != 0 {
-        return false;
-    }
-    if s.len() - at < 4 {
-        return false;
-    }
-    if s[at] != 1 {
-        return false;
-    }
-    s[at + 1] == 0
+    flags % 2 == 0 && 4 <= s.len() - at && s[at] == 1 && s[at + 1] == 0
 }
 
 // The same as `tail_at` where it is plain: neither a loop nor a choice by type is gone through.
@@ -88,14 +79,11 @@ fn part_of(s: &[u8], at: usize) -> Part
     requires { at + 4 ≤ length s.now }
     ensures { result ≡ part_of (take 4 (drop at s.now)) }
 {
-    let asset_type = be32(s, at);
-    if asset_type == 0x73747070 {
-        return Part::Caption;
+    match be32(s, at) {
+        0x73747070 => Part::Caption,
+        0x61617070 => Part::Carousel,
+        _ => Part::Other,
     }
-    if asset_type == 0x61617070 {
-        return Part::Carousel;
-    }
-    Part::Other
 }
 
 // The asset entry at `at`.

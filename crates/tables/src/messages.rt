@@ -1,7 +1,7 @@
 // The messages of a signalling payload: one by itself, and the parts of an aggregate one after the other.
-ghost use Rattle.std.specs.Prelude.{◌≡◌, ℕ, ◌+◌, ◌-◌, ◌*◌, ◌%◌, ◌≤◌, ◌<◌, length, take, drop, get_or};
-ghost use Rattle.meaning.specs.Bytes.{Bytes};
-ghost use Rattle.meaning.specs.Readers.{Out, bytes, counted16, counted32};
+ghost use Rattle.std.specs.Prelude.{◌≡◌, ℕ, ◌+◌, ◌-◌, ◌*◌, ◌%◌, ◌≤◌, ◌<◌, length, take, drop, get_or, cond};
+ghost use Rattle.meaning.specs.Bytes.{Bytes, be16_at, be32_at};
+ghost use Rattle.meaning.specs.Readers.{Out, bytes};
 ghost use Rattle.meaning.specs.Messages.{is_long, message_body, message};
 ghost use Rattle.tables.specs.Answers.{FrameIs, MessageIs};
 
@@ -26,19 +26,7 @@ pub struct Frame {
 fn is_long(number: u16) -> bool
     ensures { result ≡ is_long number }
 {
-    if number == 0 {
-        return true;
-    }
-    if number == 0x8003 {
-        return true;
-    }
-    if 0xF000 <= number {
-        return true;
-    }
-    if number < 0x7000 {
-        return false;
-    }
-    number <= 0x7FFF
+    matches!(number, 0 | 0x8003 | 0x7000..=0x7FFF | 0xF000..)
 }
 
 // A part of `n` bytes from `start` on, whatever stands before it.
@@ -55,46 +43,34 @@ fn part_from(s: &[u8], start: usize, n: usize) -> Option<Frame>
     })
 }
 
-// A part behind a 16-bit length at `at`.
-fn short_frame(s: &[u8], at: usize) -> Option<Frame>
-    ensures { FrameIs (counted16 (drop at s.now)) s.now at result }
+// How many bytes a length has.
+fn width(long: bool) -> usize
+    ensures { result ≡ cond long 4 2 }
 {
-    let len = s.len();
-    if len < 2 {
-        return None;
-    }
-    if len - 2 < at {
-        return None;
-    }
-    let n = be16(s, at);
-    let start = at + 2;
-    part_from(s, start, n)
+    if long { 4 } else { 2 }
 }
 
-// A part behind a 32-bit length at `at`.
-fn long_frame(s: &[u8], at: usize) -> Option<Frame>
-    ensures { FrameIs (counted32 (drop at s.now)) s.now at result }
+// The length at `at`.
+fn length_at(s: &[u8], at: usize, long: bool) -> usize
+    requires { at + cond long 4 2 ≤ length s.now }
+    ensures { result ≡ cond long (be32_at s.now at) (be16_at s.now at) }
 {
-    let len = s.len();
-    if len < 4 {
-        return None;
-    }
-    if len - 4 < at {
-        return None;
-    }
-    let n = be32(s, at);
-    let start = at + 4;
-    part_from(s, start, n)
+    if long { be32(s, at) } else { be16(s, at) }
 }
 
-// The part of an aggregate at `at`.
+// The part of an aggregate at `at`, behind its length.
 pub fn frame_at(s: &[u8], at: usize, long: bool) -> Option<Frame>
     ensures { FrameIs (message_body long (drop at s.now)) s.now at result }
 {
-    if long {
-        return long_frame(s, at);
+    let len = s.len();
+    let n = width(long);
+    if len < n {
+        return None;
     }
-    short_frame(s, at)
+    if len - n < at {
+        return None;
+    }
+    part_from(s, at + n, length_at(s, at, long))
 }
 
 // The message at the front of `s`.

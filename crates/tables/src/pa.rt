@@ -48,8 +48,5 @@ pub fn table_at(s: &[u8], at: usize) -> Table
 pub fn is_mpt(number: u8) -> bool
     ensures { result ≡ is_mpt number }
 {
-    if number < 0x11 {
-        return false;
-    }
-    number <= 0x20
+    matches!(number, 0x11..=0x20)
 }

@@ -1,17 +1,16 @@
 -- Bytes skipped one after the other are a gap, and so are blocks in which no packet may start. Rests on Laws and on meaning's CutLaws.
-use Prim.Native.Nat.{ℕ, zero, suc, ◌+◌, ◌-◌, ◌*◌, ◌≤◌, ◌<◌}
-use mathlib.Core.Path.{◌≡◌, refl, sym, ap, ap₂, ◌∙◌}
+use Prim.Native.Nat.{ℕ, zero, suc, ◌+◌, ◌-◌, ◌≤◌, ◌<◌}
+use mathlib.Core.Path.{◌≡◌, refl, sym, ap, ◌∙◌}
 use mathlib.Core.List.{[], ◌∷◌}
-use mathlib.Core.Bool.{Bool, true, false, cond, ◌&&◌}
+use mathlib.Core.Bool.{Bool, true, false, not, ◌&&◌, ◌||◌}
 use mathlib.Core.Logic.{inl, inr}
 use denote.Enum.Declared.{tag_of}
 use types.Run.{OneOf}
 use native.Mathlib.Omega.{arith}
 use native.Mathlib.Decide.{dec_lt}
-use native.Mathlib.Nat.{zero-mul}
 use lib.ListN.{length, drop, get_or, length-drop}
 use lib.Seq.{drop-drop, drop-length}
-use lib.Dec.{eqb, leb, ltb}
+use lib.Dec.{leb, ltb}
 use borrow.Author.Tests.{ltb-false, leb-false, ne_eqb}
 use Rattle.meaning.specs.Bytes.{Bytes}
 use Rattle.meaning.specs.Packets.{is_type, size_of, followed, step_of, Cut, cut, skip}
@@ -67,45 +66,14 @@ module _ (f : ℕ → Bool) (at : ℕ) where
   pub looked_begin : LookedAt f at 0 true
   looked_begin k h l = absurd (omega arith)
 
-  module _ (i : ℕ) where
-    pub looked_one : f (at + i) ≡ true → LookedAt f at (i + 1) false
-    looked_one e = (at + i, omega arith, omega arith, e)
-
-    pub looked_next : (b : Bool) → f (at + i) ≡ false → LookedAt f at i b → LookedAt f at (i + 1) b
-    looked_next true n u = λ k h l. elim (dec_lt k (at + i)) [
-      | yes b ↦ u k h b
-      | no b ↦ (let z : k ≡ at + i = omega arith in ap f z ∙ n)
-    ]
-    looked_next false n u = (u.0, u.1, omega (arith, u.2), u.3)
-
-    -- w counts the next one: 1 where it passes, else 0
-    pub counted_next : (h w : ℕ) → w ≡ cond (f (at + i)) 1 0 → LookedAt f at i (eqb h 0) → LookedAt f at (i + 1) (eqb (h + w) 0)
-    counted_next h w e u = go (f (at + i)) refl
-      where
-        go : (t : Bool) → f (at + i) ≡ t → LookedAt f at (i + 1) (eqb (h + w) 0)
-        go true q =
-            let z : w ≡ 1 = e ∙ ap (λ (b : Bool). cond b 1 0) q in
-            rw (ne_eqb (h + w) 0 (λ y. omega arith)) (looked_one q)
-        go false q =
-            let z : h + w ≡ h = (let y : w ≡ 0 = e ∙ ap (λ (b : Bool). cond b 1 0) q in omega arith) in
-            rw z (looked_next (eqb h 0) q u)
-
--- A packet may start exactly if the product of the two numbers is 1.
-module _ (run : Bytes) (k m n : ℕ) (d : m ≡ cond (is_mark run k) 1 0) (e : n ≡ cond (near_type (get_or run (k + 1) 0)) 1 0) where
-  pub weight_is : m * n ≡ cond (may_start run k) 1 0
-  weight_is = ap₂ (λ (a b : ℕ). a * b) d e ∙ go (is_mark run k) (near_type (get_or run (k + 1) 0))
-    where
-      go : (s t : Bool) → cond s 1 0 * cond t 1 0 ≡ cond (s && t) 1 0
-      go true true = refl
-      go true false = refl
-      go false t = zero-mul (cond t 1 0)
-
-  pub weight_few : m * n ≤ 1
-  weight_few = rw weight_is (go (may_start run k))
-    where
-      go : (t : Bool) → cond t 1 0 ≤ 1
-      go true = omega arith
-      go false = omega arith
+  -- b: whether one of the first i passes the test; t: whether the next one does
+  pub looked_next : (i : ℕ) (b t : Bool) → f (at + i) ≡ t → LookedAt f at i (not b) → LookedAt f at (i + 1) (not (b || t))
+  looked_next i true t e u = (u.0, u.1, omega (arith, u.2), u.3)
+  looked_next i false true e u = (at + i, omega arith, omega arith, e)
+  looked_next i false false e u = λ k h l. elim (dec_lt k (at + i)) [
+    | yes b ↦ u k h b
+    | no b ↦ (let z : k ≡ at + i = omega arith in ap f z ∙ e)
+  ]
 
 -- A block without a mark has no start.
 pub quiet_idle : (run : Bytes) (at i : ℕ) → LookedAt (is_mark run) at i true → LookedAt (may_start run) at i true

@@ -1,7 +1,7 @@
 -- One law for each return of the readers: what the code's tests show is what the definition says. First finding packets, then the
 -- header of the MMTP, the parts that are handed back, and the MMTP of a packet.
 use Prim.Native.Nat.{ℕ, zero, suc, ◌+◌, ◌-◌, ◌*◌, ◌/◌, ◌%◌, ◌≤◌, ◌<◌}
-use mathlib.Core.Path.{◌≡◌, refl, sym, ap, ap₂, ◌∙◌}
+use mathlib.Core.Path.{◌≡◌, refl, sym, ap, ◌∙◌}
 use mathlib.Core.Logic.{◌⊎◌, inl, inr}
 use mathlib.Core.Bool.{Bool, true, false, cond, ◌&&◌, ◌||◌}
 use mathlib.Core.List.{[]}
@@ -19,10 +19,9 @@ use Rattle.meaning.specs.Mmtp as meant
 use Rattle.meaning.specs.declared.Step.TheVariants.{Packet, Skip, Keep}
 use Rattle.meaning.proofs.Reading.{u8_none, u8_some, u16_at, u16_none, u32_at, u32_none, bytes_at, bytes_none, counted16_at, counted16_none}
 use Rattle.tlv.specs.Answers.{as_offset, header_to, extended_to, HeaderIs, Behind, PartIs, PlacedIs, MmtpIs}
+use Rattle.std.specs.Prelude.{Some, None}
 use Rattle.tlv.specs.declared.Header.{Header}
-use Rattle.tlv.specs.declared.Header.TheVariants.{Cut}
-use Rattle.tlv.specs.declared.Mmtp as read
-use Rattle.tlv.specs.declared.Offset.TheVariants.{Unread, At}
+use Rattle.tlv.specs.declared.Offset.{Offset}
 
 -- ---- finding packets: the fields at an offset of the run
 
@@ -147,7 +146,7 @@ module _ (s : Bytes) (at : ℕ) (long : 12 ≤ length s) (small : get_or s 0 0 <
         | no m ↦ rw (u16_at s at (at + 2) (omega arith) refl, counted16_none s (at + 2) (omega arith))
       ]
 
-      sized : at + 4 ≤ length s → HeaderIs (meant.mmtp_header s) s (cond (ltb (length s) (at + 4 + be16_at s (at + 2))) Cut (Header.Read (at + 4 + be16_at s (at + 2)) (be16_at s 2) (get_or s 1 0 % 64)))
+      sized : at + 4 ≤ length s → HeaderIs (meant.mmtp_header s) s (cond (ltb (length s) (at + 4 + be16_at s (at + 2))) None (Some (record { start = at + 4 + be16_at s (at + 2); identifier = be16_at s 2; payload_type = get_or s 1 0 % 64 })))
       sized l =
           let four : at + 2 + 2 ≡ at + 4 = omega arith in
           elim (dec_lt (length s) (at + 4 + be16_at s (at + 2))) [
@@ -196,19 +195,19 @@ module _ (s : Bytes) where
   pub part_cut : meant.mmtp_header s ≡ none → PartIs (map (λ x. x.1) (meant.mmtp_header s)) 12 s (take (length s - length s) (drop (length s) s))
   part_cut e = rw e (rest_from s (length s) (length s) (omega arith) (omega arith))
 
-  pub part_read : (start q k : ℕ) → HeaderIs (meant.mmtp_header s) s (Header.Read start q k)
-      → PartIs (map (λ x. x.1) (meant.mmtp_header s)) 12 s (take (length s - start) (drop start s))
-  part_read start q k h = rw h.2 (to_end s start, rest_from s 12 start h.0 h.1)
+  pub part_read : (a : Header) → HeaderIs (meant.mmtp_header s) s (Some a)
+      → PartIs (map (λ x. x.1) (meant.mmtp_header s)) 12 s (take (length s - a.start) (drop a.start s))
+  part_read a h = rw h.2 (to_end s a.start, rest_from s 12 a.start h.0 h.1)
 
 -- ---- an offset out of what the code has
 
-pub unplaced : (o : meant.Offset) → Unread ≡ as_offset o → o ≡ none
+pub unplaced : (o : meant.Offset) → None ≡ as_offset o → o ≡ none
 unplaced none e = refl
 unplaced (some x) e = let z : ◌≡◌ {A = ℕ} 0 1 = cc in absurd (omega arith)
 
-pub placed_at : (o : meant.Offset) (at : ℕ) (w : Bool) → At at w ≡ as_offset o → o ≡ some (at, w)
-placed_at none at w e = let z : ◌≡◌ {A = ℕ} 0 1 = cc in absurd (omega arith)
-placed_at (some x) at w e = let a : at ≡ x.0 = cc in let b : w ≡ x.1 = cc in ap₂ (λ (m : ℕ) (v : Bool). some (m, v)) (sym a) (sym b)
+pub placed_at : (o : meant.Offset) (a : Offset) → Some a ≡ as_offset o → o ≡ some (a.at, a.rewritable)
+placed_at none a e = let z : ◌≡◌ {A = ℕ} 0 1 = cc in absurd (omega arith)
+placed_at (some x) a e = let b : a ≡ record { at = x.0; rewritable = x.1 } = cc in rw b
 
 -- ---- a packet: what is read of it
 
@@ -230,13 +229,19 @@ module _ (p : Bytes) where
       unfolding meant.mmtp_of
       unread_past h = rw (le-leb 4 (length p) four, e, lt-leb at (length (drop 4 p)) (omega (arith, length-drop 4 p)))
 
-      pub placed : at ≤ length p - 4 → PlacedIs p (At (at + 4) w)
+      pub placed : at ≤ length p - 4 → PlacedIs p (Some (record { at = at + 4; rewritable = w }))
       unfolding meant.mmtp_of
       placed h =
           let d : drop at (drop 4 p) ≡ drop (at + 4) p = (let q : 4 + at ≡ at + 4 = omega arith in drop-drop at 4 p ∙ ap (λ (n : ℕ). drop n p) q) in
           (omega arith, omega arith, rw (le-leb 4 (length p) four, e, le-leb at (length (drop 4 p)) (omega (arith, length-drop 4 p)), d))
 
-  module _ (at : ℕ) (w : Bool) (g : PlacedIs p (At at w)) where
+  module _ (o : Offset) (g : PlacedIs p (Some o)) where
+    abbrev at : ℕ
+    at = o.at
+
+    abbrev w : Bool
+    w = o.rewritable
+
     -- the packet from its MMTP on
     abbrev from_mmtp : Bytes
     from_mmtp = take (length p - at) (drop at p)
@@ -247,10 +252,11 @@ module _ (p : Bytes) where
     pub header_cut : meant.mmtp_header from_mmtp ≡ none → meant.mmtp_of p ≡ none
     header_cut e = read_as ∙ ap (meant.mmtp_from w) e
 
-    pub header_read : (start q k : ℕ) → HeaderIs (meant.mmtp_header from_mmtp) from_mmtp (Header.Read start q k) → MmtpIs (meant.mmtp_of p) p (read.Mmtp.Read q k w)
-    header_read start q k h = (
-      drop start from_mmtp,
-      behind_behind (rest_from p 4 at g.0 g.1) (record { start = start; least = h.0; within = h.1; rest_is = refl }),
+    pub header_read : (a : Header) → HeaderIs (meant.mmtp_header from_mmtp) from_mmtp (Some a)
+        → MmtpIs (meant.mmtp_of p) p (Some (record { identifier = a.identifier; payload_type = a.payload_type; rewritable = w }))
+    header_read a h = (
+      drop a.start from_mmtp,
+      behind_behind (rest_from p 4 at g.0 g.1) (record { start = a.start; least = h.0; within = h.1; rest_is = refl }),
       read_as ∙ ap (meant.mmtp_from w) h.2,
     )
 
@@ -258,7 +264,7 @@ module _ (p : Bytes) where
     pub part_in : (r : Bytes) → PartIs (map (λ x. x.1) (meant.mmtp_header from_mmtp)) 12 from_mmtp r → PartIs (map (λ m. m.payload) (meant.mmtp_of p)) 16 p r
     part_in r h = rw read_as (go (meant.mmtp_header from_mmtp) h)
       where
-        go : (o : Out meant.MmtpHeader) → PartIs (map (λ x. x.1) o) 12 from_mmtp r → PartIs (map (λ m. m.payload) (meant.mmtp_from w o)) 16 p r
+        go : (h' : Out meant.MmtpHeader) → PartIs (map (λ x. x.1) h') 12 from_mmtp r → PartIs (map (λ m. m.payload) (meant.mmtp_from w h')) 16 p r
         go none h =
             let l : at + length from_mmtp ≡ length p = omega (arith, g.1, ap length (to_end p at), length-drop at p) in
             rw l at (behind_behind (rest_from p at at (omega arith) g.1) h)

@@ -15,49 +15,31 @@ use octets::{be16, id16, wide};
 
 // Where the MMTP of a packet is: an offset in the TLV payload, and whether the packet may be rewritten.
 #[derive(Clone, Copy)]
-pub enum Offset {
-    Unread,
-    At(usize, bool),
+pub struct Offset {
+    pub at: usize,
+    pub rewritable: bool,
 }
 
 // The MMTP header: where the payload starts, the packet identifier and the payload type.
 #[derive(Clone, Copy)]
-pub enum Header {
-    Cut,
-    Read {
-        start: usize,
-        identifier: u16,
-        payload_type: u8,
-    },
+pub struct Header {
+    pub start: usize,
+    pub identifier: u16,
+    pub payload_type: u8,
 }
 
 // What is read of a packet: what its header says, and whether the packet may be rewritten.
 #[derive(Clone, Copy)]
-pub enum Mmtp {
-    Unread,
-    Read {
-        identifier: u16,
-        payload_type: u8,
-        rewritable: bool,
-    },
+pub struct Mmtp {
+    pub identifier: u16,
+    pub payload_type: u8,
+    pub rewritable: bool,
 }
 
 fn known_type(t: u8) -> bool
     ensures { result ≡ is_type t }
 {
-    if t == 0x01 {
-        return true;
-    }
-    if t == 0x02 {
-        return true;
-    }
-    if t == 0x03 {
-        return true;
-    }
-    if t == 0xFE {
-        return true;
-    }
-    t == 0xFF
+    matches!(t, 0x01..=0x03 | 0xFE..)
 }
 
 // The size of the packet whose header is at `at`.
@@ -72,13 +54,7 @@ fn candidate(run: &[u8], at: usize, most: usize) -> bool
     requires { at + 4 ≤ length run.now }
     ensures { result ≡ candidate most (drop at run.now) }
 {
-    if run[at] != 0x7F {
-        return false;
-    }
-    if !known_type(run[at + 1]) {
-        return false;
-    }
-    size_at(run, at) <= most
+    run[at] == 0x7F && known_type(run[at + 1]) && size_at(run, at) <= most
 }
 
 // Whether a packet of at most `most` bytes starts at `at`.
@@ -122,10 +98,7 @@ fn reaches(held: &[u8], chunk: &[u8], n: usize) -> bool
     ensures { result ≡ leb n (length (held.now ++ chunk.now)) }
 {
     let k = held.len();
-    if n <= k {
-        return true;
-    }
-    n - k <= chunk.len()
+    n <= k || n - k <= chunk.len()
 }
 
 // The byte at `at` of held bytes and the chunk behind them.
@@ -183,53 +156,30 @@ fn quiet(run: &[u8], at: usize) -> bool
     requires { at + 64 ≤ length run.now }
     ensures { LookedAt (is_mark run.now) at 64 result }
 {
-    let mut none = true;
-    let mut i: usize = 0;
-    while i < 64 {
-        if run[at + i] == 0x7F {
-            none = false;
-        }
-        i += 1;
+    let mut marked = false;
+    for i in 0..64 {
+        marked |= run[at + i] == 0x7F;
     }
-    none
+    !marked
 }
 
-// 1 for 0x7F, else 0.
-fn mark(b: u8) -> u8
-    ensures { result ≡ cond (eqb b 0x7F) 1 0 }
+// Whether a byte may be a type: 0 is let through, which spares a comparison.
+fn near_type(t: u8) -> bool
+    ensures { result ≡ near_type t }
 {
-    if b == 0x7F {
-        return 1;
-    }
-    0
+    (t < 4) | (0xFE <= t)
 }
 
-// 1 for a type, and for 0, which spares a comparison; else 0.
-fn near_type(t: u8) -> u8
-    ensures { result ≡ cond (near_type t) 1 0 }
-{
-    if t < 4 {
-        return 1;
-    }
-    if 0xFE <= t {
-        return 1;
-    }
-    0
-}
-
-// Whether no packet starts at one of the 64 bytes from `at` on, by its first two bytes: with no way out, and numbers for answers, for the
-// same reason.
+// Whether no packet starts at one of the 64 bytes from `at` on, by its first two bytes: with no way out, for the same reason.
 fn barren(run: &[u8], at: usize) -> bool
     requires { at + 65 ≤ length run.now }
     ensures { LookedAt (may_start run.now) at 64 result }
 {
-    let mut starts: u8 = 0;
-    let mut i: usize = 0;
-    while i < 64 {
-        starts += mark(run[at + i]) * near_type(run[at + i + 1]);
-        i += 1;
+    let mut starts = false;
+    for i in 0..64 {
+        starts |= (run[at + i] == 0x7F) & near_type(run[at + i + 1]);
     }
-    starts == 0
+    !starts
 }
 
 // Whether no packet starts in the block of 64 bytes from `at` on. Most blocks of a gap are quiet, which is told sooner.
@@ -249,10 +199,7 @@ fn blocks_end(run: &[u8], at: usize) -> usize
     ensures { NoStart run.now at result }
 {
     let mut to = at;
-    while 67 <= run.len() - to {
-        if !idle(run, to) {
-            return to;
-        }
+    while 67 <= run.len() - to && idle(run, to) {
         to += 64;
     }
     to
@@ -263,14 +210,12 @@ fn bytes_end(run: &[u8], at: usize, end: usize, most: usize) -> usize
     requires { (at ≤ end) × (end ≤ length run.now) }
     ensures { (result ≤ end) × Gap most run.now at result × (result < end → step_of most (drop result run.now) ≡ Skip → ⊥) }
 {
-    let mut to = at;
-    while to < end {
+    for to in at..end {
         let Step::Skip = next(run, to, most) else {
             return to;
         };
-        to += 1;
     }
-    to
+    end
 }
 
 // The end of the block that starts at `at`.
@@ -302,33 +247,36 @@ pub fn gap_end(run: &[u8], at: usize, most: usize) -> usize
 }
 
 // The MMTP behind a compressed IP header.
-fn compressed(s: &[u8]) -> Offset
+fn compressed(s: &[u8]) -> Option<Offset>
     ensures { result ≡ as_offset (compressed s.now) }
 {
     if s.len() < 3 {
-        return Offset::Unread;
+        return None;
     }
-    let header_type = s[2];
-    match header_type {
-        0x21 | 0x61 => Offset::At(3, true),
-        0x20 => Offset::At(23, false),
-        0x60 => Offset::At(45, false),
-        _ => Offset::Unread,
-    }
+    let (at, rewritable) = match s[2] {
+        0x21 | 0x61 => (3, true),
+        0x20 => (23, false),
+        0x60 => (45, false),
+        _ => return None,
+    };
+    Some(Offset { at, rewritable })
 }
 
 // The MMTP behind an IP header of `header` bytes and a UDP header; port 123 is the clock.
-fn udp_body(s: &[u8], header: usize) -> Offset
+fn udp_body(s: &[u8], header: usize) -> Option<Offset>
     requires { header ≤ 60 }
     ensures { result ≡ as_offset (udp header s.now) }
 {
     if s.len() < header + 4 {
-        return Offset::Unread;
+        return None;
     }
     if be16(s, header + 2) == 123 {
-        return Offset::Unread;
+        return None;
     }
-    Offset::At(header + 8, false)
+    Some(Offset {
+        at: header + 8,
+        rewritable: false,
+    })
 }
 
 // The length of an IPv4 header, by its first byte.
@@ -342,49 +290,49 @@ fn header_length(s: &[u8]) -> usize
 }
 
 // Where the MMTP is in the TLV payload of a packet of type `tlv_type`.
-pub fn offset_of(tlv_type: u8, s: &[u8]) -> Offset
+pub fn offset_of(tlv_type: u8, s: &[u8]) -> Option<Offset>
     ensures { result ≡ as_offset (offset_of tlv_type s.now) }
 {
     match tlv_type {
         0x03 => compressed(s),
         0x01 => udp_body(s, header_length(s)),
         0x02 => udp_body(s, 40),
-        _ => Offset::Unread,
+        _ => None,
     }
 }
 
 // A header that ends at `start`.
-fn header_to(s: &[u8], start: usize) -> Header
+fn header_to(s: &[u8], start: usize) -> Option<Header>
     requires { 12 ≤ length s.now }
     ensures { result ≡ header_to s.now start }
 {
     if s.len() < start {
-        return Header::Cut;
+        return None;
     }
-    Header::Read {
+    Some(Header {
         start,
         identifier: id16(s, 2),
         payload_type: s[1] % 64,
-    }
+    })
 }
 
 // A header with an extension at `at`.
-fn extended(s: &[u8], at: usize) -> Header
+fn extended(s: &[u8], at: usize) -> Option<Header>
     requires { (12 ≤ length s.now) × (at ≤ 16) }
     ensures { result ≡ extended_to s.now at }
 {
     if s.len() < at + 4 {
-        return Header::Cut;
+        return None;
     }
     header_to(s, at + 4 + be16(s, at + 2))
 }
 
 // The MMTP header at the front of `s`.
-pub fn header_of(s: &[u8]) -> Header
+pub fn header_of(s: &[u8]) -> Option<Header>
     ensures { HeaderIs (mmtp_header s.now) s.now result }
 {
     if s.len() < 12 {
-        return Header::Cut;
+        return None;
     }
     let flags = s[0];
     let at = 12 + wide((flags >> 5) & 1) * 4;
@@ -398,63 +346,50 @@ pub fn header_of(s: &[u8]) -> Header
 pub fn payload_of(s: &[u8]) -> &[u8]
     ensures { PartIs (map (λ x. x.1) (mmtp_header s.now)) 12 s.now result.now }
 {
-    let Header::Read {
-        start,
-        identifier: _,
-        payload_type: _,
-    } = header_of(s)
-    else {
+    let Some(header) = header_of(s) else {
         let end = s.len();
         return &s[end..];
     };
-    &s[start..]
+    &s[header.start..]
 }
 
 // Where in a packet its MMTP starts, and whether the packet may be rewritten.
-fn mmtp_at(p: &[u8]) -> Offset
+fn mmtp_at(p: &[u8]) -> Option<Offset>
     ensures { PlacedIs p.now result }
 {
     if p.len() < 4 {
-        return Offset::Unread;
+        return None;
     }
-    let Offset::At(at, rewritable) = offset_of(p[1], &p[4..]) else {
-        return Offset::Unread;
-    };
-    if p.len() - 4 < at {
-        return Offset::Unread;
+    let mmtp = offset_of(p[1], &p[4..])?;
+    if p.len() - 4 < mmtp.at {
+        return None;
     }
-    Offset::At(at + 4, rewritable)
+    Some(Offset {
+        at: mmtp.at + 4,
+        rewritable: mmtp.rewritable,
+    })
 }
 
 // The MMTP of a packet, by its type and its TLV payload.
-pub fn mmtp_of(p: &[u8]) -> Mmtp
+pub fn mmtp_of(p: &[u8]) -> Option<Mmtp>
     ensures { MmtpIs (mmtp_of p.now) p.now result }
 {
-    let Offset::At(at, rewritable) = mmtp_at(p) else {
-        return Mmtp::Unread;
-    };
-    let Header::Read {
-        start: _,
-        identifier,
-        payload_type,
-    } = header_of(&p[at..])
-    else {
-        return Mmtp::Unread;
-    };
-    Mmtp::Read {
-        identifier,
-        payload_type,
+    let Offset { at, rewritable } = mmtp_at(p)?;
+    let header = header_of(&p[at..])?;
+    Some(Mmtp {
+        identifier: header.identifier,
+        payload_type: header.payload_type,
         rewritable,
-    }
+    })
 }
 
 // Its payload, as the rest of the packet; where none is read, the packet's empty end.
 pub fn packet_payload(p: &[u8]) -> &[u8]
     ensures { PartIs (map (λ m. m.payload) (mmtp_of p.now)) 16 p.now result.now }
 {
-    let Offset::At(at, _) = mmtp_at(p) else {
+    let Some(mmtp) = mmtp_at(p) else {
         let end = p.len();
         return &p[end..];
     };
-    payload_of(&p[at..])
+    payload_of(&p[mmtp.at..])
 }

@@ -1,13 +1,16 @@
-use borrow.Author.Tests.{not-true, not-false}
-use borrow.Author.Tests.{eq-eqb, ne_eqb}
+use borrow.Author.Tests.{eq-eqb}
+use native.Mathlib.Omega.{arith}
 use Rattle.tlv.proofs.Laws.{candidate_is}
+use Rattle.tlv.proofs.candidate.Goals.{then-run-at-eq127, else-run-at-eq127}
 use Rattle.tlv.proofs.candidate.Goals as goal
 
-pub returns-then-run-at-ne127 : goal.returns-then-run-at-ne127
-returns-then-run-at-ne127 c = let a = c.args in rw (candidate_is a.run.now a.at a.most, ne_eqb _ 0x7F c.if-run-at-ne127.true)
+pub returns-then-known_type : goal.returns-then-known_type
+returns-then-known_type c =
+    let a = c.args in
+    elim c.if-run-at-eq127.branch [
+      | then-run-at-eq127 w ↦ rw (candidate_is a.run.now a.at a.most, eq-eqb _ 0x7F w.if-run-at-eq127.true, ← w.known_type.ensures, ← w.value-is, c.if-known_type.true, ← c.size_at.ensures.0)
+      | else-run-at-eq127 w ↦ grind arith
+    ]
 
-pub returns-then-not-known_type : goal.returns-then-not-known_type
-returns-then-not-known_type c = let a = c.args in rw (candidate_is a.run.now a.at a.most, eq-eqb _ 0x7F c.if-run-at-ne127.false, ← c.known_type.ensures, not-true c.known_type.result c.if-not-known_type.true-raw)
-
-pub returns : goal.returns
-returns c = let a = c.args in rw (candidate_is a.run.now a.at a.most, eq-eqb _ 0x7F c.if-run-at-ne127.false, ← c.known_type.ensures, not-false c.known_type.result c.if-not-known_type.false-raw, ← c.size_at.ensures.0)
+pub returns-else-known_type : goal.returns-else-known_type
+returns-else-known_type c = let a = c.args in rw (candidate_is a.run.now a.at a.most) (grind arith)

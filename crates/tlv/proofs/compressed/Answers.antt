@@ -1,5 +1,7 @@
-use mathlib.Core.Logic.{inl, inr}
 use borrow.Author.Tests.{le-leb, lt-leb}
+use lib.ListN.{get_or}
+use native.Mathlib.Omega.{arith}
+use mathlib.Core.Logic.{inl, inr}
 use Rattle.tlv.proofs.Laws.{no_header_type}
 use Rattle.meaning.specs.Mmtp.{compressed, by_header_type}
 use Rattle.tlv.proofs.compressed.Goals as goal
@@ -26,4 +28,4 @@ returns-in-96 c = rw (le-leb 3 _ c.if-s-lt3.false, c.in-96.is)
 
 pub returns-in_default : goal.returns-in_default
 unfolding compressed
-returns-in_default c = rw (le-leb 3 _ c.if-s-lt3.false, no_header_type _ c.in_default.in_default-own.rest.0.0.1 c.in_default.in_default-own.rest.0.1 c.in_default.in_default-own.rest.1)
+returns-in_default c = rw (le-leb 3 _ c.if-s-lt3.false, no_header_type (get_or c.args.s.now 2 0) (grind arith) (grind arith) (grind arith))

@@ -47,6 +47,5 @@ pub returns-in_default : goal.returns-in_default
 returns-in_default c =
     let a = c.args in
     let b = c.type_inv.s a.at in
-    let m = c.in_default.in_default-own.rest in
     rw (location_type a.s.now a.at (omega arith) (omega (arith, b)))
-    (no_location _ _ m.0.0.0.0.1 m.0.0.0.1 m.0.0.1 m.0.1 m.1)
+    (no_location _ _ (grind arith) (grind arith) (grind arith) (grind arith) (grind arith))

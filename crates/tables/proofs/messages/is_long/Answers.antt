@@ -1,25 +1,28 @@
+use borrow.Author.Tests.{le-leb, lt-leb, ne_eqb}
+use native.Mathlib.Omega.{arith}
 use Rattle.meaning.specs.Messages.{is_long}
-use borrow.Author.Tests.{le-leb, lt-leb, eq-eqb, ne_eqb}
 use Rattle.tables.proofs.messages.is_long.Goals as goal
 
-pub returns-then-number-eq0 : goal.returns-then-number-eq0
+pub returns-in_default : goal.returns-in_default
 unfolding is_long
-returns-then-number-eq0 c = rw (eq-eqb _ _ c.if-number-eq0.true)
+returns-in_default c =
+    let n = c.args.number in
+    rw (ne_eqb n 0 (grind arith), ne_eqb n 0x8003 (grind arith), lt-leb 0xF000 n (omega arith), lt-leb 0x7000 n (omega arith))
 
-pub returns-then-number-eq32771 : goal.returns-then-number-eq32771
+pub returns-in_default-2 : goal.returns-in_default-2
 unfolding is_long
-returns-then-number-eq32771 c = rw (ne_eqb _ _ c.if-number-eq0.false, eq-eqb _ _ c.if-number-eq32771.true)
+returns-in_default-2 c =
+    let n = c.args.number in
+    rw (ne_eqb n 0 (grind arith), ne_eqb n 0x8003 (grind arith), lt-leb 0xF000 n (omega arith), le-leb 0x7000 n (omega arith), lt-leb n 0x7FFF (omega arith))
 
-pub returns-then-number-ge61440 : goal.returns-then-number-ge61440
+pub returns-in-0 : goal.returns-in-0
 unfolding is_long
-returns-then-number-ge61440 c = rw (ne_eqb _ _ c.if-number-eq0.false, ne_eqb _ _ c.if-number-eq32771.false, le-leb _ _ c.if-number-ge61440.true)
+returns-in-0 c = grind arith
 
-pub returns-then-number-lt28672 : goal.returns-then-number-lt28672
+pub returns-in-0-2 : goal.returns-in-0-2
 unfolding is_long
-returns-then-number-lt28672 c =
-    rw (ne_eqb _ _ c.if-number-eq0.false, ne_eqb _ _ c.if-number-eq32771.false, lt-leb _ _ c.if-number-ge61440.false, lt-leb _ _ c.if-number-lt28672.true)
+returns-in-0-2 c = grind arith
 
-pub returns : goal.returns
+pub returns-in-0-3 : goal.returns-in-0-3
 unfolding is_long
-returns c =
-    rw (ne_eqb _ _ c.if-number-eq0.false, ne_eqb _ _ c.if-number-eq32771.false, lt-leb _ _ c.if-number-ge61440.false, le-leb _ _ c.if-number-lt28672.false)
+returns-in-0-3 c = grind arith

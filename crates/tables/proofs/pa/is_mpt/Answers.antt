@@ -1,11 +1,15 @@
+use native.Mathlib.Omega.{arith}
 use Rattle.meaning.specs.Tables.{is_mpt}
-use borrow.Author.Tests.{le-leb, lt-leb}
 use Rattle.tables.proofs.pa.is_mpt.Goals as goal
 
-pub returns-then-number-lt17 : goal.returns-then-number-lt17
+pub returns-in-17-to-32 : goal.returns-in-17-to-32
 unfolding is_mpt
-returns-then-number-lt17 c = rw (lt-leb _ _ c.if-number-lt17.true)
+returns-in-17-to-32 c = grind arith
 
-pub returns : goal.returns
+pub returns-in_default : goal.returns-in_default
 unfolding is_mpt
-returns c = rw (le-leb _ _ c.if-number-lt17.false)
+returns-in_default c = grind arith
+
+pub returns-in_default-2 : goal.returns-in_default-2
+unfolding is_mpt
+returns-in_default-2 c = grind arith
