@@ -21,15 +21,16 @@ use Rattle.meaning.specs.declared.Narrowing.{Narrowing}
 use Rattle.meaning.specs.declared.Part.{Part}
 use Rattle.meaning.specs.declared.Options.{Options}
 use Rattle.meaning.specs.declared.Modes.{Modes}
-use Rattle.meaning.proofs.ListLaws.{clash}
 use Rattle.meaning.proofs.Writes.{wrote_none, wrote_one}
 use Rattle.meaning.proofs.AnswerLaws.{narrowing_told, none_made, all_made}
 use Rattle.tables.specs.Answers.{TableIs}
 use Rattle.tables.specs.declared.pa.Table as code
 use Rattle.tlv.specs.Answers.{Behind, PartIs, MmtpIs}
 use Rattle.tlv.specs.declared.Mmtp as read
+use Rattle.std.specs.Prelude.{Some, None}
+use Rattle.meaning.specs.declared.Refusal.{Refusal}
 use Rattle.narrowing.specs.Tables.{ChangeIs, is_change, tables_in, tables_change, after_table}
-use Rattle.narrowing.specs.Answers.{NarrowedAs, RefusedAs, is_refused, PaFound, body_after, signal_of, Rows, no_rows, counted_in, CountsBelow}
+use Rattle.narrowing.specs.Answers.{NarrowedAs, RefusedAs, PaFound, body_after, signal_of, Rows, no_rows, counted_in, CountsBelow}
 use Rattle.narrowing.specs.declared.table.BodyChange.{BodyChange}
 use Rattle.tlv.proofs.Laws.{behind_short}
 use Rattle.tables.proofs.WalkLaws.{table_at, part_table}
@@ -58,12 +59,9 @@ module _ (n out_length : ℕ) where
   fits_in true false ea eb q = absurd (omega (arith, q))
   fits_in false b ea eb q = absurd (omega (arith, q))
 
-  pub not_refused : (r : Narrowing) → RefusedAs (narrow_refusal n out_length) r → is_refused r ≡ false
-      → (narrow_refusal n out_length ≡ 0) × (n ≤ 65539) × (n ≤ out_length)
-  unfolding narrow_refusal narrowing_number narrowing_changed
-  not_refused (Narrowing.Refused x) h q = clash (cc)
-  not_refused Narrowing.Unchanged h q = let k = fits_in (leb n 65539) (leb n out_length) refl refl (sym h.0) in (sym h.0, k.0, k.1)
-  not_refused (Narrowing.Changed k) h q = clash (cc)
+  pub not_refused : RefusedAs (narrow_refusal n out_length) None → (narrow_refusal n out_length ≡ 0) × (n ≤ 65539) × (n ≤ out_length)
+  unfolding narrow_refusal
+  not_refused h = let k = fits_in (leb n 65539) (leb n out_length) refl refl (sym h) in (sym h, k.0, k.1)
 
 -- ---- the answers; q, s and w are what is returned
 
@@ -74,12 +72,9 @@ module _ (x : ℕ) (n : Option meant.Change) (d : Bytes) (q : Narrowing) (s w : 
   none_answer d' g e a c l z =
       record { number_is = a; changed_is = rw e c; written = rw (e, l, g) (wrote_none d 0); stays_are = rw e z.0; goes_are = rw e z.1 }
 
-  pub refused_answer : (r : Narrowing) → RefusedAs x r → is_refused r ≡ true → (q ≡ r) × (s ≡ none_of_each) × (w ≡ none_of_each) → NarrowedAs x n d d q s w
+  pub refused_answer : (r : Refusal) → RefusedAs x (Some r) → (q ≡ Narrowing.Refused r) × (s ≡ none_of_each) × (w ≡ none_of_each) → NarrowedAs x n d d q s w
   unfolding narrowing_number narrowing_changed narrowing_length
-  refused_answer (Narrowing.Refused r) h t e =
-      none_answer d refl (rw (← h.0) (none_made r n)) (rw e.0 h.0) (rw e.0) (rw e.0) (e.1, e.2)
-  refused_answer Narrowing.Unchanged h t e = clash (cc)
-  refused_answer (Narrowing.Changed k) h t e = clash (cc)
+  refused_answer r h e = none_answer d refl (rw (← h) (none_made r n)) (rw e.0 h) (rw e.0) (rw e.0) (e.1, e.2)
 
   pub unchanged_answer : (d' : Bytes) → d' ≡ d → x ≡ 0 → n ≡ none → (q ≡ Narrowing.Unchanged) × (s ≡ none_of_each) × (w ≡ none_of_each) → NarrowedAs x n d d' q s w
   unfolding narrowing_number narrowing_changed narrowing_length
@@ -176,7 +171,16 @@ pub unread_stays : (M : Modes) (o : Options) (p : Bytes) → mmtp_of p ≡ none 
 unfolding change_packet narrow_packet
 unread_stays M o p e = rw e
 
-module _ (M : Modes) (o : Options) (p : Bytes) (q k : ℕ) (w : Bool) (h : MmtpIs (mmtp_of p) p (read.Mmtp.Read q k w)) where
+module _ (M : Modes) (o : Options) (p : Bytes) (x : read.Mmtp) (h : MmtpIs (mmtp_of p) p (Some x)) where
+  abbrev q : ℕ
+  q = x.identifier
+
+  abbrev k : ℕ
+  k = x.payload_type
+
+  abbrev w : Bool
+  w = x.rewritable
+
   -- by its payload type
   abbrev change_by : ℕ → Option meant.Change
   change_by j =

@@ -24,10 +24,9 @@ use Rattle.meaning.proofs.Reading.{past, u8_none, many_none, many_next}
 use Rattle.octets.proofs.ByteLaws.{u8_at_lem}
 use Rattle.meaning.proofs.TableLaws.{mpt_split}
 use Rattle.tables.specs.Answers.{Ends, AssetIs, TableIs}
+use Rattle.std.specs.Prelude.{Some}
 use Rattle.tables.specs.declared.assets.Asset.{Asset}
-use Rattle.tables.specs.declared.fields.End.{End}
 use Rattle.tables.specs.declared.pa.Table as code
-use Rattle.tables.specs.declared.locations.Carrier.{Carrier}
 use Rattle.narrowing.specs.Tables.{body_of, Exact, tables_in}
 use Rattle.tables.proofs.WalkLaws.{table_at, part_table, walk_next, walk_stops}
 use Rattle.narrowing.proofs.ExactLaws.{exact_table}
@@ -131,17 +130,17 @@ module _ (b : Bytes) (at count : ℕ) (o : Options) (counts : Rows) where
     room row kind h = omega (arith, i.low.1 row kind, i.few)
 
     -- one more is counted
-    pub turn : (e : ℕ) (part : Part) (c : Carrier) → 0 < left → AssetIs b from (Asset.Entry e part c)
-        → Counting b at count o counts (bumped t (row_number o part) (kind_number part)) e (left - 1)
+    pub turn : (a : Asset) → 0 < left → AssetIs b from (Some a)
+        → Counting b at count o counts (bumped t (row_number o a.part) (kind_number a.part)) a.end (left - 1)
     unfolding counted_in
-    turn e part c h l =
-        let n = many_next entry (drop from b) left _ (drop e b) h l.2.1 in
-        let x = next_entry (many (left - 1) entry (drop e b)) _ (rw n at i.reads) in
+    turn a h l =
+        let n = many_next entry (drop from b) left _ (drop a.end b) h l.2.1 in
+        let x = next_entry (many (left - 1) entry (drop a.end b)) _ (rw n at i.reads) in
         record {
           same = i.same ∙ ap (λ z. counted_in o t (parts_read z)) n ∙ ap (counted_in o t) x.1;
           reads = x.0;
           few = omega (arith, i.few);
-          low = below_bumped t (row_number o part) (kind_number part) (most - left) (most - (left - 1)) i.low (omega (arith, i.few));
+          low = below_bumped t (row_number o a.part) (kind_number a.part) (most - left) (most - (left - 1)) i.low (omega (arith, i.few));
         }
 
     -- each can be read
@@ -180,7 +179,7 @@ module _ (t : Bytes) (x : Exact t) (o : Options) (counts : Rows) (r : Bool) (m :
     unfolding mpt raw
     headless e = of_none (rw e)
 
-    module _ (front : ℕ) (f : Ends (mpt_front (body_of t)) (body_of t) (End.At front)) where
+    module _ (front : ℕ) (f : Ends (mpt_front (body_of t)) (body_of t) (Some front)) where
       -- nor the count
       pub uncounted : length (body_of t) ≤ front → counts ≡ counted_in o counts (parts_of_table (table t))
       unfolding mpt raw

@@ -24,8 +24,9 @@ use Rattle.meaning.proofs.Statements.{payload_shorter}
 use Rattle.meaning.proofs.Writes.{wrote_then, wrote_is, wrote_patch}
 use Rattle.ip.specs.Room.{Room}
 use Rattle.tables.specs.Answers.{MessageIs, PaHeadIs}
-use Rattle.tables.specs.declared.messages.Found.{Found}
-use Rattle.tables.specs.declared.fields.End.{End}
+use Rattle.std.specs.Prelude.{Some}
+use Rattle.std.specs.Prelude as code
+use Rattle.tables.specs.declared.messages.Message as read
 use Rattle.narrowing.specs.Tables.{tables_in, tables_change}
 use Rattle.narrowing.specs.Answers.{PaFound, NoPa, RewroteAs, body_after, signal_of, Framed, counted_in, no_rows}
 use Rattle.narrowing.proofs.PayloadLaws.{Starts, none_no_pa, one_message, message_number, number_at, pa_body_lem, length_right, packet_right, pa_narrowed}
@@ -53,7 +54,16 @@ module _ (payload : Bytes) (st : Starts payload) where
   pub no_message : message behind ≡ none → NoPa payload
   no_message e = none_no_pa payload (message_is ∙ ap pa_of e)
 
-  module _ (n a e : ℕ) (m : MessageIs (message behind) behind (Found.Message n a e)) where
+  module _ (x : read.Message) (m : MessageIs (message behind) behind (Some x)) where
+    abbrev n : ℕ
+    n = x.number
+
+    abbrev a : ℕ
+    a = x.start
+
+    abbrev e : ℕ
+    e = x.end
+
     zero_is : n ≡ 0
     zero_is =
         message_number behind (record { number = n; body = take (e - a) (drop a behind) }) (drop e behind) m.3 ∙ ap (λ (z : Bytes). be16_at z 0) (behind_all payload 2)
@@ -87,7 +97,7 @@ module _ (payload : Bytes) (end : ℕ) (m : PaEnds payload end) where
       let x : take (end - 9) (drop 9 payload) ≡ b = some-injective _ _ (sym m.body_is ∙ q) in
       ap pa_head (sym x) ∙ h
 
-  pub pa_found : (t : ℕ) → PaHeadIs (pa_head (take (end - 9) (drop 9 payload))) (take (end - 9) (drop 9 payload)) (End.At t) → PaFound payload end t
+  pub pa_found : (t : ℕ) → PaHeadIs (pa_head (take (end - 9) (drop 9 payload))) (take (end - 9) (drop 9 payload)) (Some t) → PaFound payload end t
   pa_found t h =
       record {
         nine = m.nine;
@@ -214,7 +224,7 @@ module _ (o : Options) (pid : ℕ) (p payload : Bytes) (f : Framed p payload) (e
       omega (arith, headed.end, length-append (take 2 p ++ put16 (length rest)) rest, four_long p (length rest) (omega (arith, f.short)), less, f.short)
 
   pub packet_rewritten : {d₄ : Bytes} {j : ℕ} → Wrote (afresh (get_or p 1 0) (take (last - (to + 4)) (drop (to + 4) d₃))) d₃ (to + 4) d₄ j
-      → (b : Bool) → RewroteAs (map (packet_bytes p (signal_of pid b payload)) (narrow_payload o pid payload)) d to d₄ (End.At last)
+      → (b : Bool) → RewroteAs (map (packet_bytes p (signal_of pid b payload)) (narrow_payload o pid payload)) d to d₄ (Some last)
   unfolding packet_bytes
   packet_rewritten {d₄} {j} x b = (
     packet_bytes p (signal_of pid b payload) y,
@@ -248,7 +258,7 @@ module _ (M : Modes) (o : Options) (pid : ℕ) (w : Bool) (p payload : Bytes) wh
   unfolding may_rewrite
   may_be e = rw e
 
-  pub may_rewritten : may ≡ true → (d : Bytes) (to : ℕ) (d' : Bytes) (r : End)
+  pub may_rewritten : may ≡ true → (d : Bytes) (to : ℕ) (d' : Bytes) (r : code.Option ℕ)
       → RewroteAs (map (packet_bytes p (signal_of pid w payload)) (narrow_payload o pid payload)) d to d' r
       → RewroteAs (packet_for M o p (some (signal_of pid w payload))) d to d' r
   may_rewritten e d to d' r h = subst (λ (n : Option Bytes). RewroteAs n d to d' r) (may_be e) h

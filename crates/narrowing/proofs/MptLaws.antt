@@ -26,11 +26,11 @@ use Rattle.meaning.proofs.Framed.{many_framed}
 use Rattle.meaning.proofs.TableLaws.{entry_framed}
 use Rattle.meaning.proofs.Writes.{wrote_none, wrote_then}
 use Rattle.tables.specs.Answers.{Ends, AssetIs}
+use Rattle.std.specs.Prelude.{Some}
 use Rattle.tables.specs.declared.assets.Asset.{Asset}
-use Rattle.tables.specs.declared.fields.End.{End}
-use Rattle.tables.specs.declared.locations.Carrier.{Carrier}
 use Rattle.narrowing.specs.Bodies.{bytes_of, kept_bytes, WalkIs, MptLess}
 use Rattle.narrowing.specs.declared.mpt.EntryWalk.{EntryWalk}
+use Rattle.narrowing.specs.declared.mpt.MptChange.{MptChange}
 
 -- ---- those kept of two lists, and of a list and one more
 
@@ -105,10 +105,10 @@ module _ (b : Bytes) (at count : ℕ) where
   none_read h = record { reads = behind_nothing (many count entry (drop at b)); within = h }
 
   module _ (from left : ℕ) (pre : List Entry) (i : Sofar b at count from left pre) where
-    pub one_read : (e : ℕ) (part : Part) (c : Carrier) → 0 < left → (l : AssetIs b from (Asset.Entry e part c))
-        → Sofar b at count e (left - 1) (pre ++ entry_at b from e part l.2.0 ∷ [])
-    one_read e part c h l = record {
-      reads = i.reads ∙ rw (many_next entry (drop from b) left _ (drop e b) h l.2.1) (behind_one pre _ (many (left - 1) entry (drop e b)));
+    pub one_read : (x : Asset) → 0 < left → (l : AssetIs b from (Some x))
+        → Sofar b at count x.end (left - 1) (pre ++ entry_at b from x.end x.part l.2.0 ∷ [])
+    one_read x h l = record {
+      reads = i.reads ∙ rw (many_next entry (drop from b) left _ (drop x.end b) h l.2.1) (behind_one pre _ (many (left - 1) entry (drop x.end b)));
       within = l.0;
     }
 
@@ -140,33 +140,36 @@ module _ (o : Options) (b : Bytes) (at count : ℕ) where
   walk_start h = record { pre = []; sofar = none_read b at count h; kept_is = refl; size_is = refl; fits = omega arith; few = omega arith }
 
   module _ (from left kept size : ℕ) (i : Walked o b at count from left kept size) where
-    module _ (e : ℕ) (part : Part) (c : Carrier) (h : 0 < left) (l : AssetIs b from (Asset.Entry e part c)) where
-      abbrev found : Entry
-      found = entry_at b from e part l.2.0
+    module _ (x : Asset) (h : 0 < left) (l : AssetIs b from (Some x)) where
+      abbrev e : ℕ
+      e = x.end
 
-      pub walk_kept : wanted o part ≡ true → Walked o b at count e (left - 1) (kept + 1) (size + (e - from))
+      abbrev found : Entry
+      found = entry_at b from e x.part l.2.0
+
+      pub walk_kept : wanted o x.part ≡ true → Walked o b at count e (left - 1) (kept + 1) (size + (e - from))
       walk_kept q =
           let long : length (take (e - from) (drop from b)) ≡ e - from = length-take-le (e - from) (drop from b) (omega (arith, length-drop from b, l.0)) in
           record {
             pre = i.pre ++ found ∷ [];
-            sofar = one_read b at count from left i.pre i.sofar e part c h l;
+            sofar = one_read b at count from left i.pre i.sofar x h l;
             kept_is = rw (keep_one (wanted_entry o) i.pre found q) (simp length-append (omega (arith, i.kept_is)));
             size_is = rw (bytes_one (wanted_entry o) i.pre found q) (simp length-append (omega (arith, i.size_is)));
             fits = omega (arith, i.fits, l.1);
             few = omega (arith, i.few);
           }
 
-      pub walk_gone : wanted o part ≡ false → Walked o b at count e (left - 1) kept size
+      pub walk_gone : wanted o x.part ≡ false → Walked o b at count e (left - 1) kept size
       walk_gone q = record {
         pre = i.pre ++ found ∷ [];
-        sofar = one_read b at count from left i.pre i.sofar e part c h l;
+        sofar = one_read b at count from left i.pre i.sofar x h l;
         kept_is = rw (keep_gone (wanted_entry o) i.pre found q) i.kept_is;
         size_is = rw (keep_gone (wanted_entry o) i.pre found q) i.size_is;
         fits = omega (arith, i.fits, l.1);
         few = omega (arith, i.few);
       }
 
-    pub walk_end : left ≡ 0 → WalkIs o b at count (EntryWalk.Done from kept size)
+    pub walk_end : left ≡ 0 → WalkIs o b at count (Some (record { end = from; kept = kept; size = size }))
     walk_end z =
         (i.sofar.within, i.fits, omega (arith, i.few), (i.pre, all_read b at count from left i.pre i.sofar z, i.kept_is, i.size_is))
 
@@ -212,31 +215,34 @@ module _ (o : Options) (b : Bytes) (at count : ℕ) (d : Bytes) (to : ℕ) where
     row_written : (d'' : Bytes) (p : ℕ) → Wrote (take (from - row) (drop row b)) d' put d'' p → Wrote (bytes_of (keep (wanted_entry o) i.pre)) d to d'' p
     row_written d'' p w = rw i.split (wrote_then i.wrote w)
 
-    module _ (e : ℕ) (part : Part) (c : Carrier) (h : 0 < left) (l : AssetIs b from (Asset.Entry e part c)) where
+    module _ (x : Asset) (h : 0 < left) (l : AssetIs b from (Some x)) where
+      abbrev copied_to : ℕ
+      copied_to = x.end
+
       abbrev copied : Entry
-      copied = entry_at b from e part l.2.0
+      copied = entry_at b from copied_to x.part l.2.0
 
-      next_read : Sofar b at count e (left - 1) (i.pre ++ copied ∷ [])
-      next_read = one_read b at count from left i.pre i.sofar e part c h l
+      next_read : Sofar b at count copied_to (left - 1) (i.pre ++ copied ∷ [])
+      next_read = one_read b at count from left i.pre i.sofar x h l
 
-      pub write_kept : wanted o part ≡ true → Writing o b at count d to d' e (left - 1) put row
+      pub write_kept : wanted o x.part ≡ true → Writing o b at count d to d' copied_to (left - 1) put row
       write_kept q = record {
         pre = _;
         sofar = next_read;
         written = i.written;
-        split = bytes_one (wanted_entry o) i.pre copied q ∙ ap (λ (y : Bytes). y ++ take (e - from) (drop from b)) i.split
-            ∙ append_assoc i.written (take (from - row) (drop row b)) (take (e - from) (drop from b)) ∙ ap (λ (y : Bytes). i.written ++ y) (part_part row from e b i.forth (omega (arith, l.1)));
+        split = bytes_one (wanted_entry o) i.pre copied q ∙ ap (λ (y : Bytes). y ++ take (copied_to - from) (drop from b)) i.split
+            ∙ append_assoc i.written (take (from - row) (drop row b)) (take (copied_to - from) (drop from b)) ∙ ap (λ (y : Bytes). i.written ++ y) (part_part row from copied_to b i.forth (omega (arith, l.1)));
         forth = omega (arith, i.forth, l.1);
         wrote = i.wrote;
         same = i.same;
       }
 
-      pub write_gone : wanted o part ≡ false → (d'' : Bytes) (p : ℕ) → Wrote (take (from - row) (drop row b)) d' put d'' p → length d'' ≡ length d' → Writing o b at count d to d'' e (left - 1) p e
+      pub write_gone : wanted o x.part ≡ false → (d'' : Bytes) (p : ℕ) → Wrote (take (from - row) (drop row b)) d' put d'' p → length d'' ≡ length d' → Writing o b at count d to d'' copied_to (left - 1) p copied_to
       write_gone q d'' p w s = record {
         pre = _;
         sofar = next_read;
         written = bytes_of (keep (wanted_entry o) i.pre);
-        split = ap bytes_of (keep_gone (wanted_entry o) i.pre copied q) ∙ sym (append-nil (bytes_of (keep (wanted_entry o) i.pre))) ∙ ap (λ (y : Bytes). bytes_of (keep (wanted_entry o) i.pre) ++ y) (sym (no_part e b));
+        split = ap bytes_of (keep_gone (wanted_entry o) i.pre copied q) ∙ sym (append-nil (bytes_of (keep (wanted_entry o) i.pre))) ∙ ap (λ (y : Bytes). bytes_of (keep (wanted_entry o) i.pre) ++ y) (sym (no_part copied_to b));
         forth = omega arith;
         wrote = row_written d'' p w;
         same = s ∙ i.same;
@@ -253,7 +259,7 @@ module _ (o : Options) (b : Bytes) where
   front_none q = rw q
 
   -- its count is at h
-  module _ (h : ℕ) (f : Ends (mpt_front b) b (End.At h)) where
+  module _ (h : ℕ) (f : Ends (mpt_front b) b (Some h)) where
     pub count_none : length b ≤ h → mpt_without o b ≡ none
     unfolding mpt_without mpt raw
     count_none k = rw (f.1.1, u8_none b h k)
@@ -267,15 +273,15 @@ module _ (o : Options) (b : Bytes) where
       unfolding mpt_without
       entries_none q = rw (mpt_many, q)
 
-      module _ (end kept size : ℕ) (w : WalkIs o b (h + 1) n (EntryWalk.Done end kept size)) where
+      module _ (r : EntryWalk) (w : WalkIs o b (h + 1) n (Some r)) where
         as_many : length w.3.0 ≡ n
-        as_many = (many_framed entry (λ e. e.bytes_of) entry_framed n (drop (h + 1) b) w.3.0 (drop end b) w.3.1).length_of
+        as_many = (many_framed entry (λ e. e.bytes_of) entry_framed n (drop (h + 1) b) w.3.0 (drop r.end b) w.3.1).length_of
 
-        pub all_stay : kept ≡ n → mpt_without o b ≡ none
+        pub all_stay : r.kept ≡ n → mpt_without o b ≡ none
         unfolding mpt_without
         all_stay q = rw (mpt_many, w.3.1, all_long (wanted_entry o) w.3.0 (omega (arith, as_many, w.3.2)))
 
-        pub some_go : (kept ≡ n → ⊥) → MptLess o b h end kept size
+        pub some_go : (r.kept ≡ n → ⊥) → MptLess o b (record { front = h; end = r.end; kept = r.kept; size = r.size })
         unfolding mpt_without
         some_go q = record {
           entries_of = w.3.0;
@@ -290,11 +296,20 @@ module _ (o : Options) (b : Bytes) where
 
 -- ---- written: front, count, entries and what follows them, one after another
 
-module _ (o : Options) (b : Bytes) (front end kept size : ℕ) (m : MptLess o b front end kept size) (n : ℕ) (is : n ≡ get_or b front 0) where
+module _ (o : Options) (b : Bytes) (less : MptChange) (m : MptLess o b less) (n : ℕ) (is : n ≡ get_or b less.front 0) where
+  abbrev front : ℕ
+  front = less.front
+
+  abbrev end : ℕ
+  end = less.end
+
+  abbrev kept : ℕ
+  kept = less.kept
+
   pub less_some : IsSome (many n entry (drop (front + 1) b))
   less_some = rw (is, m.reads) tt
 
-  less_size : length (kept_bytes o (many n entry (drop (front + 1) b))) ≡ size
+  less_size : length (kept_bytes o (many n entry (drop (front + 1) b))) ≡ less.size
   less_size = rw (is, m.reads) (sym m.size_is)
 
   module _ (d d₁ d₂ : Bytes) (to r₁ r₂ : ℕ) (u₁ : Wrote (take (front - 0) (drop 0 b)) d to d₁ r₁) (w₂ : Wrote (kept % 256 ∷ []) d₁ r₁ d₂ r₂)

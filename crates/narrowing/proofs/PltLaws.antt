@@ -1,6 +1,6 @@
 -- The body of a PLT, as `plt` reads and writes it: the loop over its packages, whose invariant is `Sofar`, what each return of it
 -- says, and the body with one entry as it is written. Rests on the readers at an offset, Reading of `meaning`, and on Writes.
-use Prim.Native.Nat.{ℕ, zero, suc, ◌-◌, ◌≤◌, ◌<◌}
+use Prim.Native.Nat.{ℕ, ◌-◌, ◌≤◌, ◌<◌}
 use mathlib.Core.Path.{◌≡◌, refl, sym, ap, ◌∙◌}
 use mathlib.Core.Bool.{true, false, cond}
 use mathlib.Core.List.{List, [], ◌∷◌, ◌++◌, append-nil}
@@ -15,15 +15,17 @@ use Rattle.meaning.specs.Narrow.{is_service, last_of, plt_only}
 use Rattle.meaning.proofs.Reading.{u8_none, many_none, many_next, behind, behind_nothing, behind_one}
 use Rattle.octets.proofs.ByteLaws.{u8_at_lem, rest_of}
 use Rattle.meaning.proofs.Writes.{wrote_then}
-use Rattle.tables.specs.Answers.{name_of, PackageIs}
-use Rattle.tables.specs.declared.locations.Carrier.{Carrier}
-use Rattle.tables.specs.declared.packages.Named.{Named}
+use Rattle.tables.specs.Answers.{in_code, PackageIs}
 use Rattle.tables.specs.declared.packages.Package as read
-use Rattle.narrowing.specs.Bodies.{is_named, one_entry, PltIs}
+use Rattle.std.specs.Prelude.{Some, None, MatchOption, ⊤}
+use Rattle.std.specs.Prelude as code
+use Rattle.std.specs.Option.{option_eq}
+use lib.Dec.{eqb}
+use Rattle.narrowing.specs.Bodies.{one_entry, PltIs}
 use Rattle.narrowing.specs.declared.plt.PltChange.{PltChange}
 
 -- a name and a service, as the code and as the definitions test them
-named_service : (s : ℕ) (n : Option ℕ) → is_named (name_of n) s ≡ is_service s n
+named_service : (s : ℕ) (n : Option ℕ) → option_eq eqb (in_code n) (Some s) ≡ is_service s n
 unfolding is_service
 named_service s none = refl
 named_service s (some n) = refl
@@ -35,37 +37,32 @@ unfolding last_of
 last_more s [] p o = refl
 last_more s (q ∷ pre) p o = last_more s pre p (cond (is_service s (service_of q.name)) (some q.bytes_of) o)
 
--- What the code holds: nothing where start is 0, else the bytes from start to end.
-abbrev entry_at : Bytes → ℕ → ℕ → Option Bytes
-entry_at b zero end = none
-entry_at b (suc start) end = some (take (end - suc start) (drop (suc start) b))
+-- the bytes from the one to the other of the offsets that the code holds
+abbrev entry_at : Bytes → code.Option (ℕ × ℕ) → Option Bytes
+entry_at b None = none
+entry_at b (Some x) = some (take (x.1 - x.0) (drop x.0 b))
 
-entry_none : (b : Bytes) (start end : ℕ) → start ≡ 0 → entry_at b start end ≡ none
-entry_none b zero end h = refl
-entry_none b (suc start) end h = absurd (omega arith)
-
-entry_some : (b : Bytes) (start end : ℕ) → 1 ≤ start → entry_at b start end ≡ some (take (end - start) (drop start b))
-entry_some b zero end h = absurd (omega arith)
-entry_some b (suc start) end h = refl
+-- they stand in order, up to `past`, and behind the count
+abbrev Ordered : code.Option (ℕ × ℕ) → ℕ → Type 0
+Ordered x past = MatchOption x ⊤ (λ p. (1 ≤ p.0) × (p.0 ≤ p.1) × (p.1 ≤ past))
 
 -- no count
 pub plt_none : (s : ℕ) (b : Bytes) → length b ≡ 0 → plt_only s b ≡ none
 unfolding plt_only plt
 plt_none s b h = rw (u8_none b 0 (omega arith))
 
--- Of the packages of b, `pre` were read, up to `from`, and `left` are left; the last of the service stands from `start` to `end`.
-pub record Sofar (s : ℕ) (b : Bytes) (left from start end : ℕ) : Type 0 where
+-- Of the packages of b, `pre` were read, up to `past`, and `left` are left; the last of the service stands where `stays` says.
+pub record Sofar (s : ℕ) (b : Bytes) (left past : ℕ) (stays : code.Option (ℕ × ℕ)) : Type 0 where
   pub pre : List Package
-  pub reads : plt b ≡ behind pre (many left package_entry (drop from b))
-  pub last : last_of s pre none ≡ entry_at b start end
-  pub one : 1 ≤ from
-  pub in_b : from ≤ length b
-  pub in_order : start ≤ end
-  pub in_read : end ≤ from
+  pub reads : plt b ≡ behind pre (many left package_entry (drop past b))
+  pub last : last_of s pre none ≡ entry_at b stays
+  pub one : 1 ≤ past
+  pub in_b : past ≤ length b
+  pub in_order : Ordered stays past
 
 module _ (s : ℕ) (b : Bytes) where
   -- none read yet
-  pub start : (count : ℕ) → 0 < length b → count ≡ get_or b 0 0 → count < 256 → Sofar s b count 1 0 0
+  pub start : (count : ℕ) → 0 < length b → count ≡ get_or b 0 0 → count < 256 → Sofar s b count 1 None
   unfolding plt last_of
   start count h q l =
       record {
@@ -74,41 +71,39 @@ module _ (s : ℕ) (b : Bytes) where
         last = refl;
         one = omega arith;
         in_b = omega arith;
-        in_order = omega arith;
-        in_read = omega arith;
+        in_order = tt;
       }
 
-  module _ (left from begin end : ℕ) (i : Sofar s b left from begin end) where
+  module _ (left past : ℕ) (stays : code.Option (ℕ × ℕ)) (i : Sofar s b left past stays) where
     -- one that cannot be read
-    pub broken : 0 < left → package_entry (drop from b) ≡ none → plt_only s b ≡ none
+    pub broken : 0 < left → package_entry (drop past b) ≡ none → plt_only s b ≡ none
     unfolding plt_only
-    broken h e = rw (i.reads, many_none package_entry (drop from b) left h e)
+    broken h e = rw (i.reads, many_none package_entry (drop past b) left h e)
 
-    module _ (e : ℕ) (name : Named) (c : Carrier) (h : 0 < left) (p : PackageIs b from (read.Package.Entry e name c)) where
+    module _ (x : read.Package) (h : 0 < left) (p : PackageIs b past (Some x)) where
       abbrev row : Package
-      row = record { name = p.2.0; carrier = p.2.1; bytes_of = take (e - from) (drop from b) }
+      row = record { name = p.2.0; carrier = p.2.1; bytes_of = take (x.end - past) (drop past b) }
 
-      more : plt b ≡ behind (i.pre ++ row ∷ []) (many (left - 1) package_entry (drop e b))
-      more = i.reads ∙ rw (many_next package_entry (drop from b) left row (drop e b) h p.2.2) (behind_one i.pre row (many (left - 1) package_entry (drop e b)))
+      more : plt b ≡ behind (i.pre ++ row ∷ []) (many (left - 1) package_entry (drop x.end b))
+      more = i.reads ∙ rw (many_next package_entry (drop past b) left row (drop x.end b) h p.2.2) (behind_one i.pre row (many (left - 1) package_entry (drop x.end b)))
 
-      test : is_service s (service_of p.2.0) ≡ is_named name s
-      test = sym (ap (λ (z : Named). is_named z s) p.2.3 ∙ named_service s (service_of p.2.0))
+      test : is_service s (service_of p.2.0) ≡ option_eq eqb x.name (Some s)
+      test = sym (ap (λ (z : code.Option ℕ). option_eq eqb z (Some s)) p.2.3 ∙ named_service s (service_of p.2.0))
 
       -- one of the service
-      pub turn : is_named name s ≡ true → Sofar s b (left - 1) e from e
+      pub turn : option_eq eqb x.name (Some s) ≡ true → Sofar s b (left - 1) x.end (Some (past, x.end))
       turn t =
           record {
             pre = i.pre ++ row ∷ [];
             reads = more;
-            last = rw (last_more s i.pre row none, test, t, entry_some b from e i.one);
+            last = rw (last_more s i.pre row none, test, t);
             one = omega (arith, i.one);
             in_b = p.0;
-            in_order = omega arith;
-            in_read = omega arith;
+            in_order = (i.one, omega arith, omega arith);
           }
 
       -- another
-      pub turn_other : is_named name s ≡ false → Sofar s b (left - 1) e begin end
+      pub turn_other : option_eq eqb x.name (Some s) ≡ false → Sofar s b (left - 1) x.end stays
       turn_other t =
           record {
             pre = i.pre ++ row ∷ [];
@@ -116,25 +111,28 @@ module _ (s : ℕ) (b : Bytes) where
             last = rw (last_more s i.pre row none, test, t) i.last;
             one = omega (arith, i.one);
             in_b = p.0;
-            in_order = i.in_order;
-            in_read = omega (arith, i.in_read);
+            in_order = go stays i.in_order;
           }
+        where
+          go : (y : code.Option (ℕ × ℕ)) → Ordered y past → Ordered y x.end
+          go None u = tt
+          go (Some y) u = (u.0, u.1, omega (arith, u.2, p.1))
 
     -- none left, and none is of the service
-    pub none_of : left ≡ 0 → begin ≡ 0 → plt_only s b ≡ none
+    pub none_of : left ≡ 0 → stays ≡ None → plt_only s b ≡ none
     unfolding plt_only many
-    none_of z h = rw (i.reads, z, append-nil i.pre, i.last, entry_none b begin end h)
+    none_of z h = rw (i.reads, z, append-nil i.pre, i.last, h)
 
     -- none left, and the last of the service stays
-    pub one_of : left ≡ 0 → (begin ≡ 0 → ⊥) → PltIs s b (PltChange.One begin end from)
+    pub one_of : left ≡ 0 → (begin end : ℕ) → stays ≡ Some (begin, end) → PltIs s b (Some (record { start = begin; end = end; past = past }))
     unfolding plt_only many
-    one_of z h =
-        let k : 1 ≤ begin = omega arith in (
-          record { first = k; ends = i.in_order; before = i.in_read; within = i.in_b },
-          rw (i.reads, z, append-nil i.pre, i.last, entry_some b begin end k),
+    one_of z begin end h =
+        let u = rw h at i.in_order in (
+          record { first = u.0; ends = u.1; before = u.2; within = i.in_b },
+          rw (i.reads, z, append-nil i.pre, i.last, h),
         )
 
 -- the body with one entry, written in three parts
-pub wrote_one_entry : {d d₁ d₂ d₃ : Bytes} {to x y z : ℕ} (b : Bytes) (begin end past : ℕ) → Wrote (1 ∷ []) d to d₁ x → Wrote (take (end - begin) (drop begin b)) d₁ x d₂ y
-    → Wrote (take (length b - past) (drop past b)) d₂ y d₃ z → Wrote (one_entry b begin end past) d to d₃ z
-wrote_one_entry b begin end past u v w = wrote_then u (wrote_then v (rw (rest_of b past) at w))
+pub wrote_one_entry : {d d₁ d₂ d₃ : Bytes} {to x y z : ℕ} (b : Bytes) (one : PltChange) → Wrote (1 ∷ []) d to d₁ x → Wrote (take (one.end - one.start) (drop one.start b)) d₁ x d₂ y
+    → Wrote (take (length b - one.past) (drop one.past b)) d₂ y d₃ z → Wrote (one_entry b one) d to d₃ z
+wrote_one_entry b one u v w = wrote_then u (wrote_then v (rw (rest_of b one.past) at w))

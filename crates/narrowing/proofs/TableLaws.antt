@@ -20,6 +20,8 @@ use Rattle.meaning.proofs.Writes.{wrote_then}
 use Rattle.narrowing.specs.Bodies.{MptLess, one_entry, PltBounds}
 use Rattle.narrowing.specs.Tables.{body_of, ChangeIs, TableChangeIs, is_change, Exact, after_table}
 use Rattle.narrowing.specs.declared.table.BodyChange.{BodyChange}
+use Rattle.narrowing.specs.declared.mpt.MptChange.{MptChange}
+use Rattle.narrowing.specs.declared.plt.PltChange.{PltChange}
 use Rattle.narrowing.proofs.ExactLaws.{exact_table}
 
 -- ---- the body of a table with this number, on this identifier
@@ -46,39 +48,39 @@ module _ (o : Options) (p number : ℕ) (b : Bytes) where
 -- ---- a change, by its cases
 
 module _ (n : Option Bytes) (o : Options) (b : Bytes) (change : BodyChange) (h : ChangeIs n o b change) where
-  module _ (front end kept size : ℕ) (q : change ≡ BodyChange.Mpt front end kept size) where
-    pub as_mpt : (n ≡ mpt_without o b) × MptLess o b front end kept size
+  module _ (less : MptChange) (q : change ≡ BodyChange.Mpt less) where
+    pub as_mpt : (n ≡ mpt_without o b) × MptLess o b less
     as_mpt = rw q at h
 
-    pub mpt_length : front + 1 + size + (length b - end) ≡ length (Option.get_or n b)
+    pub mpt_length : less.front + 1 + less.size + (length b - less.end) ≡ length (Option.get_or n b)
     unfolding mpt_body
     mpt_length =
         let m = as_mpt.1 in
-        let l = length-take-le front b (omega (arith, m.fits, m.within)) in
-        rw (as_mpt.0, m.narrowed) (simp length-append (omega (arith, l, m.size_is, length-drop end b)))
+        let l = length-take-le less.front b (omega (arith, m.fits, m.within)) in
+        rw (as_mpt.0, m.narrowed) (simp length-append (omega (arith, l, m.size_is, length-drop less.end b)))
 
-  module _ (start end past : ℕ) (q : change ≡ BodyChange.Plt start end past) where
-    pub as_plt : PltBounds b start end past × (n ≡ some (one_entry b start end past))
+  module _ (one : PltChange) (q : change ≡ BodyChange.Plt one) where
+    pub as_plt : PltBounds b one × (n ≡ some (one_entry b one))
     as_plt = rw q at h
 
-    pub plt_length : 1 + (end - start) + (length b - past) ≡ length (Option.get_or n b)
+    pub plt_length : 1 + (one.end - one.start) + (length b - one.past) ≡ length (Option.get_or n b)
     plt_length =
         let p = as_plt.0 in
-        let l = length-take-le (end - start) (drop start b) (omega (arith, length-drop start b, p.ends, p.before, p.within)) in
-        rw as_plt.1 (simp length-append (omega (arith, l, length-drop past b)))
+        let l = length-take-le (one.end - one.start) (drop one.start b) (omega (arith, length-drop one.start b, p.ends, p.before, p.within)) in
+        rw as_plt.1 (simp length-append (omega (arith, l, length-drop one.past b)))
 
   pub as_same : change ≡ BodyChange.Same → n ≡ none
   as_same q = rw q at h
 
 -- no change, and a change
 pub stays : (n : Option Bytes) (o : Options) (b : Bytes) (change : BodyChange) → ChangeIs n o b change → is_change change ≡ false → n ≡ none
-stays n o b (BodyChange.Mpt front end kept size) h q = clash (cc)
-stays n o b (BodyChange.Plt start end past) h q = clash (cc)
+stays n o b (BodyChange.Mpt less) h q = clash (cc)
+stays n o b (BodyChange.Plt one) h q = clash (cc)
 stays n o b BodyChange.Same h q = h
 
 pub changed : (n : Option Bytes) (o : Options) (b : Bytes) (change : BodyChange) → ChangeIs n o b change → is_change change ≡ true → n ≡ some (Option.get_or n b)
-changed n o b (BodyChange.Mpt front end kept size) h q = let e = h.0 ∙ h.1.narrowed in rw e
-changed n o b (BodyChange.Plt start end past) h q = rw h.1
+changed n o b (BodyChange.Mpt less) h q = let e = h.0 ∙ h.1.narrowed in rw e
+changed n o b (BodyChange.Plt one) h q = rw h.1
 changed n o b BodyChange.Same h q = clash (cc)
 
 -- ---- the whole table

@@ -89,8 +89,8 @@ change_from o p changed r = ltb (length (tables_in r).left) 4 && (changed || any
 
 -- what a change shows
 is_some_lem : (n : Option Bytes) (o : Options) (b : Bytes) (change : BodyChange) → ChangeIs n o b change → is_change change ≡ is_some n
-is_some_lem n o b (BodyChange.Mpt front end kept size) h = let e = h.0 ∙ h.1.narrowed in rw e
-is_some_lem n o b (BodyChange.Plt start end past) h = rw h.1
+is_some_lem n o b (BodyChange.Mpt less) h = let e = h.0 ∙ h.1.narrowed in rw e
+is_some_lem n o b (BodyChange.Plt one) h = rw h.1
 is_some_lem n o b BodyChange.Same h = rw h
 
 change_start : (o : Options) (p : ℕ) (r : Bytes) → tables_change o p r ≡ change_from o p false r

@@ -1,6 +1,7 @@
 -- What the three narrowings answer, by the definition that gives the number, the change and the length of each answer, with the whole
 -- output and the counts of the entries that stayed and went; and what the functions below them answer.
-use Rattle.std.specs.Prelude.{ℕ, ◌+◌, ◌-◌, ◌≤◌, ◌≡◌, Bool, true, false, cond, ◌&&◌, List, [], ◌∷◌, map, length, take, drop, get_or, set, leb, eqb}
+use Rattle.std.specs.Prelude.{ℕ, ◌+◌, ◌-◌, ◌≤◌, ◌≡◌, Bool, true, false, cond, ◌&&◌, List, [], ◌∷◌, map, length, take, drop, get_or, set, leb, eqb, Some, None}
+use Rattle.std.specs.Prelude as code
 use Rattle.std.proofs.Math.Option.{Option, none, some}
 use Rattle.meaning.specs.Bytes.{Bytes, be16_at}
 use Rattle.meaning.specs.Writing.{Wrote}
@@ -12,11 +13,11 @@ use Rattle.meaning.specs.Messages.{indicator, aggregated}
 use Rattle.meaning.specs.Tables.{Entry, pa_head, kind_number}
 use Rattle.meaning.specs.Wishes.{wanted}
 use Rattle.meaning.specs.Narrow.{Change, narrow_payload, pa_message, pa_bytes, change_made, changed_bytes, none_of_each, stays_of, goes_of}
-use Rattle.meaning.specs.Refusals.{narrowing_number, narrowing_changed, narrowing_length}
+use Rattle.meaning.specs.Refusals.{number_of, narrowing_number, narrowing_changed, narrowing_length}
 use Rattle.meaning.specs.declared.Narrowing.{Narrowing}
+use Rattle.meaning.specs.declared.Refusal.{Refusal}
 use Rattle.meaning.specs.declared.Part.{Part}
 use Rattle.meaning.specs.declared.Options.{Options}
-use Rattle.tables.specs.declared.fields.End.{End}
 use Rattle.narrowing.specs.Tables.{KnownIs, tables_in, tables_after, tables_change, HeadEntries}
 use Rattle.narrowing.specs.declared.narrow.Pa.{Pa}
 use Rattle.narrowing.specs.declared.narrow.ChangedPa.{ChangedPa}
@@ -30,14 +31,10 @@ pub record NarrowedAs (x : ℕ) (n : Option Change) (d d' : Bytes) (r : Narrowin
   pub stays_are : s ≡ stays_of (change_made x n)
   pub goes_are : w ≡ goes_of (change_made x n)
 
--- By the lengths of input and output: refused with this number, or else unchanged.
-abbrev pub RefusedAs : ℕ → Narrowing → Type 0
-RefusedAs x r = (narrowing_number r ≡ x) × (narrowing_changed r ≡ false)
-
-abbrev pub is_refused : Narrowing → Bool
-is_refused (Narrowing.Refused r) = true
-is_refused Narrowing.Unchanged = false
-is_refused (Narrowing.Changed k) = false
+-- By the lengths of input and output: refused with this number, or else 0.
+abbrev pub RefusedAs : ℕ → code.Option Refusal → Type 0
+RefusedAs x (Some r) = number_of r ≡ x
+RefusedAs x None = 0 ≡ x
 
 -- The PA message of a payload: its body is the payload's bytes from 9 to `end`, and the body's tables start at `tables`.
 pub record PaFound (payload : Bytes) (end tables : ℕ) : Type 0 where
@@ -70,20 +67,21 @@ pub record Framed (p payload : Bytes) : Type 0 where
 abbrev pub NoPa : Bytes → Type 0
 NoPa payload = (b : Bytes) → pa_message payload ≡ some b → pa_head b ≡ none
 
-abbrev pub PaIs : Bytes → Pa → Type 0
-PaIs payload (Pa.Found end tables) = PaFound payload end tables
-PaIs payload Pa.Nothing = NoPa payload
+abbrev pub PaIs : Bytes → code.Option Pa → Type 0
+PaIs payload (Some pa) = PaFound payload pa.end pa.tables
+PaIs payload None = NoPa payload
 
 -- The PA message of a payload that narrowing changes, and what is known of one of its tables.
-abbrev pub ChangedPaIs : Options → ℕ → Bytes → ChangedPa → Type 0
-ChangedPaIs o p payload (ChangedPa.Found end tables known) =
-    PaFound payload end tables × (tables_change o p (drop tables (take (end - 9) (drop 9 payload))) ≡ true) × KnownIs o p (take (end - 9) (drop 9 payload)) known
-ChangedPaIs o p payload ChangedPa.Nothing = narrow_payload o p payload ≡ none
+abbrev pub ChangedPaIs : Options → ℕ → Bytes → code.Option ChangedPa → Type 0
+ChangedPaIs o p payload (Some c) =
+    PaFound payload c.pa.end c.pa.tables × (tables_change o p (drop c.pa.tables (take (c.pa.end - 9) (drop 9 payload))) ≡ true)
+    × KnownIs o p (take (c.pa.end - 9) (drop 9 payload)) c.known
+ChangedPaIs o p payload None = narrow_payload o p payload ≡ none
 
 -- The narrowed bytes at `to` of the output, or the output as it was.
-abbrev pub RewroteAs : Option Bytes → Bytes → ℕ → Bytes → End → Type 0
-RewroteAs n d to d' (End.At k) = (y : Bytes) × (n ≡ some y) × Wrote y d to d' k
-RewroteAs n d to d' End.Nothing = (n ≡ none) × (d' ≡ d)
+abbrev pub RewroteAs : Option Bytes → Bytes → ℕ → Bytes → code.Option ℕ → Type 0
+RewroteAs n d to d' (Some k) = (y : Bytes) × (n ≡ some y) × Wrote y d to d' k
+RewroteAs n d to d' None = (n ≡ none) × (d' ≡ d)
 
 -- ---- counting: two rows, those that stay and those that go, each of captions, carousels and others
 

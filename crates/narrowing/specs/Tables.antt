@@ -17,8 +17,8 @@ use Rattle.tables.specs.declared.pa.Table.TheVariants.{To}
 
 -- n is what narrowing makes of the body b.
 abbrev pub ChangeIs : Option Bytes → Options → Bytes → BodyChange → Type 0
-ChangeIs n o b (BodyChange.Mpt front end kept size) = (n ≡ mpt_without o b) × MptLess o b front end kept size
-ChangeIs n o b (BodyChange.Plt start end past) = PltBounds b start end past × (n ≡ some (one_entry b start end past))
+ChangeIs n o b (BodyChange.Mpt less) = (n ≡ mpt_without o b) × MptLess o b less
+ChangeIs n o b (BodyChange.Plt one) = PltBounds b one × (n ≡ some (one_entry b one))
 ChangeIs n o b BodyChange.Same = n ≡ none
 
 -- The body of the table from `at` to e.
@@ -41,8 +41,8 @@ abbrev pub KnownIs : Options → ℕ → Bytes → TableChange → Type 0
 KnownIs o p s known = (e : ℕ) → TableIs (table (drop known.at s)) s known.at (To e) → ChangeAt o p s known.at e known.change
 
 abbrev pub is_change : BodyChange → Bool
-is_change (BodyChange.Mpt front end kept size) = true
-is_change (BodyChange.Plt start end past) = true
+is_change (BodyChange.Mpt less) = true
+is_change (BodyChange.Plt one) = true
 is_change BodyChange.Same = false
 
 -- t is one table and nothing more.

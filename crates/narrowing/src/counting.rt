@@ -9,11 +9,10 @@ ghost use Rattle.meaning.specs.Narrow.{tables_parts, parts_of_table};
 ghost use Rattle.narrowing.specs.Tables.{Exact, tables_in};
 ghost use Rattle.narrowing.specs.Answers.{CountsBelow, no_rows, counted_in, row_number, bumped, parts_read};
 
-use crate::mpt::{EntryWalk, entries, wanted};
+use crate::mpt::{entries, wanted};
 use meaning::{Options, Part};
 use octets::wide;
-use tables::assets::{Asset, asset_at, mpt_front};
-use tables::fields::End;
+use tables::assets::{asset_at, mpt_front};
 use tables::pa::{Table, is_mpt, table_at};
 
 fn kind_of(part: Part) -> usize
@@ -30,10 +29,7 @@ fn kind_of(part: Part) -> usize
 fn row_of(o: Options, part: Part) -> usize
     ensures { (result ≡ row_number o part) × (result < 2) }
 {
-    if wanted(o, part) {
-        return 0;
-    }
-    1
+    if wanted(o, part) { 0 } else { 1 }
 }
 
 // One more in a row.
@@ -59,14 +55,12 @@ fn count_entries(
 {
     let mut t = counts;
     let mut from = at;
-    let mut left = count;
-    while 0 < left {
-        let Asset::Entry { end, part, .. } = asset_at(b, from) else {
+    for _ in 0..count {
+        let Some(asset) = asset_at(b, from) else {
             return t;
         };
-        from = end;
-        left -= 1;
-        let u = bump(t, row_of(o, part), kind_of(part));
+        from = asset.end;
+        let u = bump(t, row_of(o, asset.part), kind_of(asset.part));
         t = u;
     }
     t
@@ -81,19 +75,14 @@ pub fn count_table(t: &[u8], o: Options, counts: [[u64; 3]; 2]) -> [[u64; 3]; 2]
         return counts;
     }
     let b = &t[4..];
-    let End::At(front) = mpt_front(b) else {
+    let Some(front) = mpt_front(b) else {
         return counts;
     };
     if b.len() <= front {
         return counts;
     }
     let n = wide(b[front]);
-    let EntryWalk::Done {
-        end: _,
-        kept: _,
-        size: _,
-    } = entries(b, front + 1, n, o)
-    else {
+    let Some(_) = entries(b, front + 1, n, o) else {
         return counts;
     };
     count_entries(b, front + 1, n, o, counts)
@@ -106,13 +95,10 @@ pub fn count_tables(s: &[u8], tables: usize, o: Options) -> [[u64; 3]; 2]
 {
     let mut t = [[0u64; 3]; 2];
     let mut at = tables;
-    loop {
-        let from = at;
-        let Table::To(end) = table_at(s, from) else {
-            return t;
-        };
-        at = end;
-        let u = count_table(&s[from..end], o, t);
+    while let Table::To(end) = table_at(s, at) {
+        let u = count_table(&s[at..end], o, t);
         t = u;
+        at = end;
     }
+    t
 }

@@ -11,30 +11,23 @@ ghost use Rattle.narrowing.specs.Bodies.{kept_bytes, WalkIs, MptLess, MptIs};
 
 use meaning::{Options, Part};
 use octets::{copy, put8, wide};
-use tables::assets::{Asset, asset_at, mpt_front};
-use tables::fields::End;
+use tables::assets::{asset_at, mpt_front};
 
 // The entries of a body: where they end, how many are wanted, and how many bytes those are.
 #[derive(Clone, Copy)]
-pub enum EntryWalk {
-    Done {
-        end: usize,
-        kept: usize,
-        size: usize,
-    },
-    Broken,
+pub struct EntryWalk {
+    pub end: usize,
+    pub kept: usize,
+    pub size: usize,
 }
 
 // What narrowing makes of an MPT's body: where its count is, where its entries end, how many stay and how many bytes they are.
 #[derive(Clone, Copy)]
-pub enum MptChange {
-    Less {
-        front: usize,
-        end: usize,
-        kept: usize,
-        size: usize,
-    },
-    Same,
+pub struct MptChange {
+    pub front: usize,
+    pub end: usize,
+    pub kept: usize,
+    pub size: usize,
 }
 
 pub fn wanted(o: Options, part: Part) -> bool
@@ -48,31 +41,23 @@ pub fn wanted(o: Options, part: Part) -> bool
 }
 
 // `count` entries at `at`.
-pub fn entries(b: &[u8], at: usize, count: usize, o: Options) -> EntryWalk
+pub fn entries(b: &[u8], at: usize, count: usize, o: Options) -> Option<EntryWalk>
     requires { (at ≤ length b.now) × (count < 256) }
     ensures { WalkIs o b.now at count result }
 {
-    let mut from = at;
-    let mut left = count;
+    let mut end = at;
     let mut kept = 0;
     let mut size = 0;
-    while 0 < left {
-        let start = from;
-        let Asset::Entry { end, part, .. } = asset_at(b, start) else {
-            return EntryWalk::Broken;
-        };
-        from = end;
-        left -= 1;
-        if wanted(o, part) {
+    for _ in 0..count {
+        let start = end;
+        let asset = asset_at(b, start)?;
+        end = asset.end;
+        if wanted(o, asset.part) {
             kept += 1;
             size += end - start;
         }
     }
-    EntryWalk::Done {
-        end: from,
-        kept,
-        size,
-    }
+    Some(EntryWalk { end, kept, size })
 }
 
 // The wanted ones of `count` entries, written at `to`: each row of them, from `row` on, in one copy.
@@ -81,64 +66,51 @@ fn entries_to(b: &[u8], at: usize, count: usize, o: Options, out: &mut [u8], to:
     ensures { Wrote (kept_bytes o (many count entry (drop at b.now))) out.old to out.new result }
 {
     let mut from = at;
-    let mut left = count;
     let mut put = to;
     let mut row = at;
-    while 0 < left {
+    for _ in 0..count {
         let start = from;
-        let Asset::Entry { end, part, .. } = asset_at(b, start) else {
+        let Some(asset) = asset_at(b, start) else {
             return put;
         };
-        from = end;
-        left -= 1;
-        if !wanted(o, part) {
+        from = asset.end;
+        if !wanted(o, asset.part) {
             put = copy(&b[row..start], out, put);
-            row = end;
+            row = from;
         }
     }
     copy(&b[row..from], out, put)
 }
 
 // What narrowing makes of an MPT's body.
-pub fn mpt_without(b: &[u8], o: Options) -> MptChange
+pub fn mpt_without(b: &[u8], o: Options) -> Option<MptChange>
     ensures { MptIs o b.now result }
 {
-    let End::At(front) = mpt_front(b) else {
-        return MptChange::Same;
-    };
+    let front = mpt_front(b)?;
     if b.len() <= front {
-        return MptChange::Same;
+        return None;
     }
     let count = wide(b[front]);
-    let EntryWalk::Done { end, kept, size } = entries(b, front + 1, count, o) else {
-        return MptChange::Same;
-    };
-    if kept == count {
-        return MptChange::Same;
+    let walk = entries(b, front + 1, count, o)?;
+    if walk.kept == count {
+        return None;
     }
-    MptChange::Less {
+    Some(MptChange {
         front,
-        end,
-        kept,
-        size,
-    }
+        end: walk.end,
+        kept: walk.kept,
+        size: walk.size,
+    })
 }
 
 // The new body, written at `to`.
-pub fn mpt_to(
-    b: &[u8],
-    front: usize,
-    end: usize,
-    kept: usize,
-    o: Options,
-    out: &mut [u8],
-    to: usize,
-) -> usize
-    requires { ((size : ℕ) × MptLess o b.now front end kept size) × (to + length b.now ≤ length out.old) }
+pub fn mpt_to(b: &[u8], change: MptChange, o: Options, out: &mut [u8], to: usize) -> usize
+    requires { MptLess o b.now change × (to + length b.now ≤ length out.old) }
     ensures { Wrote (Option.get_or (mpt_without o b.now) b.now) out.old to out.new result }
 {
+    let front = change.front;
     let c = copy(&b[0..front], out, to);
-    let d = put8(out, c, (kept % 256) as u8);
+    let d = put8(out, c, (change.kept % 256) as u8);
     let e = entries_to(b, front + 1, wide(b[front]), o, out, d);
-    copy(&b[end..], out, e)
+    copy(&b[change.end..], out, e)
 }

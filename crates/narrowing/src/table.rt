@@ -17,17 +17,8 @@ use tables::pa::is_mpt;
 // What narrowing makes of a table's body.
 #[derive(Clone, Copy)]
 pub enum BodyChange {
-    Mpt {
-        front: usize,
-        end: usize,
-        kept: usize,
-        size: usize,
-    },
-    Plt {
-        start: usize,
-        end: usize,
-        past: usize,
-    },
+    Mpt(MptChange),
+    Plt(PltChange),
     Same,
 }
 
@@ -35,18 +26,8 @@ fn of_mpt(b: &[u8], o: Options) -> BodyChange
     ensures { ChangeIs (mpt_without o b.now) o b.now result }
 {
     match mpt_without(b, o) {
-        MptChange::Less {
-            front,
-            end,
-            kept,
-            size,
-        } => BodyChange::Mpt {
-            front,
-            end,
-            kept,
-            size,
-        },
-        MptChange::Same => BodyChange::Same,
+        Some(less) => BodyChange::Mpt(less),
+        None => BodyChange::Same,
     }
 }
 
@@ -57,8 +38,8 @@ fn of_plt(b: &[u8], service: Service) -> BodyChange
         return BodyChange::Same;
     };
     match plt_only(b, n) {
-        PltChange::One { start, end, past } => BodyChange::Plt { start, end, past },
-        PltChange::Same => BodyChange::Same,
+        Some(one) => BodyChange::Plt(one),
+        None => BodyChange::Same,
     }
 }
 
@@ -75,8 +56,7 @@ pub fn change_of(b: &[u8], number: u8, pid: u16, o: Options) -> BodyChange
     if pid != 0 {
         return BodyChange::Same;
     }
-    let service = o.service;
-    of_plt(b, service)
+    of_plt(b, o.service)
 }
 
 // How many bytes the new body has.
@@ -85,13 +65,8 @@ pub fn length_after(b: &[u8], change: BodyChange) -> usize
     ensures { (n : Option Bytes) (o : Options) → ChangeIs n o b.now change → result ≡ length (CoreOption.get_or n b.now) }
 {
     match change {
-        BodyChange::Mpt {
-            front,
-            end,
-            kept: _,
-            size,
-        } => front + 1 + size + (b.len() - end),
-        BodyChange::Plt { start, end, past } => 1 + (end - start) + (b.len() - past),
+        BodyChange::Mpt(less) => less.front + 1 + less.size + (b.len() - less.end),
+        BodyChange::Plt(one) => 1 + (one.end - one.start) + (b.len() - one.past),
         BodyChange::Same => b.len(),
     }
 }
@@ -100,17 +75,8 @@ pub fn changes(change: BodyChange) -> bool
     ensures { result ≡ is_change change }
 {
     match change {
-        BodyChange::Mpt {
-            front: _,
-            end: _,
-            kept: _,
-            size: _,
-        } => true,
-        BodyChange::Plt {
-            start: _,
-            end: _,
-            past: _,
-        } => true,
+        BodyChange::Mpt(_) => true,
+        BodyChange::Plt(_) => true,
         BodyChange::Same => false,
     }
 }
@@ -121,13 +87,8 @@ fn body_to(b: &[u8], change: BodyChange, o: Options, out: &mut [u8], to: usize) 
     ensures { (n : Option Bytes) → ChangeIs n o b.now change → Wrote (CoreOption.get_or n b.now) out.old to out.new result }
 {
     match change {
-        BodyChange::Mpt {
-            front,
-            end,
-            kept,
-            size: _,
-        } => mpt_to(b, front, end, kept, o, out, to),
-        BodyChange::Plt { start, end, past } => plt_to(b, start, end, past, out, to),
+        BodyChange::Mpt(less) => mpt_to(b, less, o, out, to),
+        BodyChange::Plt(one) => plt_to(b, one, out, to),
         BodyChange::Same => copy(b, out, to),
     }
 }

@@ -8,8 +8,8 @@ use Rattle.narrowing.proofs.counting.count_tables.Goals as goal
 pub loop-end-init : goal.loop-end-init
 loop-end-init c = let a = c.args in tally_start a.s.now a.tables a.o c.requires.0
 
-pub returns-in_default : goal.returns-in_default
-returns-in_default c =
+pub returns : goal.returns
+returns c =
     let a = c.args in
     let l = c.loop-end in
     tallied a.s.now a.tables a.o l.t l.at l.invariant

@@ -11,21 +11,19 @@ use Rattle.narrowing.proofs.WalkLaws.{own_change}
 use Rattle.narrowing.proofs.AnswerLaws.{not_refused, refused_answer, unchanged_answer, changed_answer, rows_low, part_short, no_table_stays, table_stays, table_changes_lem}
 use Rattle.narrowing.proofs.narrow.narrow_table.Goals as goal
 
-pub returns-then-is_refused : goal.returns-then-is_refused
-returns-then-is_refused c =
+pub returns-in-Some : goal.returns-in-Some
+returns-in-Some c =
     let a = c.args in
-    let r = c.refusal-refused in
-    refused_answer (narrow_refusal (length a.t.now) (length a.out.now)) (change_table a.o a.t.now) a.out.now _ _ _ r.result r.ensures
-    (rw c.is_refused.ensures at c.if-is_refused.true) c.without_counts.ensures
+    refused_answer (narrow_refusal (length a.t.now) (length a.out.now)) (change_table a.o a.t.now) a.out.now _ _ _ c.in-Some.r
+    (rw c.in-Some.is at c.refusal.ensures) c.without_counts.ensures
 
-pub returns-in_default : goal.returns-in_default
-returns-in_default c =
+pub returns-in_default-table_at : goal.returns-in_default-table_at
+returns-in_default-table_at c =
     let a = c.args in
-    let r = c.refusal-refused in
-    let f = not_refused (length a.t.now) (length a.out.now) r.result r.ensures (rw c.is_refused.ensures at c.if-is_refused.false) in
+    let f = not_refused (length a.t.now) (length a.out.now) (rw c.in_default.is at c.refusal.ensures) in
     let k = c.table_at in
     unchanged_answer (narrow_refusal (length a.t.now) (length a.out.now)) (change_table a.o a.t.now) a.out.now _ _ _ _ refl f.0
-    (no_table_stays a.o a.t.now (no_table a.t.now 0 k.result (opened c.in_default.in_default-own.keys2) k.ensures)) c.without_counts-in_default.ensures
+    (no_table_stays a.o a.t.now (no_table a.t.now 0 k.result (opened c.in_default-table_at.in_default-table_at-own.keys2) k.ensures)) c.without_counts-in_default-table_at.ensures
 
 pub slice_bounds-change_of-count : goal.slice_bounds-change_of-count
 slice_bounds-change_of-count c = let h = rw c.in-To.is at c.table_at.ensures in omega (arith, h.0)
@@ -42,8 +40,7 @@ bounds-t-0 c = let h = rw c.in-To.is at c.table_at.ensures in omega (arith, h.0,
 pub returns-then-not-changes : goal.returns-then-not-changes
 returns-then-not-changes c =
     let a = c.args in
-    let r = c.refusal-refused in
-    let f = not_refused (length a.t.now) (length a.out.now) r.result r.ensures (rw c.is_refused.ensures at c.if-is_refused.false) in
+    let f = not_refused (length a.t.now) (length a.out.now) (rw c.in_default.is at c.refusal.ensures) in
     let h = rw c.in-To.is at c.table_at.ensures in
     let k = c.change_of-change in
     let s = c.changes in
@@ -56,8 +53,7 @@ slice_bounds-u-end c = let h = rw c.in-To.is at c.table_at.ensures in omega (ari
 pub table_to-n-requires : goal.table_to-n-requires
 table_to-n-requires c =
     let a = c.args in
-    let r = c.refusal-refused in
-    let f = not_refused (length a.t.now) (length a.out.now) r.result r.ensures (rw c.is_refused.ensures at c.if-is_refused.false) in
+    let f = not_refused (length a.t.now) (length a.out.now) (rw c.in_default.is at c.refusal.ensures) in
     let h = rw c.in-To.is at c.table_at.ensures in (
       part_exact a.t.now 0 _ h,
       (0, own_change a.t.now 0 _ h a.o 0 c.change_of-change.result c.change_of-change.ensures),
@@ -73,8 +69,7 @@ count_table-requires c =
 pub returns : goal.returns
 returns c =
     let a = c.args in
-    let r = c.refusal-refused in
-    let f = not_refused (length a.t.now) (length a.out.now) r.result r.ensures (rw c.is_refused.ensures at c.if-is_refused.false) in
+    let f = not_refused (length a.t.now) (length a.out.now) (rw c.in_default.is at c.refusal.ensures) in
     let h = rw c.in-To.is at c.table_at.ensures in
     let k = c.change_of-change in
     let s = c.changes in

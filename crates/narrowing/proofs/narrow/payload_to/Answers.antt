@@ -8,4 +8,4 @@ overflow_sub-last c = omega (arith, (c.pa_to-last.ensures _ c.requires.0.heads).
 pub returns : goal.returns
 returns c =
     let a = c.args in
-    λ h. payload_written a.o a.pid a.payload.now a.end a.tables h (omega (arith, c.requires.2)) c.copy-body.ensures (c.pa_to-last.ensures h.entries h.heads) c.put32.ensures
+    λ h. payload_written a.o a.pid a.payload.now a.changed.pa.end a.changed.pa.tables h (omega (arith, c.requires.2)) c.copy-body.ensures (c.pa_to-last.ensures h.entries h.heads) c.put32.ensures

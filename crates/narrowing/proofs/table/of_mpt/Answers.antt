@@ -1,8 +1,8 @@
 use mathlib.Core.Path.{refl}
 use Rattle.narrowing.proofs.table.of_mpt.Goals as goal
 
-pub returns-in-Less : goal.returns-in-Less
-returns-in-Less c = (refl, rw c.in-Less.is at c.mpt_without.ensures)
+pub returns-in-Some : goal.returns-in-Some
+returns-in-Some c = (refl, rw c.in-Some.is at c.mpt_without.ensures)
 
-pub returns-in-Same : goal.returns-in-Same
-returns-in-Same c = rw c.in-Same.is at c.mpt_without.ensures
+pub returns-in-None : goal.returns-in-None
+returns-in-None c = rw c.in-None.is at c.mpt_without.ensures
