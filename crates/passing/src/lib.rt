@@ -21,7 +21,6 @@ use narrowing::narrow::rewrite;
 use observing::observe::observe;
 use octets::{IdSet, copy};
 use rules::{decide, ready};
-use tables::fields::End;
 use tlv::{gap_end, mmtp_of, next, packet_payload};
 
 // What stays the same over a call: the modes, the wishes, the packet limit, and the most bytes of one message.
@@ -166,7 +165,7 @@ fn narrowed(
     let o = t.options;
     let c = s.counts;
     if cuts(o, signal.id, s.extent, packages) {
-        if let End::At(last) = rewrite(
+        if let Some(last) = rewrite(
             p,
             payload,
             signal.id,
