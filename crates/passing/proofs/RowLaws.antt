@@ -1,59 +1,21 @@
--- What the head, the set and readiness say of a packet; and a row, packet after packet, that goes out as it is. Rests on meaning's
--- CutLaws.
+-- A row, packet after packet, that goes out as it is. Rests on meaning's CutLaws.
 use Prim.Native.Nat.{ℕ, ◌+◌, ◌-◌, ◌≤◌, ◌<◌}
 use mathlib.Core.Path.{◌≡◌, refl, sym, ap, ◌∙◌}
-use mathlib.Core.Bool.{Bool, true, false, not, ◌||◌}
+use mathlib.Core.Bool.{Bool, false}
 use mathlib.Core.List.{List, [], ◌∷◌, ◌++◌, flatten, append-nil}
-use mathlib.Core.Option.{none, some}
 use native.Mathlib.Omega.{arith}
 use lib.ListN.{length, take, drop, length-append, length-drop}
 use lib.Seq.{drop-drop, take-add, append_snoc}
-use borrow.Author.Tests.{ne_eqb}
 use Rattle.meaning.specs.Bytes.{Bytes}
-use Rattle.meaning.specs.Sets.{Words, in_set}
+use Rattle.meaning.specs.Sets.{Words}
 use Rattle.meaning.specs.Packets.{size_of, step_of, Cut, cut, accept}
-use Rattle.meaning.specs.Mmtp.{mmtp_of}
 use Rattle.meaning.specs.declared.Step.{Step}
 use Rattle.meaning.specs.declared.Step.TheVariants.{Packet}
-use Rattle.meaning.proofs.ListLaws.{clash, or_left, or_right}
+use Rattle.meaning.proofs.ListLaws.{clash}
 use Rattle.meaning.proofs.CutLaws.{View, view, size_four, cut_packet}
-use Rattle.tlv.specs.Answers.{MmtpIs}
-use Rattle.tlv.specs.declared.Mmtp.{Mmtp}
-use Rattle.tlv.proofs.Laws.{behind_short}
-use Rattle.passing.specs.Verdicts.{Plain, SignalsSome, AllPass, ahead, PacketTo, packet_at, StopIs, Rowing, RowIs}
+use Rattle.passing.specs.Verdicts.{Plain, AllPass, ahead, PacketTo, packet_at, StopIs, Rowing, RowIs}
 use Rattle.passing.specs.declared.Stop.{Stop}
 use Rattle.passing.proofs.PassLaws.{flatten_append}
-
--- ---- one packet
-
-module _ (p : Bytes) (ws : Words) (ready : Bool) where
-  pub unread_passes : mmtp_of p ≡ none → Plain p ws ready false
-  unread_passes e = record { other = rw e; fate = rw e }
-
-  module _ (id payload_type : ℕ) (w : Bool) (rest : Bytes) (e : mmtp_of p ≡ some (record { identifier = id; payload_type = payload_type; rewritable = w; payload = rest }))
-      (k : payload_type ≡ 2 → ⊥)
-    where
-      plain : (stop : Bool) → (in_set ws id || not ready) ≡ stop → Plain p ws ready stop
-      plain stop f = record { other = rw e (ne_eqb payload_type 2 k); fate = rw e f }
-
-      pub unready_stops : not ready ≡ true → Plain p ws ready true
-      unready_stops h = plain true (or_right (in_set ws id) (not ready) h)
-
-      pub dropped_stops : in_set ws id ≡ true → Plain p ws ready true
-      dropped_stops h = plain true (or_left (in_set ws id) (not ready) h)
-
-      pub wanted_passes : in_set ws id ≡ false → not ready ≡ false → Plain p ws ready false
-      wanted_passes h g = plain false (rw h g)
-
-pub signals_read : (p : Bytes) (id payload_type : ℕ) (w : Bool) → id < 65536 → payload_type ≡ 2 → MmtpIs (mmtp_of p) p (Mmtp.Read id payload_type w) → SignalsSome p id w
-signals_read p id payload_type w f k m = (
-  m.0,
-  record {
-    behind_header = behind_short m.1;
-    identifier_fits = f;
-    read = m.2 ∙ ap (λ (n : ℕ). some (record { identifier = id; payload_type = n; rewritable = w; payload = m.0 })) k;
-  },
-)
 
 -- ---- a packet of a run
 

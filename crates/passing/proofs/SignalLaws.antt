@@ -1,6 +1,6 @@
 -- Laws on a signalling packet: what becomes of it, what is known, dropped and ready after it, and that what comes next has room still.
 -- Rests on PassLaws, on meaning's Statements and on learning's NewsLaws.
-use Prim.Native.Nat.{ℕ, ◌+◌, ◌*◌, ◌≤◌}
+use Prim.Native.Nat.{ℕ, ◌+◌, ◌≤◌}
 use mathlib.Core.Path.{◌≡◌, refl, sym, ap, ◌∙◌}
 use mathlib.Core.Bool.{Bool, true, false, cond}
 use mathlib.Core.List.{List, [], ◌∷◌, ◌++◌, flatten, append-nil}
@@ -41,20 +41,6 @@ use Rattle.passing.specs.Verdicts.{Signals}
 use Rattle.passing.specs.Passing.{Emitted, Refreshed, Fits, Sofar}
 use Rattle.passing.proofs.PassLaws.{counts_after, further}
 
--- ---- a packet that is written
-
-abbrev pub sent_as : Counts → ℕ → ℕ → Counts
-sent_as c bytes rewritten = record c { bytes = bytes; accepted = c.accepted + 1; written = c.written + 1; rewritten = c.rewritten + rewritten }
-
-module _ (y : Option Bytes) (p : Bytes) (c : Counts) (d d' : Bytes) (r : Counts) (bytes : ℕ) where
-  -- as it is
-  pub sent_plain : y ≡ none → Wrote p d c.bytes d' bytes → r ≡ sent_as c bytes 0 → Emitted false y p c d r d'
-  sent_plain e w q = rw (e, q) (refl, w)
-
-  -- narrowed
-  pub sent_narrowed : (z : Bytes) → y ≡ some z → Wrote z d c.bytes d' bytes → r ≡ sent_as c bytes 1 → Emitted false y p c d r d'
-  sent_narrowed z e w q = rw (e, q) (refl, w)
-
 -- ---- narrowing a packet of signalling
 
 pub narrows_as : (M : Modes) (o : Options) {p payload : Bytes} {id : ℕ} {w : Bool} → Signals p payload id w
@@ -82,11 +68,6 @@ holding_anew h =
     }
 
 -- ---- what is dropped, and readiness, after it
-
-pub refreshed_anew : (b : Bool) (o : Options) (e : Extent) (was : Bool) (kept : Kept) (map_room : List ℕ) (set : Words) (r : Bool) (set' : Words) → b ≡ true
-    → ((k : Known) → KeepsIn k e kept map_room → SetIs (drops o k) set' × (r ≡ ready o.service k))
-    → Refreshed b o e was kept map_room set r set'
-refreshed_anew b o e was kept map_room set r set' q h = rw q h
 
 module _ (L : Limits) (M : Modes) (o : Options) (id : ℕ) (s : Bytes) (k : Known) where
   abbrev after : Known
@@ -191,11 +172,6 @@ module _ (L : Limits) (M : Modes) (o : Options) (k : Known) (leading : ℕ) (d :
       (rw passes (emitted_bytes y p step.lost step.known s.counts out r.counts out' (drops o step.known id) x))
 
 -- ---- room for what comes next
-
--- the observer may lose as many maps as the payload and the fragment room have bytes
-pub observer_fits : {p payload : Bytes} {id : ℕ} {w : Bool} (lost T : ℕ) → Signals p payload id w → lost + length p * 16777217 ≤ 18446744073709551615 → T ≤ 16777216
-    → lost + length payload + T ≤ 18446744073709551615
-observer_fits lost T h f few = omega (arith, f, few, h.behind_header)
 
 pub emitter_fits : {p payload : Bytes} {id : ℕ} {w : Bool} (s : Progress) (out_length : ℕ) → Signals p payload id w → Fits s (length p) out_length
     → (s.counts.bytes + length p ≤ out_length) × (s.counts.accepted + 1 ≤ 18446744073709551615) × (s.counts.written + 1 ≤ 18446744073709551615) × (s.counts.rewritten + 1 ≤ 18446744073709551615)

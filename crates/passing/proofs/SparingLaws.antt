@@ -13,17 +13,15 @@ use Rattle.meaning.specs.Bytes.{Bytes}
 use Rattle.meaning.specs.Sets.{in_set}
 use Rattle.meaning.specs.Lists.{all, any}
 use Rattle.meaning.specs.Readers.{Out, Walk}
-use Rattle.meaning.specs.Mmtp.{Mmtp, is_signalling}
 use Rattle.meaning.specs.Messages.{Message, indicator, aggregated, message, cons_message, in_body, messages}
 use Rattle.meaning.specs.Tables.{Entry, Mpt, mpt, Package, plt, service_of, Table, is_mpt, is_plt, PaHead, pa}
 use Rattle.meaning.specs.Wishes.{wanted, wanted_entry}
-use Rattle.meaning.specs.Narrow.{mpt_keeping, mpt_without, is_service, last_of, plt_keeping, plt_only, plt_for, new_body, new_table, table_changes, pa_for, narrow_pa, pa_of, pa_message, payload_for, narrow_payload, may_rewrite, packet_for}
+use Rattle.meaning.specs.Narrow.{mpt_keeping, mpt_without, is_service, last_of, plt_keeping, plt_only, plt_for, new_body, new_table, table_changes, pa_for, narrow_pa, pa_of, pa_message, payload_for, narrow_payload}
 use Rattle.meaning.specs.Learn.{Known, insert_package, add_package, packages_in, learn_table, pa_tables, observe, with_fragments, without}
 use Rattle.meaning.specs.declared.Part.{Part}
 use Rattle.meaning.specs.declared.Service.{Service}
 use Rattle.meaning.specs.declared.Limits.{Limits}
 use Rattle.meaning.specs.declared.Options.{Options}
-use Rattle.meaning.specs.declared.Modes.{Modes}
 use Rattle.meaning.proofs.SoundnessKept.{insert_length}
 use Rattle.meaning.proofs.ListLaws.{clash, and_both, both_true, and_false, or_right, or_neither}
 use Rattle.learning.specs.News.{no_news, also, change_news, kind_news, kinds_in, unlisted, lists_service, plt_news, list_new}
@@ -128,23 +126,6 @@ module _ (q : ℕ) (ps : List (ℕ × ℕ)) where
       go : (z : Bool) → (z && true) ≡ false → (z && (n.changed || (n.unlisted || lists_service s ps))) ≡ false
       go false h = refl
       go true h = clash (cc)
-
--- as the code asks
-pub plt_every : (v : Service) (q : ℕ) (n : News) (ps : List (ℕ × ℕ)) → v ≡ Service.Every → false ≡ cuts_plt v q n ps
-plt_every v q n ps e = rw e
-
-module _ (v : Service) (q : ℕ) (n : News) (ps : List (ℕ × ℕ)) (s : ℕ) (e : v ≡ Service.Only s) where
-  pub plt_elsewhere : (q ≡ 0 → ⊥) → false ≡ cuts_plt v q n ps
-  plt_elsewhere z = rw (e, ne_eqb q 0 z)
-
-  pub plt_changed : q ≡ 0 → n.changed ≡ true → true ≡ cuts_plt v q n ps
-  plt_changed z x = rw (e, z, x)
-
-  pub plt_unlisted : q ≡ 0 → n.changed ≡ false → n.unlisted ≡ true → true ≡ cuts_plt v q n ps
-  plt_unlisted z x y = rw (e, z, x, y)
-
-  pub plt_listed : q ≡ 0 → n.changed ≡ false → n.unlisted ≡ false → (r : Bool) → r ≡ lists_service s ps → r ≡ cuts_plt v q n ps
-  plt_listed z x y r l = rw (e, z, x, y) l
 
 -- no wish is against them
 pub record Wanted (o : Options) (q : ℕ) (n : News) (ps : List (ℕ × ℕ)) : Type 0 where
@@ -330,11 +311,3 @@ spares o L q k s n ps e f h =
     let tells : (v : ℕ) → o.service ≡ Service.Only v → q ≡ 0 → ps ≡ k.packages =
     λ v a z. f ∙ ap (λ (j : Known). j.packages) (still L q s k (sym (ap (λ (m : News). m.changed) e) ∙ (listed o q ps v n a z x).same)).known_is in
     spared o q ps L k tells s (rw e at x)
-
--- A packet whose payload stays, stays.
-pub packet_spared : (M : Modes) (o : Options) (p : Bytes) (m : Mmtp) → narrow_payload o m.identifier m.payload ≡ none → packet_for M o p (some m) ≡ none
-packet_spared M o p m h = rw h (go (is_signalling m && may_rewrite M p m))
-  where
-    go : (a : Bool) → cond {A = Option Bytes} a none none ≡ none
-    go true = refl
-    go false = refl

@@ -1,20 +1,17 @@
 -- Each step of a run: a row written at once, a gap, a packet withheld, a signalling packet. Rests on RunLaws.
-use Prim.Native.Nat.{ℕ, ◌+◌, ◌-◌, ◌≤◌, ◌<◌}
+use Prim.Native.Nat.{ℕ, ◌+◌, ◌-◌, ◌≤◌}
 use mathlib.Core.Path.{◌≡◌, refl, sym, ap, ◌∙◌, subst}
-use mathlib.Core.Bool.{Bool, true, false}
+use mathlib.Core.Bool.{Bool, true}
 use mathlib.Core.List.{List, [], ◌∷◌, ◌++◌, flatten}
 use native.Mathlib.Omega.{arith}
 use lib.ListN.{length, drop, length-drop}
 use lib.Seq.{drop-drop, length-take-le}
-use lib.Dec.{leb}
-use borrow.Author.Tests.{leb-true, leb-false}
 use Rattle.meaning.specs.Bytes.{Bytes}
 use Rattle.meaning.specs.Writing.{Wrote}
 use Rattle.meaning.specs.Sets.{Words}
-use Rattle.meaning.specs.Packets.{step_of, Cut, cut, accept}
+use Rattle.meaning.specs.Packets.{Cut, cut, accept}
 use Rattle.meaning.specs.Leading.{leading_over}
 use Rattle.meaning.specs.Push.{pass}
-use Rattle.meaning.specs.declared.Step.TheVariants.{Skip}
 use Rattle.meaning.proofs.Writes.{wrote_none}
 use Rattle.meaning.proofs.CutLaws.{cut_packet}
 use Rattle.tlv.specs.Gaps.{GapTo}
@@ -96,14 +93,6 @@ packet_cut limit run at end p =
     cut_packet limit (drop at run) (end - at) p.step
     ∙ ap (λ (l : Bytes). accept (packet_at run at end) (cut limit l)) (drop-drop (end - at) at run ∙ ap (λ (m : ℕ). drop m run) n)
     ∙ (λ i. record { packets = packet_at run at end ∷ c.packets; skipped = z i; held = c.held })
-
--- a gap begins where bytes are skipped, so it is not empty
-pub gap_forth : (P : ℕ) (run : Bytes) (at to : ℕ) → GapTo P run at to → step_of P (drop at run) ≡ Skip → at < to
-gap_forth P run at to g e = go (leb to at) refl
-  where
-    go : (b : Bool) → leb to at ≡ b → at < to
-    go true q = absurd (g.ends (ap (λ (n : ℕ). step_of P (drop n run)) (let z : to ≡ at = omega (arith, leb-true to at q, g.forth) in z) ∙ e))
-    go false q = leb-false to at q
 
 -- ---- packets that teach nothing
 

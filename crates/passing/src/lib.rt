@@ -21,8 +21,7 @@ use narrowing::narrow::rewrite;
 use observing::observe::observe;
 use octets::{IdSet, copy};
 use rules::{decide, ready};
-use tables::fields::End;
-use tlv::{Mmtp, gap_end, mmtp_of, next, packet_payload};
+use tlv::{gap_end, mmtp_of, next, packet_payload};
 
 // What stays the same over a call: the modes, the wishes, the packet limit, and the most bytes of one message.
 #[derive(Clone, Copy)]
@@ -59,24 +58,19 @@ pub enum Verdict {
 fn verdict_of(p: &[u8], set: &IdSet, is_ready: bool) -> Verdict
     ensures { VerdictIs p.now set.now.words is_ready result }
 {
-    let Mmtp::Read {
-        identifier,
-        payload_type,
-        rewritable,
-    } = mmtp_of(p)
-    else {
+    let Some(m) = mmtp_of(p) else {
         return Verdict::Pass;
     };
-    if payload_type == 2 {
+    if m.payload_type == 2 {
         return Verdict::Signalling(Signal {
-            id: identifier,
-            rewritable,
+            id: m.identifier,
+            rewritable: m.rewritable,
         });
     }
     if !is_ready {
         return Verdict::Withhold;
     }
-    if set.has(identifier) {
+    if set.has(m.identifier) {
         return Verdict::Withhold;
     }
     Verdict::Pass
@@ -171,7 +165,7 @@ fn narrowed(
     let o = t.options;
     let c = s.counts;
     if cuts(o, signal.id, s.extent, packages) {
-        if let End::At(last) = rewrite(
+        if let Some(last) = rewrite(
             p,
             payload,
             signal.id,
