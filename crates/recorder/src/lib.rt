@@ -49,6 +49,7 @@ pub struct Filter {
 }
 
 // What a start answers, and the record to begin with; refused, one that can be used for nothing.
+// Stays: `Refusing` of `demands` says of a refused start that its record is blank, so that one is handed back.
 #[derive(Clone, Copy)]
 pub struct Started {
     pub answer: Answer,
@@ -134,6 +135,7 @@ pub fn start(
 }
 
 // What a push answers, its counts, and the record to go on with.
+// Stays: 01 names this form, the record handed back beside the counts, and `Refusing` speaks of both where a push is refused.
 #[derive(Clone, Copy)]
 pub struct Pushed {
     pub answer: Answer,
@@ -142,6 +144,7 @@ pub struct Pushed {
 }
 
 // How many identifiers the rules drop, 0 where the record is refused, and the record, which is the one given.
+// Stays: as of a push; refused, the count is 0.
 #[derive(Clone, Copy)]
 pub struct Dropped {
     pub answer: Answer,
