@@ -93,7 +93,7 @@ fits_less n m f = record {
 pub rest_fits : {s r : Progress} {l l' : ℕ} (n n' m : ℕ) → FitsMore s n l r n' l' → Fits s (n + m) l → Fits r m l'
 rest_fits n n' m f h = fits_less n' m (f m h)
 
-pub sofar_skipped : {L : Limits} {M : Modes} {o : Options} {k : Known} {leading : ℕ} {d : Bytes} {ps : List Bytes} {n m : ℕ} {s : Progress} {kept map_room : List ℕ} {bodies : Bytes} {set : Words} {out : Bytes}
+pub sofar_skipped : {L : Limits} {M : Modes} {o : Options} {k : Known} {leading : ℕ} {d : Bytes} {ps : List Bytes} {n m : ℕ} {s : Progress} {kept : Kept} {map_room : List ℕ} {bodies : Bytes} {set : Words} {out : Bytes}
     → n ≡ m → Sofar L M o k leading d ps n s kept map_room bodies set out → Sofar L M o k leading d ps m s kept map_room bodies set out
 sofar_skipped {L} {M} {o} {k} {leading} {d} {ps} {n} {m} {s} {kept} {map_room} {bodies} {set} {out} e f =
     subst (λ (i : ℕ). Sofar L M o k leading d ps i s kept map_room bodies set out) e f
@@ -194,7 +194,7 @@ pub not_all_leads : (L : Limits) (o : Options) (st : State) (chunk : Bytes) (lea
 unfolding leading_pushed
 not_all_leads L o st chunk leading e = rw e
 
-module _ {L : Limits} {x y : Outcome} {m n : ℕ} {out : Bytes} {r : CarriedOut} {kept map_room : List ℕ} {bodies work out' : Bytes} where
+module _ {L : Limits} {x y : Outcome} {m n : ℕ} {out : Bytes} {r : CarriedOut} {kept : Kept} {map_room : List ℕ} {bodies work out' : Bytes} where
   pub ran_as : x ≡ y → m ≡ n → CarriedOutAs L x m out r kept map_room bodies work out'
       → CarriedOutAs L y n out r kept map_room bodies work out'
   ran_as e l h = subst (λ (z : Outcome). CarriedOutAs L z n out r kept map_room bodies work out') e

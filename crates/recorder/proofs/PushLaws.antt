@@ -20,6 +20,7 @@ use Rattle.meaning.specs.Calls.{counts_of}
 use Rattle.meaning.specs.Leading.{leading_pushed}
 use Rattle.meaning.specs.Push.{Outcome, push, push_refusal, length_refusal, called}
 use Rattle.meaning.specs.Dropped.{dropped_now}
+use Rattle.meaning.proofs.AnswerLaws.{refused_told}
 use Rattle.meaning.specs.declared.Limits.{Limits}
 use Rattle.meaning.specs.declared.Refusal.TheVariants.{Unsound}
 use Rattle.meaning.proofs.Writes.{wrote_none}
@@ -56,13 +57,13 @@ accepted r W T M n x e = go (sound r W T M) refl (leb n (W - packet_limit W)) re
 
 pub told_refused : (a : Answer) → is_err a ≡ true → eqb (answer_number a) 0 ≡ false
 unfolding answer_number
-told_refused (Ok x) e = clash (cc e)
+told_refused (Ok x) e = sym e
 told_refused (Err r) e = refused_told r
 
 pub told_done : (a : Answer) → is_err a ≡ false → eqb (answer_number a) 0 ≡ true
 unfolding answer_number
 told_done (Ok x) e = refl
-told_done (Err r) e = clash (cc e)
+told_done (Err r) e = absurd (clash (sym e))
 
 -- ---- a push on a record
 

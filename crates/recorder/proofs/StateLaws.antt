@@ -174,7 +174,7 @@ record_with L M o held_count e kept = record {
   fragment_heads = kept.fragment_heads;
 }
 
-module _ (L : Limits) (M : Modes) (o : Options) (leading : ℕ) (st : State) {e : Extent} {kept map_room : List ℕ} {bodies : Bytes}
+module _ (L : Limits) (M : Modes) (o : Options) (leading : ℕ) (st : State) {e : Extent} {kept : Kept} {map_room : List ℕ} {bodies : Bytes}
     (k : Holding L.total st.known e kept map_room bodies) where
   pub record_back : (n : ℕ) → n ≡ length st.held → e.leading ≡ leading → record_with L M o n e kept ≡ record_of L M o leading st
   unfolding record_of
