@@ -11,7 +11,7 @@ ghost use Rattle.meaning.proofs.ChecksumLaws.{words, folded};
 ghost use Rattle.ip.specs.Words.{udp_by, udp_or_none};
 ghost use Rattle.ip.specs.Room.{Room4, Room6, Room};
 
-use octets::{be16, put16, wide};
+use octets::{be16, put16};
 
 // ---- the sum
 
@@ -23,14 +23,12 @@ fn words(s: &[u8]) -> usize
 {
     let mut upper: usize = 0;
     let mut lower: usize = 0;
-    let mut i: usize = 0;
-    while i + 1 < s.len() {
-        upper += wide(s[i]);
-        lower += wide(s[i + 1]);
-        i += 2;
+    for i in 0..s.len() / 2 {
+        upper += usize::from(s[i * 2]);
+        lower += usize::from(s[i * 2 + 1]);
     }
-    if i < s.len() {
-        return (upper + wide(s[i])) * 256 + lower;
+    if s.len() % 2 == 1 {
+        return (upper + usize::from(s[s.len() - 1])) * 256 + lower;
     }
     upper * 256 + lower
 }
@@ -140,7 +138,7 @@ fn header_length(s: &[u8]) -> usize
     requires { 0 < length s.now }
     ensures { (result ≡ header_length s.now) × (result ≤ 60) }
 {
-    (s[0] % 16) as usize * 4
+    usize::from(s[0] % 16) * 4
 }
 
 // In IPv4 the UDP checksum is optional.

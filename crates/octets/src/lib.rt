@@ -3,7 +3,7 @@
 #![tactic(auto)]
 
 ghost use Rattle.std.specs.Prelude.{◌≡◌, ◌+◌, ◌-◌, ◌%◌, ◌≤◌, ◌<◌, ◌^◌, [], ◌∷◌, length, take, drop, get_or};
-ghost use Rattle.meaning.specs.Bytes.{be16, be16_at, be32_at, put16, put32};
+ghost use Rattle.meaning.specs.Bytes.{be16_at, be32_at, put16, put32};
 ghost use Rattle.meaning.specs.Writing.{Wrote};
 
 mod sets;
@@ -14,14 +14,7 @@ pub use sets::IdSet;
 pub fn wide(b: u8) -> usize
     ensures { (result ≡ b) × (result < 256) }
 {
-    b as usize
-}
-
-// The number of two bytes, the upper first.
-pub fn pair(high: u8, low: u8) -> u16
-    ensures { result ≡ be16 high low }
-{
-    (high as u16) * 256 + (low as u16)
+    usize::from(b)
 }
 
 // The 16-bit number at `at`, as an identifier.
@@ -29,7 +22,7 @@ pub fn id16(s: &[u8], at: usize) -> u16
     requires { at + 2 ≤ length s.now }
     ensures { result ≡ be16_at s.now at }
 {
-    pair(s[at], s[at + 1])
+    u16::from_be_bytes([s[at], s[at + 1]])
 }
 
 // The 16-bit number at `at`, as a size.
@@ -37,7 +30,7 @@ pub fn be16(s: &[u8], at: usize) -> usize
     requires { at + 2 ≤ length s.now }
     ensures { (result ≡ be16_at s.now at) × (result < 65536) }
 {
-    id16(s, at) as usize
+    usize::from(id16(s, at))
 }
 
 // The 32-bit number at `at`, as a size.
@@ -80,50 +73,9 @@ pub fn copy(src: &[u8], out: &mut [u8], to: usize) -> usize
     requires { to + length src.now ≤ length out.old }
     ensures { Wrote src.now out.old to out.new result }
 {
-    let mut i: usize = 0;
-    while i < src.len() {
-        out[to + i] = src[i];
-        i += 1;
-    }
-    to + i
-}
-
-// The 64 bytes of `lent` from `from` on.
-fn lifted(lent: &[u8], from: usize) -> [u8; 64]
-    requires { from + 64 ≤ length lent.now }
-    ensures { result ≡ take 64 (drop from lent.now) }
-{
-    let mut block = [0u8; 64];
-    copy(&lent[from..from + 64], &mut block, 0);
-    block
-}
-
-// Moves whole blocks of 64 of the `n` bytes. Each block is read before it is written, so that it goes by vectors where the stretches
-// overlap. Answers how many bytes were moved.
-fn blocks_down(lent: &mut [u8], from: usize, n: usize, to: usize) -> usize
-    requires { (to ≤ from) × (from + n ≤ length lent.old) }
-    ensures { (result ≡ n - n % 64) × Wrote (take result (drop from lent.old)) lent.old to lent.new (to + result) }
-{
-    let mut i: usize = 0;
-    while 64 <= n - i {
-        let block = lifted(lent, from + i);
-        copy(&block, lent, to + i);
-        i += 64;
-    }
-    i
-}
-
-// Moves `n` bytes, one by one.
-fn bytes_down(lent: &mut [u8], from: usize, n: usize, to: usize) -> usize
-    requires { (to ≤ from) × (from + n ≤ length lent.old) }
-    ensures { Wrote (take n (drop from lent.old)) lent.old to lent.new result }
-{
-    let mut i: usize = 0;
-    while i < n {
-        lent[to + i] = lent[from + i];
-        i += 1;
-    }
-    to + i
+    let end = to + src.len();
+    out[to..end].copy_from_slice(src);
+    end
 }
 
 // Moves `n` bytes of `lent` from `from` down to `to`; the two stretches may overlap. Answers the offset past them.
@@ -131,11 +83,12 @@ pub fn move_down(lent: &mut [u8], from: usize, n: usize, to: usize) -> usize
     requires { (to ≤ from) × (from + n ≤ length lent.old) }
     ensures { Wrote (take n (drop from lent.old)) lent.old to lent.new result }
 {
+    // The library would write each byte onto itself, one by one.
     if from == to {
         return to + n;
     }
-    let k = blocks_down(lent, from, n, to);
-    bytes_down(lent, from + k, n - k, to + k)
+    lent.copy_within(from..from + n, to);
+    to + n
 }
 
 // Moves `n` bytes of `lent` from `from` up to `to`; the two stretches may overlap. Answers the offset past them.
@@ -143,10 +96,7 @@ pub fn move_up(lent: &mut [u8], from: usize, n: usize, to: usize) -> usize
     requires { (from ≤ to) × (to + n ≤ length lent.old) }
     ensures { Wrote (take n (drop from lent.old)) lent.old to lent.new result }
 {
-    let mut left: usize = n;
-    while 0 < left {
-        left -= 1;
-        lent[to + left] = lent[from + left];
-    }
+    let end = from + n;
+    lent.copy_within(from..end, to);
     to + n
 }

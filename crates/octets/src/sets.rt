@@ -71,10 +71,8 @@ impl IdSet {
         ensures { result ≡ how_many (in_set self.now.words) 65536 }
     {
         let mut n: u32 = 0;
-        let mut i: usize = 0;
-        while i < 1024 {
+        for i in 0..1024 {
             n += word_ones(self.words[i]);
-            i += 1;
         }
         n
     }
