@@ -9,7 +9,7 @@ use Rattle.std.specs.List.{copy_within}
 use lib.Seq.{take_at, drop_at, take_all, take-append-add, drop-append-add, drop-append-le, drop-drop, length-take-le}
 use Rattle.meaning.specs.Bytes.{Bytes}
 use Rattle.meaning.specs.Writing.{Wrote}
-use Rattle.fragments.specs.Fragments.{Packed}
+use Rattle.fragments.specs.Room.{Packed}
 use Rattle.meaning.proofs.Writes.{wrote_is, is_wrote, wrote_byte, wrote_then}
 
 -- ---- a block and the free bytes

@@ -10,7 +10,7 @@ use native.Mathlib.Nat.{add-zero}
 use native.Mathlib.Numerals.{add-one}
 use native.Mathlib.Omega.{arith}
 use lib.ListN.{length, take, drop, get_or, length-append, length-take, drop_of_length-le}
-use lib.Seq.{take_at, drop_at, take_all, take-suc, take-add, take-take, drop-cons}
+use lib.Seq.{length-take-le, take_at, drop_at, take_all, take-suc, take-add, take-take, drop-cons}
 use lib.Dec.{eqb, ltb}
 use borrow.Author.Tests.{eqb-true, eq-eqb, not-true, ltb-true, ltb-false, lt-ltb, le-ltb}
 use Rattle.meaning.specs.Bytes.{Bytes}
@@ -24,7 +24,7 @@ use Rattle.meaning.proofs.SoundnessKept.{eqb_swap}
 use Rattle.meaning.proofs.LayoutLaws.{lens_append}
 use Rattle.meaning.proofs.SoundnessLaws.{TellAll}
 use Rattle.fragments.specs.Fragments.{index_in, others_of, length_at}
-use Rattle.std.specs.Prelude.{nat_lt, unwrap_or, IfSome, Some, None}
+use Rattle.std.specs.Prelude.{nat_lt, unwrap_or, IfSome, Some, None, ◌==◌}
 use Rattle.std.specs.List.{sum_by, position, position_or_len}
 use Rattle.std.proofs.lemmas.List.Sums.{prefix_len-le-length}
 use Rattle.std.proofs.lemmas.Bool.Decides.{nat_tests}
@@ -91,16 +91,22 @@ index_in_is p hs =
     (λ x xs. ap (cond (eqb (fragment_identifier x) p) 0) (let z : suc (index_in p xs) ≡ 1 + index_in p xs = omega arith in z)) hs
 
 -- what looking for it answers
-pub found_at : (p : ℕ) (hs : List ℕ) (o : Option ℕ) → o ≡ position (λ (h : ℕ). eqb (fragment_identifier h) p) hs
-    → (unwrap_or o (length hs) ≡ index_in p hs) × IfSome o (λ i. i < length hs)
-found_at p hs o e = rw e (go (nat_lt k (length hs)) refl)
+pub found_at : (p : ℕ) (fragment_heads : List ℕ) (n : ℕ) → n ≤ length fragment_heads → (o : Option ℕ)
+    → o ≡ position (λ (h : ℕ). fragment_identifier h == p) (take n fragment_heads) → (unwrap_or o n ≡ index_in p (take n fragment_heads)) × IfSome o (λ i. i < n)
+found_at p fragment_heads n le o e = rw e (go (nat_lt k (length hs)) refl)
   where
-    k : ℕ
-    k = position_or_len (λ (h : ℕ). eqb (fragment_identifier h) p) hs
+    hs : List ℕ
+    hs = take n fragment_heads
 
-    go : (a : Bool) → nat_lt k (length hs) ≡ a → (unwrap_or (cond a (Some k) None) (length hs) ≡ index_in p hs) × IfSome (cond a (Some k) None) (λ i. i < length hs)
-    go true q = (sym (index_in_is p hs), grind (arith, nat_tests, q))
-    go false q = (grind (arith, nat_tests, q, index_in_is, prefix_len-le-length), tt)
+    k : ℕ
+    k = position_or_len (λ (h : ℕ). fragment_identifier h == p) hs
+
+    l : length hs ≡ n
+    l = length-take-le n fragment_heads le
+
+    go : (a : Bool) → nat_lt k (length hs) ≡ a → (unwrap_or (cond a (Some k) None) n ≡ index_in p hs) × IfSome (cond a (Some k) None) (λ i. i < n)
+    go true q = (sym (index_in_is p hs), grind (arith, nat_tests, q, l))
+    go false q = (grind (arith, nat_tests, q, l, index_in_is, prefix_len-le-length), tt)
 
 pub index_fragment_heads : (p : ℕ) (fs : List Fragment) → TellAll fs → index_in p (map fragment_head fs) ≡ index_of p fs
 unfolding index_in index_of is_of

@@ -19,10 +19,11 @@ use Rattle.meaning.specs.declared.Limits.{Limits}
 use Rattle.meaning.proofs.ListLaws.{and_both}
 use Rattle.meaning.proofs.MoveLaws.{once_none}
 use Rattle.meaning.proofs.SoundnessKept.{first_holds, middle_holds}
-use Rattle.fragments.specs.Fragments.{index_in, others_of, TakesOut, FreeMoved, Packed, KeptFragments, Numbers, HeldAfter, Nearest, Stands, DropsAt, Drops, GivesBack, held_behind, PutsBehind, HoldsFirst, Lengthens, GrewAt, GrowsWithin, GrowsAtIndex, LearnsMiddle}
+use Rattle.fragments.specs.Room.{FreeMoved, Packed}
+use Rattle.fragments.specs.Fragments.{index_in, others_of, length_at, TakesOut, KeptFragments, Numbers, HeldAfter, Nearest, Stands, DropsAt, Drops, GivesBack, held_behind, PutsBehind, HoldsFirst, Lengthens, GrewAt, GrowsWithin, GrowsAtIndex, LearnsMiddle}
 use Rattle.fragments.specs.declared.Held.{Held}
 use Rattle.fragments.specs.declared.Grown.{Grown}
-use Rattle.fragments.specs.declared.Place.{Place}
+use Rattle.fragments.specs.declared.place.Place.{Place}
 use Rattle.fragments.proofs.FragmentLaws.{lens_turn, lens_less, missing, own_turn, own_ends, others_count, index_grown, grown_length, without_grown, not_found, leading_gone, leading_none, leading_grown, leading_behind}
 use Rattle.fragments.proofs.RoomLaws.{slots_all, numbers, sum_is, index_is, nearest_kept, free_moved, There, there, left_last, left_next, grown_in, others_bytes, put_kept, held_so, full_so, short_so}
 use Rattle.fragments.proofs.OnceLaws.{once_moved, once_grown, once_put}
@@ -41,25 +42,20 @@ free_numbers fragment_heads n leading to old new all total low high within eo en
 
 -- ---- places
 
-module _ (n : ℕ) (fragment_heads : List ℕ) (place : Place) (s : Stands n fragment_heads place) where
-  -- Its numbers are ordered as the fragments are.
-  pub stands_so : (place.start + place.own ≤ place.all) × (place.leading.bytes ≤ place.all) × (place.index < place.leading.count → place.start + place.own ≤ place.leading.bytes)
-      × (place.leading.count ≤ place.index → place.leading.bytes ≤ place.start)
-  stands_so =
-      let es = s.start_is in
-      let ew = s.own_is in
-      let eo = s.free_is in
-      let ea = s.all_is in (
-        omega (arith, own_ends fragment_heads place.index n s.index_low),
-        omega (arith, lens_less fragment_heads place.leading.count n s.leading_low),
-        λ h. let low : place.leading.count ≤ n = s.leading_low in
-            omega (arith, own_turn fragment_heads place.index n (omega arith), lens_less fragment_heads (place.index + 1) place.leading.count (omega arith)),
-        λ h. omega (arith, lens_less fragment_heads place.leading.count place.index h),
-      )
+-- The numbers of a place are ordered as the fragments are.
+pub place_numbers : (fragment_heads : List ℕ) (n index leading start own free all : ℕ) → index ≤ n → leading ≤ n → start ≡ lens (take index fragment_heads)
+    → own ≡ length_at index n fragment_heads → free ≡ lens (take leading fragment_heads) → all ≡ lens (take n fragment_heads)
+    → (start + own ≤ all) × (free ≤ all) × (index < leading → start + own ≤ free) × (leading ≤ index → free ≤ start)
+place_numbers fragment_heads n index leading start own free all low few es ew eo ea = (
+  omega (arith, own_ends fragment_heads index n low),
+  omega (arith, lens_less fragment_heads leading n few),
+  λ h. omega (arith, own_turn fragment_heads index n (omega arith), lens_less fragment_heads (index + 1) leading (omega arith)),
+  λ h. omega (arith, lens_less fragment_heads leading index h),
+)
 
-  -- Where it ends, if it is there.
-  pub ends_so : place.index < n → place.start + place.own ≡ lens (take (place.index + 1) fragment_heads)
-  ends_so h = ap₂ (λ (x y : ℕ). x + y) s.start_is s.own_is ∙ own_turn fragment_heads place.index n (omega arith)
+-- Where it ends, if it is there.
+pub ends_so : (n : ℕ) (fragment_heads : List ℕ) (place : Place) → Stands n fragment_heads place → place.index < n → place.start + place.own ≡ lens (take (place.index + 1) fragment_heads)
+ends_so n fragment_heads place s h = ap₂ (λ (x y : ℕ). x + y) s.start_is s.own_is ∙ own_turn fragment_heads place.index n (omega arith)
 
 -- ---- given up, and dropped
 
@@ -76,9 +72,9 @@ module _ (index n leading : ℕ) (fragment_heads bodies : List ℕ) where
       → DropsAt index n leading fragment_heads bodies (record { count = n - 1; leading = index }) fragment_heads' bodies'
   dropped_at near to old new all fragment_heads' bodies' lt m ns led not_led eo en ea u w = record {
     left = λ T p fs at k.
-        let k' = nearest_kept T fs n leading fragment_heads bodies k near m in
+        let k' = nearest_kept k near m in
         record {
-          kept = go (ltb index near) refl T p fs at (free_moved T fs n near fragment_heads bodies k' to old new all bodies' m.low high eo en ea u);
+          kept = go (ltb index near) refl T p fs at (free_moved k' to old new all bodies' m.low high eo en ea u);
           leading_is = at ∙ sym (leading_gone p fs leading (omega (arith, k.heads.count)));
         };
     once = let f = free_numbers fragment_heads n near to old new all (length bodies) m.low high ns.within eo en ea in once_moved near to old new all bodies bodies' f.0 f.1 f.2 f.3 f.4 u;
@@ -104,11 +100,11 @@ module _ (index n leading : ℕ) (fragment_heads bodies : List ℕ) where
     once = λ b. once_none bodies b;
   }
 
-module _ (p n leading : ℕ) (fragment_heads bodies : List ℕ) where
-  pub dropped : (i : ℕ) (r : Held) (fragment_heads' bodies' : List ℕ) → i ≡ index_in p (take n fragment_heads) → DropsAt i n leading fragment_heads bodies r fragment_heads' bodies'
+module _ {p n leading : ℕ} {fragment_heads bodies : List ℕ} where
+  pub dropped : {i : ℕ} {r : Held} {fragment_heads' bodies' : List ℕ} → i ≡ index_in p (take n fragment_heads) → DropsAt i n leading fragment_heads bodies r fragment_heads' bodies'
       → Drops p n leading fragment_heads bodies r fragment_heads' bodies'
-  dropped i r fragment_heads' bodies' e g = record {
-    left = λ T fs k. g.left T p fs (e ∙ index_is T fs n leading fragment_heads bodies k p) k;
+  dropped e g = record {
+    left = λ T fs k. g.left T p fs (e ∙ index_is k p) k;
     once = g.once;
   }
 
@@ -134,14 +130,6 @@ module _ (index n : ℕ) where
 pub others_small : (index n count : ℕ) → index ≤ n → index < 256 → n ≤ 256 → count ≡ others_of index n → count < 256
 others_small index n count le few l e = omega (arith, e, others_low index n le few l)
 
--- the numbers by which the others are packed
-pub pack_numbers : (n : ℕ) (fragment_heads bodies : List ℕ) (place : Place) → Stands n fragment_heads place → Numbers n fragment_heads bodies
-    → (place.start + place.own ≤ place.all) × (place.leading.bytes ≤ place.all) × (place.all ≤ length bodies) × (place.index < place.leading.count → place.start + place.own ≤ place.leading.bytes)
-    × (place.leading.count ≤ place.index → place.leading.bytes ≤ place.start)
-pack_numbers n fragment_heads bodies place s ns =
-    let o = stands_so n fragment_heads place s in
-    (o.0, o.1, omega (arith, s.all_is, ns.within), o.2, o.3)
-
 pub put : (place : Place) (p flags : ℕ) (b : Bytes) (n : ℕ) (fragment_heads bodies : List ℕ) → place.index < 256 → Stands n fragment_heads place → Numbers n fragment_heads bodies
     → place.all - place.own + length b ≤ length bodies → (mid : Bytes) (count q head : ℕ) (fragment_heads₁ bodies' : List ℕ) → count ≡ others_of place.index n → length bodies' ≡ length mid
     → Packed place.index place.leading.count place.start (place.start + place.own) place.leading.bytes place.all bodies mid → Wrote b mid (place.all - place.own) bodies' q
@@ -162,8 +150,8 @@ put place p flags b n fragment_heads bodies few s ns fit mid count q head fragme
         e,
       );
   leading_is = ap (λ (z : ℕ). z + 1) ec;
-  once = let o = pack_numbers n fragment_heads bodies place s ns in
-      once_put place.index place.leading.count place.start (place.start + place.own) place.leading.bytes place.all bodies mid b bodies' q (omega arith) o.0 o.1 o.2 o.3 o.4 (omega arith) m
+  once = once_put place.index place.leading.count place.start (place.start + place.own) place.leading.bytes place.all bodies mid b bodies' q (omega arith) place.own_within place.leading_within
+      (omega (arith, s.all_is, ns.within)) place.led place.behind (omega arith) m
       (subst (λ (z : ℕ). Wrote b mid z bodies' q) (let z : place.all - place.own ≡ place.all - (place.start + place.own - place.start) = omega arith in z) w);
 }
 
@@ -173,13 +161,13 @@ first_room index b rest bodies e =
     (ltb-true index 256 h.0, leb-true (rest + length b) (length bodies) h.1)
 
 -- by the place of what it takes the place of
-module _ (p flags : ℕ) (b : Bytes) (n leading : ℕ) (fragment_heads bodies : List ℕ) (place : Place) (e : place.index ≡ index_in p (take n fragment_heads)) (s : Stands n fragment_heads place) where
-  pub first_held : (r : Held) (fragment_heads' bodies' : List ℕ) → Nearest n leading place.leading.count → PutsBehind place.index p flags b n place.leading.count fragment_heads bodies r fragment_heads' bodies'
+module _ {p flags : ℕ} {b : Bytes} {n leading : ℕ} {fragment_heads bodies : List ℕ} {place : Place} (e : place.index ≡ index_in p (take n fragment_heads)) (s : Stands n fragment_heads place) where
+  pub first_held : {r : Held} {fragment_heads' bodies' : List ℕ} → Nearest n leading place.leading.count → PutsBehind place.index p flags b n place.leading.count fragment_heads bodies r fragment_heads' bodies'
       → HoldsFirst p flags b n leading fragment_heads bodies r fragment_heads' bodies'
-  first_held r fragment_heads' bodies' m g = record {
+  first_held {r} {fragment_heads'} {bodies'} m g = record {
     held = λ L fs k.
-        let at : place.index ≡ index_of p fs = e ∙ index_is L.total fs n leading fragment_heads bodies k p in
-        let h = g.held L fs at (nearest_kept L.total fs n leading fragment_heads bodies k place.leading.count m) in
+        let at : place.index ≡ index_of p fs = e ∙ index_is k p in
+        let h = g.held L fs at (nearest_kept k place.leading.count m) in
         record {
           kept = h.0;
           leading_is = g.leading_is ∙ ap (λ (z : ℕ). z + 1) (others_count place.index n p fs k.heads.count at k.hold.once)
@@ -188,11 +176,11 @@ module _ (p flags : ℕ) (b : Bytes) (n leading : ℕ) (fragment_heads bodies : 
     once = g.once;
   }
 
-  pub first_not_held : (r : Held) (fragment_heads' bodies' : List ℕ) → n ≤ 256 → (ltb place.index 256 && leb (place.all - place.own + length b) (length bodies)) ≡ false
-      → (i : ℕ) → place.index ≡ i → DropsAt i n leading fragment_heads bodies r fragment_heads' bodies' → HoldsFirst p flags b n leading fragment_heads bodies r fragment_heads' bodies'
-  first_not_held r fragment_heads' bodies' few wrong i ei g = record {
+  pub first_not_held : {r : Held} {fragment_heads' bodies' : List ℕ} → n ≤ 256 → (ltb place.index 256 && leb (place.all - place.own + length b) (length bodies)) ≡ false
+      → {i : ℕ} → place.index ≡ i → DropsAt i n leading fragment_heads bodies r fragment_heads' bodies' → HoldsFirst p flags b n leading fragment_heads bodies r fragment_heads' bodies'
+  first_not_held {r} {fragment_heads'} {bodies'} few wrong ei g = record {
     held = λ L fs k.
-        let at : place.index ≡ index_of p fs = e ∙ index_is L.total fs n leading fragment_heads bodies k p in
+        let at : place.index ≡ index_of p fs = e ∙ index_is k p in
         subst (λ (l : List Fragment). HeldAfter L.total p fs l leading r fragment_heads' bodies') (sym (gone (ltb place.index 256) refl L fs at k)) (g.left L.total p fs (sym ei ∙ at) k);
     once = g.once b;
   }
@@ -217,7 +205,7 @@ pub lengthened : (place : Place) (b : Bytes) (n : ℕ) (fragment_heads bodies : 
     → Lengthens place.index b n place.leading.count fragment_heads bodies fragment_heads' bodies'
 lengthened place b n fragment_heads bodies mid fragment_heads' bodies' q lt s ns fit m same w eh = record {
   grows = λ T p fs at k hold.
-      let k' = free_moved T fs n place.leading.count fragment_heads bodies k (place.index + 1) place.leading.bytes (place.start + place.own) place.all mid s.leading_low (omega arith) s.free_is ee s.all_is m in
+      let k' = free_moved k (place.index + 1) place.leading.bytes (place.start + place.own) place.all mid s.leading_low (omega arith) s.free_is ee s.all_is m in
       grown_in T p fs place.index n (place.index + 1) fragment_heads mid at lt k' b fragment_heads' bodies' q refl (omega (arith, s.all_is, m.same)) same
       (subst (λ (z : ℕ). Wrote b mid z bodies' q) ee w) eh hold;
   once = let f = free_numbers fragment_heads n place.leading.count (place.index + 1) place.leading.bytes (place.start + place.own) place.all (length bodies) s.leading_low (omega arith) ns.within s.free_is ee s.all_is in
@@ -237,9 +225,9 @@ module _ (most : ℕ) (b : Bytes) (n leading : ℕ) (fragment_heads bodies : Lis
 
   own_length : (T p : ℕ) (fs : List Fragment) → place.index ≡ index_of p fs → KeptFragments T fs n leading fragment_heads bodies → (t : There p fs place.index fragment_heads) → place.own ≡ length t.fragment.body
   own_length T p fs at k t =
-      let ns = numbers T fs n leading fragment_heads bodies k in
+      let ns = numbers k in
       let len : fragment_length (get_or fragment_heads place.index 0) ≡ length t.fragment.body = ap fragment_length t.head_is ∙ t.tells.length_is in
-      let turn = lens_turn fragment_heads place.index (omega (arith, ns.few, slots_all T fs n leading fragment_heads bodies k)) in
+      let turn = lens_turn fragment_heads place.index (omega (arith, ns.few, slots_all k)) in
       omega (arith, s.own_is, own_turn fragment_heads place.index n (omega arith))
 
   fits_is : (L : Limits) (p : ℕ) (fs : List Fragment) → place.index ≡ index_of p fs → L.most ≡ most → KeptFragments L.total fs n leading fragment_heads bodies → (t : There p fs place.index fragment_heads)
@@ -247,7 +235,7 @@ module _ (most : ℕ) (b : Bytes) (n leading : ℕ) (fragment_heads bodies : Lis
   unfolding fits
   fits_is L p fs at em k t =
       ap₂ (λ (x y : Bool). x && y) (ap₂ (λ (x y : ℕ). leb (x + length b) y) (sym (own_length L.total p fs at k t)) em)
-      (ap₂ (λ (x y : ℕ). leb (x + length b) y) (sym (s.all_is ∙ sum_is L.total fs n leading fragment_heads bodies k)) (sym k.total))
+      (ap₂ (λ (x y : ℕ). leb (x + length b) y) (sym (s.all_is ∙ sum_is k)) (sym k.total))
 
   pub grew : (end flags : ℕ) (fragment_heads' bodies' : List ℕ) → Nearest n leading place.leading.count
       → end ≡ place.start + place.own + length b → flags ≡ fragment_flags (get_or fragment_heads place.index 0) → test ≡ true
@@ -260,10 +248,10 @@ module _ (most : ℕ) (b : Bytes) (n leading : ℕ) (fragment_heads bodies : Lis
         let fit : fits L f b fs ≡ true = fits_is L p fs at em k t ∙ ok in
         let hold : HoldsFragments L.total (grow_in p b fs) =
         subst (λ (a : Bool). HoldsFragments L.total (cond a (grow_in p b fs) (without p fs))) fit (middle_holds L p b fs (some f) k.hold) in
-        let g = u.grows L.total p fs at (nearest_kept L.total fs n leading fragment_heads bodies k place.leading.count m) hold in
+        let g = u.grows L.total p fs at (nearest_kept k place.leading.count m) hold in
         let one : g.fragment ≡ f = some-injective _ _ (sym g.found ∙ t.found) in
         let len : place.own ≡ length f.body = own_length L.total p fs at k t in
-        let less : place.start + place.own ≤ place.all = (stands_so n fragment_heads place s).0 in
+        let less : place.start + place.own ≤ place.all = place.own_within in
         let room_fits : place.all + length b ≤ length bodies = fits_room ok in
         let size : end - place.start ≡ length f.body + length b = omega arith in
         record {
@@ -296,51 +284,51 @@ module _ (most : ℕ) (b : Bytes) (n leading : ℕ) (fragment_heads bodies : Lis
     once = u.once b;
   }
 
-module _ (p most : ℕ) (b : Bytes) (n leading : ℕ) (fragment_heads bodies : List ℕ) where
-  pub grows_there : (i : ℕ) (r : Grown) (fragment_heads' bodies' : List ℕ) → i ≡ index_in p (take n fragment_heads) → GrowsAtIndex i most b n leading fragment_heads bodies r fragment_heads' bodies'
+middle_is : (p : ℕ) (b : Bytes) (L : Limits) (fs : List Fragment) (f : Fragment) (a : Bool) → fragment_of p fs ≡ some f → fits L f b fs ≡ a → middle L p b fs ≡ cond a (grow_in p b fs) (without p fs)
+unfolding middle
+middle_is p b L fs f a found fitting = ap (λ (o : Option Fragment). middle_of o L p b fs) found ∙ ap (λ (x : Bool). cond x (grow_in p b fs) (without p fs)) fitting
+
+module _ {p most : ℕ} {b : Bytes} {n leading : ℕ} {fragment_heads bodies : List ℕ} where
+  pub grows_there : {i : ℕ} {r : Grown} {fragment_heads' bodies' : List ℕ} → i ≡ index_in p (take n fragment_heads) → GrowsAtIndex i most b n leading fragment_heads bodies r fragment_heads' bodies'
       → GrowsWithin p most b n leading fragment_heads bodies r fragment_heads' bodies'
-  grows_there i r fragment_heads' bodies' e g = record {
-    is = λ L fs em k. g.is L p fs (e ∙ index_is L.total fs n leading fragment_heads bodies k p) em k;
+  grows_there e g = record {
+    is = λ L fs em k. g.is L p fs (e ∙ index_is k p) em k;
     once = g.once;
   }
 
-  pub absent : (i : ℕ) → i ≡ index_in p (take n fragment_heads) → n ≤ i → GrowsWithin p most b n leading fragment_heads bodies Grown.Absent fragment_heads bodies
-  absent i e h = record {
-    is = λ L fs em k. ((missing p fs (omega (arith, e, index_is L.total fs n leading fragment_heads bodies k p, k.heads.count))).1, refl, refl);
+  pub absent : {i : ℕ} → i ≡ index_in p (take n fragment_heads) → n ≤ i → GrowsWithin p most b n leading fragment_heads bodies Grown.Absent fragment_heads bodies
+  absent e h = record {
+    is = λ L fs em k. ((missing p fs (omega (arith, e, index_is k p, k.heads.count))).1, refl, refl);
     once = once_none bodies b;
   }
 
-  -- ---- a middle
+  -- a middle
 
-  middle_is : (L : Limits) (fs : List Fragment) (f : Fragment) (a : Bool) → fragment_of p fs ≡ some f → fits L f b fs ≡ a → middle L p b fs ≡ cond a (grow_in p b fs) (without p fs)
-  unfolding middle
-  middle_is L fs f a found fitting = ap (λ (o : Option Fragment). middle_of o L p b fs) found ∙ ap (λ (x : Bool). cond x (grow_in p b fs) (without p fs)) fitting
-
-  pub middle_joined : (start end flags : ℕ) (h : Held) (fragment_heads' bodies' : List ℕ) → GrowsWithin p most b n leading fragment_heads bodies (Grown.At start end flags h) fragment_heads' bodies'
+  pub middle_joined : {start end flags : ℕ} {h : Held} {fragment_heads' bodies' : List ℕ} → GrowsWithin p most b n leading fragment_heads bodies (Grown.At start end flags h) fragment_heads' bodies'
       → LearnsMiddle p most b n leading fragment_heads bodies h fragment_heads' bodies'
-  middle_joined start end flags h fragment_heads' bodies' u = record {
+  middle_joined {h = h} {fragment_heads'} {bodies'} u = record {
     learned = λ L fs em k.
         let g = u.is L fs em k in
-        let e : grow_in p b fs ≡ middle L p b fs = sym (middle_is L fs g.fragment true g.found g.fitting) in
+        let e : grow_in p b fs ≡ middle L p b fs = sym (middle_is p b L fs g.fragment true g.found g.fitting) in
         let i : index_of p fs < length fs = omega (arith, g.leading_is, g.leading_low, g.kept.heads.count, grown_length p b fs) in
         subst (λ (l : List Fragment). HeldAfter L.total p fs l leading h fragment_heads' bodies') e
         (record { kept = g.kept; leading_is = g.leading_is ∙ sym (leading_grown p fs leading b i) });
     once = u.once;
   }
 
-  pub middle_discarded : (h : Held) (fragment_heads' bodies' : List ℕ) → GrowsWithin p most b n leading fragment_heads bodies (Grown.Discarded h) fragment_heads' bodies'
+  pub middle_discarded : {h : Held} {fragment_heads' bodies' : List ℕ} → GrowsWithin p most b n leading fragment_heads bodies (Grown.Discarded h) fragment_heads' bodies'
       → LearnsMiddle p most b n leading fragment_heads bodies h fragment_heads' bodies'
-  middle_discarded h fragment_heads' bodies' u = record {
+  middle_discarded {h} {fragment_heads'} {bodies'} u = record {
     learned = λ L fs em k.
         let g = u.is L fs em k in
-        subst (λ (l : List Fragment). HeldAfter L.total p fs l leading h fragment_heads' bodies') (sym (middle_is L fs g.fragment false g.found g.fitting)) g.left;
+        subst (λ (l : List Fragment). HeldAfter L.total p fs l leading h fragment_heads' bodies') (sym (middle_is p b L fs g.fragment false g.found g.fitting)) g.left;
     once = u.once;
   }
 
-  pub middle_absent : (fragment_heads' bodies' : List ℕ) → GrowsWithin p most b n leading fragment_heads bodies Grown.Absent fragment_heads' bodies'
+  pub middle_absent : {fragment_heads' bodies' : List ℕ} → GrowsWithin p most b n leading fragment_heads bodies Grown.Absent fragment_heads' bodies'
       → LearnsMiddle p most b n leading fragment_heads bodies (record { count = n; leading = leading }) fragment_heads' bodies'
   unfolding middle
-  middle_absent fragment_heads' bodies' u = record {
+  middle_absent {fragment_heads'} {bodies'} u = record {
     learned = λ L fs em k.
         let g = u.is L fs em k in
         let e : fs ≡ middle L p b fs = sym (ap (λ (o : Option Fragment). middle_of o L p b fs) g.0) in
@@ -357,7 +345,7 @@ module _ (p most : ℕ) (b : Bytes) (n leading : ℕ) (fragment_heads bodies : L
 module _ (L : Limits) (p : ℕ) (b : Bytes) (fs : List Fragment) (start end flags : ℕ) (h : Held) (fragment_heads : List ℕ) (bodies : Bytes) (g : GrewAt L p b fs start end flags h fragment_heads bodies) where
   pub grew_numbers : (0 < h.leading) × (h.leading ≤ h.count) × (h.count ≤ 256)
   grew_numbers =
-      let ns = numbers L.total (grow_in p b fs) h.count h.leading fragment_heads bodies g.kept in
+      let ns = numbers g.kept in
       (omega (arith, g.leading_is), g.leading_low, ns.few)
 
   pub joined_gone : (r : Held) (fragment_heads' : List ℕ) (leading : ℕ) → GivesBack h.count h.leading fragment_heads r fragment_heads'

@@ -11,7 +11,7 @@ use Rattle.meaning.specs.Bytes.{Bytes}
 use Rattle.meaning.specs.Writing.{Wrote}
 use Rattle.meaning.specs.Moves.{MovedOnce}
 use Rattle.meaning.proofs.MoveLaws.{once_one, once_two, once_three}
-use Rattle.fragments.specs.Fragments.{FreeMoved, Packed}
+use Rattle.fragments.specs.Room.{FreeMoved, Packed}
 
 -- ---- the free bytes moved, and the body behind them or not
 

@@ -5,26 +5,24 @@ use mathlib.Core.Path.{◌≡◌, refl, sym, ap, ap₂, ◌∙◌, subst}
 use mathlib.Core.Bool.{Bool, true, false, cond, ◌&&◌}
 use mathlib.Core.List.{List, [], ◌∷◌, ◌++◌, map, map-append, append_assoc, append-nil}
 use mathlib.Core.Option.{some}
-use Rattle.std.specs.declared.option.Option.{Option}
-use Rattle.std.specs.Prelude.{unwrap_or, IfSome}
-use Rattle.std.specs.List.{position}
 use native.Mathlib.Omega.{arith}
 use lib.ListN.{length, take, drop, get_or, set, replicate, length-append, length-map, length-replicate, take-append-drop, drop_of_length-le}
-use lib.Seq.{take_at, drop_at, set_at, get_or_at, take_all, take-take, take-add, drop-drop, take-append-add, drop-append-add, length-take-le}
-use lib.Dec.{eqb, leb, ltb}
+use lib.Seq.{take_at, drop_at, set_at, get_or_at, take_all, take-take, take-add, drop-drop, take-append-add, drop-append-add}
+use lib.Dec.{leb, ltb}
 use borrow.Author.Tests.{ltb-true, ltb-false, leb-true, leb-false, lt-ltb, le-ltb, le-leb, lt-leb}
 use Rattle.meaning.specs.Bytes.{Bytes}
 use Rattle.meaning.specs.Writing.{Wrote}
 use Rattle.meaning.specs.Learn.{Fragment, without, fragment_bytes, fragment_of, grown, grow_in, hold_first}
-use Rattle.meaning.specs.Record.{slots, fragment_head, fragment_identifier, bodies_of, room_of, lens}
+use Rattle.meaning.specs.Record.{slots, fragment_head, bodies_of, room_of, lens}
 use Rattle.meaning.specs.Leading.{index_of}
 use Rattle.meaning.specs.Soundness.{distinct, identifiers, HoldsFragments}
 use Rattle.meaning.specs.declared.Limits.{Limits}
 use Rattle.meaning.proofs.SoundnessKept.{without_holds}
 use Rattle.meaning.proofs.LayoutLaws.{bodies_append, bodies_next, bodies_one, bodies_none, bytes_of_lem, longer_take, shorter_drop, take_map, drop_map}
 use Rattle.meaning.proofs.SoundnessLaws.{Tells, TellAll, heads_tell, used, tell_take, tell_drop, lens_heads}
-use Rattle.fragments.specs.Fragments.{index_in, Heads, others_of, length_at, TakesOut, FreeMoved, Packed, KeptFragments, KeepsFragments, Numbers, Nearest, held_behind, Grows}
-use Rattle.fragments.proofs.FragmentLaws.{index_fragment_heads, found_at, Spot, spot, missing, without_is}
+use Rattle.fragments.specs.Room.{FreeMoved, Packed}
+use Rattle.fragments.specs.Fragments.{index_in, Heads, others_of, length_at, TakesOut, KeptFragments, KeepsFragments, Numbers, Nearest, held_behind, Grows}
+use Rattle.fragments.proofs.FragmentLaws.{index_fragment_heads, Spot, spot, missing, without_is}
 use Rattle.fragments.proofs.BlockLaws.{moved_down, moved_up, filled, second, third, tail, closed_heads, one_zero}
 
 abbrev size : List Fragment → ℕ
@@ -39,7 +37,7 @@ room_is_parts leading fs free = refl
 
 -- ---- heads in their slots
 
-module _ (fs : List Fragment) (n : ℕ) (fragment_heads : List ℕ) (k : Heads fs n fragment_heads) where
+module _ {fs : List Fragment} {n : ℕ} {fragment_heads : List ℕ} (k : Heads fs n fragment_heads) where
   pub first_heads : take n fragment_heads ≡ map fragment_head fs
   first_heads = ap₂ (λ (m : ℕ) (l : List ℕ). take m l) k.count k.are ∙ used 256 fragment_head fs
 
@@ -56,17 +54,17 @@ heads_from fs n fragment_heads c h = record {
 
 -- ---- what is held, whole
 
-module _ (T : ℕ) (fs : List Fragment) (n leading : ℕ) (fragment_heads : List ℕ) (bodies : Bytes) (k : KeptFragments T fs n leading fragment_heads bodies) where
+module _ {T : ℕ} {fs : List Fragment} {n leading : ℕ} {fragment_heads : List ℕ} {bodies : Bytes} (k : KeptFragments T fs n leading fragment_heads bodies) where
   pub tell : TellAll fs
   tell = heads_tell T fs k.hold k.total_few
 
   -- the bytes of the first i
   pub sum_at : (i : ℕ) → i ≤ n → lens (take i fragment_heads) ≡ size (take i fs)
   sum_at i h =
-      ap lens (sym (take-take i n fragment_heads h) ∙ ap (take i) (first_heads fs n fragment_heads k.heads) ∙ take_map fragment_head i fs) ∙ lens_heads (take i fs) (tell_take i fs tell)
+      ap lens (sym (take-take i n fragment_heads h) ∙ ap (take i) (first_heads k.heads) ∙ take_map fragment_head i fs) ∙ lens_heads (take i fs) (tell_take i fs tell)
 
   pub sum_all : lens (take n fragment_heads) ≡ size fs
-  sum_all = ap lens (first_heads fs n fragment_heads k.heads) ∙ lens_heads fs tell
+  sum_all = ap lens (first_heads k.heads) ∙ lens_heads fs tell
 
   pub sum_is : lens (take n fragment_heads) ≡ fragment_bytes fs
   sum_is = sum_all ∙ sym (bytes_of_lem fs)
@@ -82,15 +80,15 @@ module _ (T : ℕ) (fs : List Fragment) (n leading : ℕ) (fragment_heads : List
   pub length_own : (index : ℕ) → length_at index n fragment_heads ≡ size (take 1 (drop index fs))
   unfolding length_at
   length_own index =
-      ap (λ (l : List ℕ). lens (take 1 (drop index l))) (first_heads fs n fragment_heads k.heads) ∙ ap (λ (l : List ℕ). lens (take 1 l)) (drop_map fragment_head index fs)
+      ap (λ (l : List ℕ). lens (take 1 (drop index l))) (first_heads k.heads) ∙ ap (λ (l : List ℕ). lens (take 1 l)) (drop_map fragment_head index fs)
       ∙ ap lens (take_map fragment_head 1 (drop index fs)) ∙ lens_heads (take 1 (drop index fs)) (tell_take 1 (drop index fs) (tell_drop index fs tell))
 
   pub index_is : (p : ℕ) → index_in p (take n fragment_heads) ≡ index_of p fs
-  index_is p = ap (index_in p) (first_heads fs n fragment_heads k.heads) ∙ index_fragment_heads p fs tell
+  index_is p = ap (index_in p) (first_heads k.heads) ∙ index_fragment_heads p fs tell
 
   pub slots_all : length fragment_heads ≡ 256
   slots_all =
-      ap length (heads_are fs n fragment_heads k.heads) ∙ length-append (map fragment_head fs) (replicate (256 - n) 0)
+      ap length (heads_are k.heads) ∙ length-append (map fragment_head fs) (replicate (256 - n) 0)
       ∙ ap₂ (λ (a b : ℕ). a + b) (length-map fs fragment_head) (length-replicate (256 - n) 0)
       ∙ (let z : length fs + (256 - n) ≡ 256 = omega (arith, k.heads.count, k.hold.few) in z)
 
@@ -194,16 +192,8 @@ module _ (T : ℕ) (fs : List Fragment) (n leading : ℕ) (fragment_heads : List
 
 -- ---- by what is held, whatever it is
 
-module _ (n leading : ℕ) (fragment_heads bodies : List ℕ) (k : KeepsFragments n leading fragment_heads bodies) where
-  pub some_numbers : Numbers n fragment_heads bodies
-  some_numbers = numbers k.0 k.1 n leading fragment_heads bodies k.2
-
-  -- where the identifier's fragment was found, or that there is none
-  pub some_found : (p : ℕ) (o : Option ℕ) → o ≡ position (λ (h : ℕ). eqb (fragment_identifier h) p) (take n fragment_heads)
-      → (unwrap_or o n ≡ index_in p (take n fragment_heads)) × IfSome o (λ i. i < n)
-  some_found p o e =
-      let l : length (take n fragment_heads) ≡ n = length-take-le n fragment_heads (omega (arith, some_numbers.few, slots_all k.0 k.1 n leading fragment_heads bodies k.2)) in
-      subst (λ (m : ℕ). (unwrap_or o m ≡ index_in p (take n fragment_heads)) × IfSome o (λ i. i < m)) l (found_at p (take n fragment_heads) o e)
+pub some_numbers : {n leading : ℕ} {fragment_heads : List ℕ} {bodies : Bytes} → KeepsFragments n leading fragment_heads bodies → Numbers n fragment_heads bodies
+some_numbers k = numbers k.2
 
 -- ---- a head taken out
 
@@ -218,7 +208,7 @@ module _ (index n : ℕ) (fragment_heads fragment_heads' : List ℕ) where
       let zeros : List ℕ = replicate (256 - n) 0 in
       let c : n ≡ length xs + 1 + length ys = omega (arith, k.count, ap length s.whole, length-append xs (f ∷ ys)) in
       let hs : fragment_heads ≡ map fragment_head xs ++ (fragment_head f ∷ (map fragment_head ys ++ zeros)) =
-      heads_are fs n fragment_heads k ∙ ap (λ (l : List ℕ). l ++ zeros) (ap (map fragment_head) s.whole ∙ map-append fragment_head xs (f ∷ ys))
+      heads_are k ∙ ap (λ (l : List ℕ). l ++ zeros) (ap (map fragment_head) s.whole ∙ map-append fragment_head xs (f ∷ ys))
       ∙ append_assoc (map fragment_head xs) (fragment_head f ∷ map fragment_head ys) zeros in
       let hx : index ≡ length (map fragment_head xs) = at ∙ sym s.index ∙ sym (length-map xs fragment_head) in
       let hn : n ≡ length (map fragment_head xs) + 1 + length (map fragment_head ys) = omega (arith, c, length-map xs fragment_head, length-map ys fragment_head) in
@@ -264,7 +254,7 @@ pub record There (p : ℕ) (fs : List Fragment) (index : ℕ) (fragment_heads : 
 module _ (T p : ℕ) (fs : List Fragment) (index n leading : ℕ) (fragment_heads : List ℕ) (bodies : Bytes) (at : index ≡ index_of p fs) (lt : index < n)
     (k : KeptFragments T fs n leading fragment_heads bodies) where
   abbrev here : Spot p fs
-  here = spot_is T fs n leading fragment_heads bodies k p (omega arith)
+  here = spot_is k p (omega arith)
 
   abbrev xs : List Fragment
   xs = here.before
@@ -280,7 +270,7 @@ module _ (T p : ℕ) (fs : List Fragment) (index n leading : ℕ) (fragment_head
 
   heads_split : fragment_heads ≡ map fragment_head xs ++ (fragment_head f ∷ (map fragment_head ys ++ replicate (256 - n) 0))
   heads_split =
-      heads_are fs n fragment_heads k.heads ∙ ap (λ (l : List ℕ). l ++ replicate (256 - n) 0) (ap (map fragment_head) here.whole ∙ map-append fragment_head xs (f ∷ ys))
+      heads_are k.heads ∙ ap (λ (l : List ℕ). l ++ replicate (256 - n) 0) (ap (map fragment_head) here.whole ∙ map-append fragment_head xs (f ∷ ys))
       ∙ append_assoc (map fragment_head xs) (fragment_head f ∷ map fragment_head ys) (replicate (256 - n) 0)
 
   head_at : get_or fragment_heads index 0 ≡ fragment_head f
@@ -293,7 +283,7 @@ module _ (T p : ℕ) (fs : List Fragment) (index n leading : ℕ) (fragment_head
     fragment = f;
     found = here.found;
     head_is = head_at;
-    tells = tell_apart xs f ys (subst TellAll here.whole (tell T fs n leading fragment_heads bodies k));
+    tells = tell_apart xs f ys (subst TellAll here.whole (tell k));
   }
 
   take_xs : take index fs ≡ xs
@@ -356,9 +346,9 @@ module _ (T p : ℕ) (fs : List Fragment) (index n leading : ℕ) (fragment_head
       let rs₀ : bodies ≡ (bodies_of xs ++ f.body) ++ (k.free ++ bodies_of ys) =
       k.room_is ∙ room_is_parts leading fs k.free
       ∙ ap₂ (λ (s t : Bytes). s ++ (k.free ++ t)) (ap (λ (i : ℕ). bodies_of (take i fs)) el ∙ ba) (ap bodies_of (drop_f leading 0 el)) in
-      let end_is : lens (take (index + 1) fragment_heads) ≡ length (bodies_of xs ++ f.body) = sum_at T fs n leading fragment_heads bodies k (index + 1) (omega arith) ∙ ap length ba in
+      let end_is : lens (take (index + 1) fragment_heads) ≡ length (bodies_of xs ++ f.body) = sum_at k (index + 1) (omega arith) ∙ ap length ba in
       let gl : length b ≤ length k.free =
-      omega (arith, room_length T fs n leading fragment_heads bodies k, sum_all T fs n leading fragment_heads bodies k, parts T fs n leading fragment_heads bodies k leading) in
+      omega (arith, room_length k, sum_all k, parts k leading) in
       let rest : Bytes = drop (length b) k.free in
       let rs : bodies' ≡ ((bodies_of xs ++ f.body) ++ b) ++ (rest ++ bodies_of ys) =
       filled (bodies_of xs ++ f.body) k.free (bodies_of ys) b bodies bodies' (lens (take (index + 1) fragment_heads)) q rs₀ end_is gl w in
@@ -372,7 +362,7 @@ module _ (T p : ℕ) (fs : List Fragment) (index n leading : ℕ) (fragment_head
       let tg : bodies_of (take (index + 1) (xs ++ (g ∷ ys))) ≡ bodies_of xs ++ (f.body ++ b) =
       ap bodies_of (take_past xs g ys (index + 1) 0 one) ∙ bodies_append xs (g ∷ []) ∙ ap (λ (z : Bytes). bodies_of xs ++ z) (bodies_one g) in
       let dg : bodies_of (drop (index + 1) (xs ++ (g ∷ ys))) ≡ bodies_of ys = ap bodies_of (drop_past xs g ys (index + 1) 0 one) in
-      let start_is : lens (take index fragment_heads) ≡ length (bodies_of xs) = sum_at T fs n leading fragment_heads bodies k index (omega arith) ∙ ap size take_xs in
+      let start_is : lens (take index fragment_heads) ≡ length (bodies_of xs) = sum_at k index (omega arith) ∙ ap size take_xs in
       let lb : length f.body + length b ≡ length (f.body ++ b) = sym (length-append f.body b) in
       record {
         fragment = f;
@@ -423,8 +413,8 @@ module _ (T p : ℕ) (fs : List Fragment) (index n leading : ℕ) (fragment_head
   others_bytes =
       omega (
         arith,
-        length_own T fs n leading fragment_heads bodies k index,
-        sum_all T fs n leading fragment_heads bodies k,
+        length_own k index,
+        sum_all k,
         size_whole,
         bytes_of_lem (without p fs),
         ap size others_whole,
@@ -434,16 +424,16 @@ module _ (T p : ℕ) (fs : List Fragment) (index n leading : ℕ) (fragment_head
   module _ (low : leading ≤ n) (start end old all : ℕ) (bodies' : Bytes) (es : start ≡ lens (take index fragment_heads)) (ee : end ≡ start + length_at index n fragment_heads)
       (eo : old ≡ lens (take leading fragment_heads)) (ea : all ≡ lens (take n fragment_heads)) (m : Packed index leading start end old all bodies bodies') where
     abbrev start_is : start ≡ size before
-    start_is = es ∙ sum_at T fs n leading fragment_heads bodies k index le
+    start_is = es ∙ sum_at k index le
 
     abbrev own_is : end ≡ start + size own
-    own_is = ee ∙ ap (λ (z : ℕ). start + z) (length_own T fs n leading fragment_heads bodies k index)
+    own_is = ee ∙ ap (λ (z : ℕ). start + z) (length_own k index)
 
     abbrev before_free : old ≡ size (take leading fs)
-    before_free = eo ∙ sum_at T fs n leading fragment_heads bodies k leading low
+    before_free = eo ∙ sum_at k leading low
 
     abbrev all_sum : all ≡ size before + (size own + size behind)
-    all_sum = ea ∙ sum_all T fs n leading fragment_heads bodies k ∙ size_whole
+    all_sum = ea ∙ sum_all k ∙ size_whole
 
     -- it led: what stands between it and the free bytes goes down
     front_led : index < leading → take (all - (end - start)) bodies' ≡ bodies_of before ++ bodies_of behind
@@ -491,7 +481,7 @@ module _ (T p : ℕ) (fs : List Fragment) (index n leading : ℕ) (fragment_head
         let e : bodies ≡ a ++ (k.free ++ (x ++ (bodies_of own ++ bodies_of behind))) = k.room_is ∙ room_is_parts leading fs k.free ∙ ap (λ (z : Bytes). a ++ (k.free ++ z)) dl in
         let lx : size before ≡ length a + length x = ap length bl ∙ length-append a x in
         let long : length bodies ≡ length a + (length k.free + (length x + (size own + size behind))) =
-        room_length T fs n leading fragment_heads bodies k ∙ ap (λ (z : ℕ). length a + (length k.free + z)) (ap length dl ∙ length-append x (bodies_of own ++ bodies_of behind) ∙ ap (λ (z : ℕ). length x + z) (length-append (bodies_of own) (bodies_of behind))) in
+        room_length k ∙ ap (λ (z : ℕ). length a + (length k.free + z)) (ap length dl ∙ length-append x (bodies_of own ++ bodies_of behind) ∙ ap (λ (z : ℕ). length x + z) (length-append (bodies_of own) (bodies_of behind))) in
         let w = m.behind h in
         let bx = third a k.free x (bodies_of own ++ bodies_of behind) bodies (length bodies - (all - old)) (start - old) e (omega (arith, before_free, all_sum, lx, long)) (omega (arith, start_is, before_free, lx)) in
         let by : take (all - end) (drop (length bodies - (all - end)) bodies) ≡ bodies_of behind =
@@ -521,7 +511,7 @@ module _ (T p : ℕ) (fs : List Fragment) (index n leading : ℕ) (fragment_head
         let f : Fragment = record { identifier = p; flags = flags % 64; body = b } in
         let hs₁ : Heads os count fragment_heads₁ = subst (λ (i : ℕ). Heads os i fragment_heads₁) (sym ec) (out p fs k.hold.once at k.heads) in
         let z : 256 - count ≡ suc (256 - (count + 1)) = omega arith in
-        let hs : fragment_heads₁ ≡ map fragment_head os ++ (0 ∷ replicate (256 - (count + 1)) 0) = heads_are os count fragment_heads₁ hs₁ ∙ ap (λ (i : ℕ). map fragment_head os ++ replicate i 0) z in
+        let hs : fragment_heads₁ ≡ map fragment_head os ++ (0 ∷ replicate (256 - (count + 1)) 0) = heads_are hs₁ ∙ ap (λ (i : ℕ). map fragment_head os ++ replicate i 0) z in
         let hs' : fragment_heads' ≡ map fragment_head os ++ (fragment_head f ∷ replicate (256 - (count + 1)) 0) =
         eh ∙ ap (λ (l : List ℕ). set l count (fragment_head f)) hs
         ∙ set_at (map fragment_head os) 0 (replicate (256 - (count + 1)) 0) (fragment_head f) count (length-map os fragment_head ∙ sym hs₁.count) in

@@ -1,9 +1,8 @@
 -- How the code holds fragments, and what its functions promise: the state that the heads and the room hold afterwards, whatever state they
 -- held, and that each byte of the room moved at most once.
-use Rattle.std.specs.Prelude.{ℕ, suc, ◌+◌, ◌-◌, ◌%◌, ◌≤◌, ◌<◌, ◌≡◌, true, false, cond, List, [], ◌∷◌, ◌++◌, map, length, take, drop, eqb, ltb}
+use Rattle.std.specs.Prelude.{ℕ, suc, ◌+◌, ◌-◌, ◌%◌, ◌≤◌, ◌≡◌, true, false, cond, List, [], ◌∷◌, ◌++◌, map, length, take, drop, eqb, ltb}
 use Rattle.std.proofs.Math.Option.{none, some}
 use Rattle.meaning.specs.Bytes.{Bytes}
-use Rattle.meaning.specs.Writing.{Wrote}
 use Rattle.meaning.specs.Learn.{Fragment, without, fragment_of, grow_in, hold_first, fits, middle}
 use Rattle.meaning.specs.Record.{slots, fragment_head, fragment_identifier, room_of, lens}
 use Rattle.meaning.specs.Leading.{index_of, leading_after}
@@ -12,7 +11,7 @@ use Rattle.meaning.specs.Soundness.{distinct, identifiers, HoldsFragments}
 use Rattle.meaning.specs.declared.Limits.{Limits}
 use Rattle.fragments.specs.declared.Held.{Held}
 use Rattle.fragments.specs.declared.Grown.{Grown}
-use Rattle.fragments.specs.declared.Place.{Place}
+use Rattle.fragments.specs.declared.place.Place.{Place}
 
 -- ---- heads alone
 
@@ -41,26 +40,6 @@ abbrev pub TakesOut : ℕ → ℕ → List ℕ → List ℕ → Type 0
 TakesOut index n fragment_heads fragment_heads' =
     (p : ℕ) (fs : List Fragment) → distinct (identifiers fs) ≡ true → index ≡ index_of p fs → Heads fs n fragment_heads
     → Heads (without p fs) (others_of index n) fragment_heads'
-
--- ---- the room alone, by numbers: of `all` bytes of bodies those of the first `leading` fragments, `old`, stand before the free bytes
-
--- The free bytes moved behind the first `to` fragments, whose bodies have `new` bytes: the block between goes to their other side.
-pub record FreeMoved (leading to old new all : ℕ) (bodies bodies' : Bytes) : Type 0 where
-  pub same : length bodies' ≡ length bodies
-  pub down : leading < to → Wrote (take (new - old) (drop (length bodies - (all - old)) bodies)) bodies old bodies' new
-  pub up : to ≤ leading → Wrote (take (old - new) (drop new bodies)) bodies (length bodies - (all - new)) bodies' (length bodies - (all - old))
-
--- All bodies packed at the front but the one at an index, from `start` to `end`: down goes what stands between it and the free bytes, then
--- what stands behind both.
-pub record Packed (index leading start end old all : ℕ) (bodies bodies' : Bytes) : Type 0 where
-  pub between : Bytes
-  pub same : length bodies' ≡ length bodies
-  pub before : index < leading
-      → Wrote (take (old - end) (drop end bodies)) bodies start between (old - (end - start))
-      × Wrote (take (all - old) (drop (length bodies - (all - old)) bodies)) between (old - (end - start)) bodies' (all - (end - start))
-  pub behind : leading ≤ index
-      → Wrote (take (start - old) (drop (length bodies - (all - old)) bodies)) bodies old between start
-      × Wrote (take (all - end) (drop (length bodies - (all - end)) bodies)) between start bodies' (all - (end - start))
 
 -- ---- heads and a room
 

@@ -3,14 +3,18 @@
 // for one incoming body only what stands between their old and their new place moves, and each byte of it once.
 #![tactic(auto)]
 
-ghost use Rattle.std.specs.Prelude.{◌≡◌, ◌+◌, ◌-◌, ◌*◌, ◌%◌, ◌≤◌, ◌<◌, ◌&&◌, [], ◌∷◌, ◌++◌, length, take, drop, leb, ltb, unwrap_or, position, IfSome, ◌==◌};
+ghost use Rattle.std.specs.Prelude.{◌≡◌, ◌+◌, ◌-◌, ◌*◌, ◌%◌, ◌≤◌, ◌<◌, [], ◌∷◌, ◌++◌, length, take, drop, unwrap_or, position, IfSome, ◌==◌};
 ghost use Rattle.meaning.specs.Writing.{Wrote};
 ghost use Rattle.meaning.specs.Record.{fragment_identifier, fragment_flags, fragment_length, lens};
-ghost use Rattle.fragments.specs.Fragments.{index_in, others_of, length_at, TakesOut, FreeMoved, Packed, KeepsFragments, Numbers, Nearest, Stands, DropsAt, Drops, GivesBack, PutsBehind, HoldsFirst, Lengthens, GrowsWithin, GrowsAtIndex, LearnsMiddle};
+ghost use Rattle.fragments.specs.Fragments.{index_in, others_of, length_at, TakesOut, KeepsFragments, Numbers, Nearest, Stands, DropsAt, Drops, GivesBack, PutsBehind, HoldsFirst, Lengthens, GrowsWithin, GrowsAtIndex, LearnsMiddle};
 
-use octets::{copy, move_down, move_up};
+mod place;
+
+use octets::copy;
+use place::{Leading, Place, move_free};
 
 // What a head says of its fragment: its identifier.
+#[tactic(auto, unfolding(meaning::specs::Record::fragment_identifier))]
 pub fn identifier_of(head: u64) -> u16
     ensures { result ≡ fragment_identifier head }
 {
@@ -18,6 +22,7 @@ pub fn identifier_of(head: u64) -> u16
 }
 
 // Its length.
+#[tactic(auto, unfolding(meaning::specs::Record::fragment_length))]
 pub fn length_of(head: u64) -> usize
     ensures { (result ≡ fragment_length head) × (result < 1099511627776) }
 {
@@ -25,6 +30,7 @@ pub fn length_of(head: u64) -> usize
 }
 
 // Its flags.
+#[tactic(auto, unfolding(meaning::specs::Record::fragment_flags))]
 fn flags_of(head: u64) -> u8
     ensures { result ≡ fragment_flags head }
 {
@@ -36,11 +42,12 @@ fn fragment_head(id: u16, flags: u8, n: usize) -> u64
     requires { n < 1099511627776 }
     ensures { result ≡ id * 281474976710656 + flags % 64 * 1099511627776 + n }
 {
-    let low = flags & 0x3f;
+    let low = flags % 64;
     (id as u64) * 281474976710656 + (low as u64) * 1099511627776 + (n as u64)
 }
 
 // The head of a fragment that grows by `m` bytes.
+#[tactic(auto, unfolding(meaning::specs::Record::fragment_length))]
 fn longer(head: u64, m: usize) -> u64
     requires { fragment_length head + m < 1099511627776 }
     ensures { result ≡ head + m }
@@ -48,8 +55,9 @@ fn longer(head: u64, m: usize) -> u64
     head + (m as u64)
 }
 
-// The bytes of all these fragments.
-fn fragment_bytes(heads: &[u64]) -> usize
+// The bytes of the fragments with these heads.
+#[tactic(auto, using(crate::proofs::FragmentLaws::lens_sum))]
+pub fn fragment_bytes(heads: &[u64]) -> usize
     requires { length heads.now ≤ 256 }
     ensures { result ≡ lens heads.now }
 {
@@ -64,6 +72,7 @@ fn find_fragment(heads: &[u64], id: u16) -> Option<usize>
 }
 
 // Closes the gap at `at`: the heads behind it one slot down, the last slot free.
+#[tactic(auto, using(crate::proofs::BlockLaws::close_done))]
 fn close_slot(fragment_heads: &mut [u64; 256], n: usize, at: usize)
     requires { (at < n) × (n ≤ 256) }
     ensures { Wrote (take (n - 1 - at) (drop (at + 1) fragment_heads.old) ++ (0 ∷ [])) fragment_heads.old at fragment_heads.new n }
@@ -73,6 +82,7 @@ fn close_slot(fragment_heads: &mut [u64; 256], n: usize, at: usize)
 }
 
 // Takes out the head at `index`, if there is one. Answers how many are held then.
+#[tactic(auto, unfolding(crate::specs::Fragments::others_of))]
 fn take_out(fragment_heads: &mut [u64; 256], n: usize, index: usize) -> usize
     requires { n ≤ 256 }
     ensures out { TakesOut index n fragment_heads.old fragment_heads.new }
@@ -87,6 +97,7 @@ fn take_out(fragment_heads: &mut [u64; 256], n: usize, index: usize) -> usize
 }
 
 // The length of the fragment at `index` of these, 0 where there is none.
+#[tactic(auto, using(crate::proofs::FragmentLaws::own_at, crate::proofs::FragmentLaws::own_past))]
 fn length_at(heads: &[u64], index: usize) -> usize
     ensures { result ≡ lens (take 1 (drop index heads.now)) }
 {
@@ -94,13 +105,6 @@ fn length_at(heads: &[u64], index: usize) -> usize
         Some(&head) => length_of(head),
         None => 0,
     }
-}
-
-// So many fragments that lead, and the bytes of their bodies: the free bytes stand behind these.
-#[derive(Clone, Copy)]
-struct Leading {
-    count: usize,
-    bytes: usize,
 }
 
 // The first `count`, leading.
@@ -114,28 +118,6 @@ fn leading_of(fragment_heads: &[u64; 256], count: usize) -> Leading
     }
 }
 
-// The free bytes, behind those that lead, go behind those that lead `to`: what stands between goes to their other side.
-fn move_free(from: Leading, to: Leading, all: usize, bodies: &mut [u8])
-    requires { (from.count < to.count → from.bytes ≤ to.bytes) × (to.count ≤ from.count → to.bytes ≤ from.bytes) × (from.bytes ≤ all) × (to.bytes ≤ all) × (all ≤ length bodies.old) }
-    ensures { FreeMoved from.count to.count from.bytes to.bytes all bodies.old bodies.new }
-{
-    if from.count < to.count {
-        move_down(
-            bodies,
-            bodies.len() - (all - from.bytes),
-            to.bytes - from.bytes,
-            from.bytes,
-        );
-        return;
-    }
-    move_up(
-        bodies,
-        to.bytes,
-        from.bytes - to.bytes,
-        bodies.len() - (all - to.bytes),
-    );
-}
-
 // How many lead when the free bytes come beside the fragment at `index`, from where they are.
 fn beside(index: usize, leading: usize) -> usize
     ensures { (index < leading → result ≡ index + 1) × (leading ≤ index → result ≡ index) }
@@ -144,55 +126,6 @@ fn beside(index: usize, leading: usize) -> usize
         return index + 1;
     }
     index
-}
-
-// Where the fragment at `index` stands, and where the free bytes do, behind those that lead. Counted as if none were free, it has `own` bytes
-// from `start` on; all fragments have `all` bytes.
-#[derive(Clone, Copy)]
-struct Place {
-    index: usize,
-    start: usize,
-    own: usize,
-    leading: Leading,
-    all: usize,
-}
-
-impl Place {
-    // Packs all bodies at the front but the one of this place: first what stands between it and the free bytes goes down, then what stands
-    // behind both. Were it given up before, what leads behind it would go up, and then down again.
-    fn pack(self, bodies: &mut [u8])
-        requires { (self.start + self.own ≤ self.all) × (self.leading.bytes ≤ self.all) × (self.all ≤ length bodies.old) × (self.index < self.leading.count → self.start + self.own ≤ self.leading.bytes) × (self.leading.count ≤ self.index → self.leading.bytes ≤ self.start) }
-        ensures { Packed self.index self.leading.count self.start (self.start + self.own) self.leading.bytes self.all bodies.old bodies.new }
-    {
-        let total = bodies.len();
-        let start = self.start;
-        let end = start + self.own;
-        let free = self.leading.bytes;
-        let all = self.all;
-        if self.index < self.leading.count {
-            move_down(bodies, end, free - end, start);
-            move_down(bodies, total - (all - free), all - free, free - self.own);
-            return;
-        }
-        move_down(bodies, total - (all - free), start - free, free);
-        move_down(bodies, total - (all - end), all - end, start);
-    }
-
-    // Whether a first of `m` bytes can be held in the place of this one: there is a free slot, or its own, and room beside the others.
-    fn first_fits(self, m: usize, total: usize) -> bool
-        requires { (self.own ≤ self.all) × (self.all ≤ total) }
-        ensures { result ≡ (ltb self.index 256 && leb (self.all - self.own + m) total) }
-    {
-        self.index < 256 && m <= total - (self.all - self.own)
-    }
-
-    // Whether `m` bytes more keep this fragment within `most`, and all fragments within `total`.
-    fn fits(self, m: usize, most: usize, total: usize) -> bool
-        requires { self.all ≤ total }
-        ensures { result ≡ (leb (self.own + m) most && leb (self.all + m) total) }
-    {
-        m <= most && self.own <= most - m && m <= total - self.all
-    }
 }
 
 // How many fragments are held, and how many of them lead.
@@ -215,12 +148,22 @@ pub enum Grown {
     Absent,
 }
 
+// Stays: heads and room are lent to each method, not held in a struct: a payload makes a call or two, and the struct would be made for it and taken apart.
 impl Held {
     // The sense of a number of leading fragments that is handed in: at most all lead.
     fn nearest(self) -> usize
         ensures { Nearest self.count self.leading result }
     {
         self.leading.min(self.count)
+    }
+
+    // The index of the identifier's fragment, if one is held.
+    #[tactic(auto, using(crate::proofs::FragmentLaws::found_at))]
+    fn index_of(self, id: u16, fragment_heads: &[u64; 256]) -> Option<usize>
+        requires { self.count ≤ 256 }
+        ensures { (unwrap_or result self.count ≡ index_in id (take self.count fragment_heads.now)) × IfSome result (λ index. index < self.count) }
+    {
+        find_fragment(&fragment_heads[..self.count], id)
     }
 
     // Gives up the fragment at `index`: the free bytes come beside it, and its own are theirs then.
@@ -260,11 +203,12 @@ impl Held {
         requires { KeepsFragments self.count self.leading fragment_heads.old bodies.old }
         ensures { Drops id self.count self.leading fragment_heads.old bodies.old result fragment_heads.new bodies.new }
     {
-        let found = find_fragment(&fragment_heads[..self.count], id);
+        let found = self.index_of(id, fragment_heads);
         self.drop_found(found, fragment_heads, bodies)
     }
 
     // Gives back the last that leads, the one that grew last: its bytes are free then, and the room is not touched.
+    #[tactic(auto, using(crate::proofs::GrowLaws::given_back))]
     pub fn give_back(self, fragment_heads: &mut [u64; 256]) -> Held
         requires { (0 < self.leading) × (self.leading ≤ self.count) × (self.count ≤ 256) }
         ensures { GivesBack self.count self.leading fragment_heads.old result fragment_heads.new }
@@ -326,7 +270,7 @@ impl Held {
         requires { KeepsFragments self.count self.leading fragment_heads.old bodies.old }
         ensures { HoldsFirst id flags body.now self.count self.leading fragment_heads.old bodies.old result fragment_heads.new bodies.new }
     {
-        let found = find_fragment(&fragment_heads[..self.count], id);
+        let found = self.index_of(id, fragment_heads);
         let place = self.place_of(found.unwrap_or(self.count), fragment_heads);
         if place.first_fits(body.len(), bodies.len()) {
             return self.put_behind(place, id, flags, body, fragment_heads, bodies);
@@ -400,7 +344,7 @@ impl Held {
         requires { KeepsFragments self.count self.leading fragment_heads.old bodies.old }
         ensures { GrowsWithin id most body.now self.count self.leading fragment_heads.old bodies.old result fragment_heads.new bodies.new }
     {
-        let Some(index) = find_fragment(&fragment_heads[..self.count], id) else {
+        let Some(index) = self.index_of(id, fragment_heads) else {
             return Grown::Absent;
         };
         let place = self.place_of(index, fragment_heads);

@@ -1,8 +1,5 @@
-use mathlib.Core.Path.{refl}
-use borrow.Author.Tests.{lt-ltb, le-ltb}
-use Rattle.fragments.specs.Fragments.{others_of}
-use Rattle.fragments.proofs.RoomLaws.{taken_out, none_out}
 use native.Mathlib.Omega.{arith}
+use Rattle.fragments.proofs.RoomLaws.{taken_out, none_out}
 use Rattle.fragments.proofs.take_out.Goals as goal
 
 pub returns-then-index-n-clause-out : goal.returns-then-index-n-clause-out
@@ -10,11 +7,3 @@ returns-then-index-n-clause-out c = taken_out c.args.index c.args.n c.args.fragm
 
 pub returns-clause-out : goal.returns-clause-out
 returns-clause-out c = none_out c.args.index c.args.n c.args.fragment_heads.now (omega arith)
-
-pub returns-then-index-n-clause-count : goal.returns-then-index-n-clause-count
-unfolding others_of
-returns-then-index-n-clause-count c = rw (lt-ltb c.args.index c.args.n (omega arith)) refl
-
-pub returns-clause-count : goal.returns-clause-count
-unfolding others_of
-returns-clause-count c = rw (le-ltb c.args.index c.args.n (omega arith)) refl

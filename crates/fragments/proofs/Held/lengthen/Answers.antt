@@ -3,24 +3,14 @@ use mathlib.Core.Path.{refl, ap}
 use native.Mathlib.Omega.{arith}
 use lib.ListN.{set}
 use Rattle.fragments.proofs.FragmentLaws.{lens_turn, lens_less}
-use Rattle.fragments.proofs.GrowLaws.{stands_so, ends_so, free_numbers, lengthened}
+use Rattle.fragments.proofs.GrowLaws.{ends_so, free_numbers, lengthened}
 use Rattle.fragments.proofs.Held.lengthen.Goals as goal
-
-pub overflow_add-end : goal.overflow_add-end
-overflow_add-end c =
-    let a = c.args in
-    omega (arith, (stands_so a.self.count a.fragment_heads.now a.place c.requires.1).0)
 
 pub move_free-requires : goal.move_free-requires
 move_free-requires c =
     let a = c.args in
     let s = c.requires.1 in
     free_numbers a.fragment_heads.now a.self.count a.place.leading.count (a.place.index + 1) _ _ _ _ s.leading_low (omega arith) (omega arith) s.free_is (ends_so a.self.count a.fragment_heads.now a.place s (omega arith)) s.all_is
-
-pub copy-requires : goal.copy-requires
-copy-requires c =
-    let a = c.args in
-    omega (arith, (stands_so a.self.count a.fragment_heads.now a.place c.requires.1).0, c.move_free.ensures.same)
 
 pub longer-requires : goal.longer-requires
 longer-requires c =

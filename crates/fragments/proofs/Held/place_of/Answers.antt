@@ -1,7 +1,17 @@
 use mathlib.Core.Path.{refl, sym, subst}
 use native.Mathlib.Omega.{arith}
 use Rattle.fragments.specs.Fragments.{Nearest, length_at}
+use Rattle.fragments.proofs.GrowLaws.{place_numbers}
 use Rattle.fragments.proofs.Held.place_of.Goals as goal
+
+pub invariant_of-result : goal.invariant_of-result
+unfolding length_at
+invariant_of-result c =
+    let a = c.args in
+    let l = c.leading_of in
+    let o = place_numbers a.fragment_heads.now a.self.count a.index l.result.count _ _ _ _ (omega arith) (omega (arith, l.ensures.0, c.nearest.ensures.low)) c.fragment_bytes.ensures c.length_at.ensures
+    l.ensures.1 c.fragment_bytes-2.ensures in
+    record { own_within = o.0; leading_within = o.1; led = o.2; behind = o.3 }
 
 pub returns : goal.returns
 unfolding length_at

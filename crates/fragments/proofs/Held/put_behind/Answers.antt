@@ -1,18 +1,5 @@
-use native.Mathlib.Omega.{arith}
-use Rattle.fragments.proofs.GrowLaws.{pack_numbers, put}
+use Rattle.fragments.proofs.GrowLaws.{put}
 use Rattle.fragments.proofs.Held.put_behind.Goals as goal
-
-pub pack-requires : goal.pack-requires
-pack-requires c =
-    let a = c.args in
-    let pre = c.requires in
-    pack_numbers a.self.count a.fragment_heads.now a.bodies.now a.place pre.1 pre.2
-
-pub overflow_sub-place : goal.overflow_sub-place
-overflow_sub-place c =
-    let a = c.args in
-    let pre = c.requires in
-    omega (arith, (pack_numbers a.self.count a.fragment_heads.now a.bodies.now a.place pre.1 pre.2).0)
 
 pub returns : goal.returns
 returns c =
