@@ -27,28 +27,24 @@ pub fn pa_change(s: &[u8], tables: usize, pid: u16, o: Options) -> TableChange
     requires { tables ≤ length s.now }
     ensures { PaChangeIs o pid s.now tables result }
 {
+    let none = TableChange {
+        at: tables,
+        change: BodyChange::Same,
+    };
     let mut at = tables;
-    let mut found = tables;
-    let mut change = BodyChange::Same;
+    let mut known = none;
     loop {
         let from = at;
         match table_at(s, from) {
             Table::To(end) => {
                 at = end;
-                if !changes(change) {
-                    found = from;
-                    change = change_of(&s[from + 4..end], s[from], pid, o);
+                if !changes(known.change) {
+                    let change = change_of(&s[from + 4..end], s[from], pid, o);
+                    known = TableChange { at: from, change };
                 }
             }
-            Table::Cut => {
-                return TableChange {
-                    at: tables,
-                    change: BodyChange::Same,
-                };
-            }
-            Table::Done => {
-                return TableChange { at: found, change };
-            }
+            Table::Cut => return none,
+            Table::Done => return known,
         }
     }
 }
@@ -86,8 +82,9 @@ fn heads_to(
     ensures { (es : List Bytes) → HeadEntries s.now tables es → Wrote (flatten (relength es (tables_after o pid (drop tables s.now)))) out.old to out.new result }
 {
     let mut at = tables;
-    let mut entry = 1;
     let mut put = to;
+    // Stays: an entry is counted by hand, since the copy behind the loop starts where it stopped, which `for` does not tell.
+    let mut entry = 1;
     while entry < tables {
         let from = at;
         let Table::To(end) = table_at(s, from) else {
@@ -118,15 +115,12 @@ fn tables_to(
 {
     let mut at = tables;
     let mut put = to;
-    loop {
-        let from = at;
-        let Table::To(end) = table_at(s, from) else {
-            return copy(&s[from..], out, put);
-        };
+    while let Table::To(end) = table_at(s, at) {
+        let change = change_at(s, at, end, pid, o, known);
+        put = table_to(&s[at..end], change, o, out, put);
         at = end;
-        let change = change_at(s, from, end, pid, o, known);
-        put = table_to(&s[from..end], change, o, out, put);
     }
+    copy(&s[at..], out, put)
 }
 
 // The whole body, written at `to`.

@@ -26,7 +26,7 @@ loop-end-preserved-then-not-changes c =
     let a = c.args in
     let l = c.loop-end in
     let k = rw c.in-To.is at c.table_at.ensures in
-    sofar_new a.o a.pid a.s.now a.tables l.at l.found l.change l.invariant _ k c.change_of-change.result (rw c.changes.ensures at (not-true c.changes.result c.if-not-changes.true-raw)) c.change_of-change.ensures
+    sofar_new a.o a.pid a.s.now a.tables l.at l.known.at l.known.change l.invariant _ k c.change_of-change.result (rw c.changes.ensures at (not-true c.changes.result c.if-not-changes.true-raw)) c.change_of-change.ensures
 
 pub loop-end-smaller : goal.loop-end-smaller
 loop-end-smaller c = let k = rw c.in-To.is at c.table_at.ensures in omega (arith, k.0, k.1)
@@ -36,18 +36,18 @@ loop-end-preserved c =
     let a = c.args in
     let l = c.loop-end in
     let k = rw c.in-To.is at c.table_at.ensures in
-    sofar_kept a.o a.pid a.s.now a.tables l.at l.found l.change l.invariant _ k (rw c.changes.ensures at (not-false c.changes.result c.if-not-changes.false-raw))
+    sofar_kept a.o a.pid a.s.now a.tables l.at l.known.at l.known.change l.invariant _ k (rw c.changes.ensures at (not-false c.changes.result c.if-not-changes.false-raw))
 
 pub returns-in-Cut : goal.returns-in-Cut
 returns-in-Cut c =
     let a = c.args in
     let l = c.loop-end in
     let k = rw c.in-Cut.is at c.table_at.ensures in
-    sofar_cut a.o a.pid a.s.now a.tables l.at l.found l.change l.invariant k.0 k.1
+    sofar_cut a.o a.pid a.s.now a.tables l.at l.known.at l.known.change l.invariant k.0 k.1
 
 pub returns-in-Done : goal.returns-in-Done
 returns-in-Done c =
     let a = c.args in
     let l = c.loop-end in
     let k = rw c.in-Done.is at c.table_at.ensures in
-    sofar_done a.o a.pid a.s.now a.tables l.at l.found l.change l.invariant k.0 k.1
+    sofar_done a.o a.pid a.s.now a.tables l.at l.known.at l.known.change l.invariant k.0 k.1

@@ -17,11 +17,11 @@ copy-requires c =
     let l = c.loop-end in
     tables_left a.o a.pid a.s.now a.tables a.out.now a.to l.out l.at l.put l.invariant
 
-pub shape_of-out-in_default : goal.shape_of-out-in_default
-shape_of-out-in_default c = omega (arith, c.loop-end.invariant.same, c.copy.auto.out)
+pub shape_of-out : goal.shape_of-out
+shape_of-out c = omega (arith, c.loop-end.invariant.same, c.copy.auto.out)
 
-pub returns-in_default : goal.returns-in_default
-returns-in_default c =
+pub returns : goal.returns
+returns c =
     let a = c.args in
     let l = c.loop-end in
     let t = c.table_at in
