@@ -1,9 +1,8 @@
 -- One news after the other. Rests on specs/News.
 use mathlib.Core.Path.{◌≡◌, sym, ap, ◌∙◌}
 use mathlib.Core.Bool.{Bool, true, false, ◌||◌}
-use Rattle.meaning.specs.declared.Part.{Part}
 use Rattle.meaning.proofs.ListLaws.{or_true, or_false, or_assoc}
-use Rattle.learning.specs.News.{no_news, also, change_news, kind_news, unlisted_news}
+use Rattle.learning.specs.News.{no_news, also, change_news}
 use Rattle.learning.specs.declared.News.{News}
 
 -- ---- news
@@ -49,18 +48,3 @@ met_changed n m i = record {
   other = n.other || m.other;
   unlisted = n.unlisted || m.unlisted;
 }
-
--- ---- one thing more that stands there
-
-module _ (n : News) where
-  pub also_caption : record { changed = n.changed; caption = true; carousel = n.carousel; other = n.other; unlisted = n.unlisted } ≡ also n (kind_news Part.Caption)
-  also_caption i = record { changed = sym (or_false n.changed) i; caption = sym (or_true n.caption) i; carousel = sym (or_false n.carousel) i; other = sym (or_false n.other) i; unlisted = sym (or_false n.unlisted) i }
-
-  pub also_carousel : record { changed = n.changed; caption = n.caption; carousel = true; other = n.other; unlisted = n.unlisted } ≡ also n (kind_news Part.Carousel)
-  also_carousel i = record { changed = sym (or_false n.changed) i; caption = sym (or_false n.caption) i; carousel = sym (or_true n.carousel) i; other = sym (or_false n.other) i; unlisted = sym (or_false n.unlisted) i }
-
-  pub also_other : record { changed = n.changed; caption = n.caption; carousel = n.carousel; other = true; unlisted = n.unlisted } ≡ also n (kind_news Part.Other)
-  also_other i = record { changed = sym (or_false n.changed) i; caption = sym (or_false n.caption) i; carousel = sym (or_false n.carousel) i; other = sym (or_true n.other) i; unlisted = sym (or_false n.unlisted) i }
-
-  pub also_unlisted : record { changed = n.changed; caption = n.caption; carousel = n.carousel; other = n.other; unlisted = true } ≡ also n (unlisted_news true)
-  also_unlisted i = record { changed = sym (or_false n.changed) i; caption = sym (or_false n.caption) i; carousel = sym (or_false n.carousel) i; other = sym (or_false n.other) i; unlisted = sym (or_true n.unlisted) i }

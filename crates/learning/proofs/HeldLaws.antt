@@ -29,7 +29,7 @@ use Rattle.learning.specs.News.{same_numbers, count_at, same_list, list_new}
 use Rattle.learning.specs.Learnt.{with_news, mpt_held, with_kinds, HeldIs, MptLearnt}
 use Rattle.learning.specs.declared.Extent.{Extent}
 use Rattle.learning.specs.declared.News.{News}
-use Rattle.learning.proofs.PairLaws.{same_true}
+use Rattle.learning.proofs.PairLaws.{same_true, pairs_in_lem, pairs_length, count_small}
 use Rattle.learning.proofs.MapLaws.{mpt_many, held_is}
 
 -- ---- a list written over itself
@@ -148,7 +148,7 @@ module _ (held : Bool) (b : Bytes) (from left : ℕ) (rest : List ℕ) (i : Hold
   pub hold_cut : 0 < left → entry (drop from b) ≡ none → held ≡ false
   hold_cut h q = i.same ∙ rw (many_none entry (drop from b) left h q)
 
-  pub hold_end : left ≡ 0 → held ≡ eqb assets 0
+  hold_end : left ≡ 0 → held ≡ eqb assets 0
   unfolding many same_numbers listed asset_numbers
   hold_end z = i.same ∙ rw z (and_true (eqb assets 0))
 
@@ -156,7 +156,7 @@ module _ (held : Bool) (b : Bytes) (from left : ℕ) (rest : List ℕ) (i : Hold
   pub hold_all : left ≡ 0 → length rest ≡ 0 → held ≡ true
   hold_all z none_left = hold_end z ∙ eq-eqb assets 0 (omega arith)
 
-  pub hold_less : left ≡ 0 → 0 < length rest → held ≡ false
+  pub hold_less : left ≡ 0 → (length rest ≡ 0 → ⊥) → held ≡ false
   hold_less z some_left = hold_end z ∙ ne_eqb assets 0 (λ (q : assets ≡ 0). absurd (omega (arith, i.two_each)))
 
   module _ (r : Asset) (a : AssetIs b from (Some r)) (h : 0 < left) where
@@ -241,12 +241,19 @@ count_past (suc n) i [] h = refl
 count_past (suc n) zero (x ∷ xs) h = absurd (omega arith)
 count_past (suc n) (suc i) (x ∷ xs) h = count_past n i xs (omega arith)
 
-pub count_in : (n i : ℕ) (xs : List ℕ) → i < n → n ≤ length xs → count_at i (pairs_in n xs) ≡ some (get_or xs i 0 % 65536)
+count_in : (n i : ℕ) (xs : List ℕ) → i < n → n ≤ length xs → count_at i (pairs_in n xs) ≡ some (get_or xs i 0 % 65536)
 unfolding count_at pair_of
 count_in zero i xs h l = absurd (omega arith)
 count_in (suc n) i [] h l = absurd (omega arith)
 count_in (suc n) zero (x ∷ xs) h l = refl
 count_in (suc n) (suc i) (x ∷ xs) h l = count_in n i xs (omega arith) (omega arith)
+
+-- the count of one that is held
+pub count_kept : {ms : List (ℕ × ℕ)} {n : ℕ} {xs : List ℕ} → KeptMaps ms n xs → (i : ℕ) → i < n
+    → (get_or xs i 0 % 65536 < 256) × (i < 64) × (count_at i (pairs_in n xs) ≡ some (get_or xs i 0 % 65536))
+count_kept {ms} {n} {xs} k i h =
+    let l : n ≤ length xs = omega (arith, k.pairs.count, k.pairs.few, pairs_length k.pairs) in
+    (count_small n i xs (rw (pairs_in_lem k.pairs) k.hold.small) h l, omega (arith, k.pairs.count, k.pairs.few), count_in n i xs h l)
 
 pub held_none : (o : Out Mpt) (ns : List ℕ) → mpt_held o none ns ≡ false
 held_none none ns = refl

@@ -129,7 +129,7 @@ module _ (b : Bytes) where
       entries_none fresh from left m i l q = rw (mpt_many, list_cut b (h + 1) n fresh from left m i l q)
 
       pub assets_are : (fresh : List ℕ) → length fresh ≡ 510 → (from left m : ℕ) → Listing b (h + 1) n fresh from left m → left ≡ 0
-          → (known news : News) → Met b (h + 1) n known from left news → AssetsAre (mpt b) known (Some (record { count = m; news = news })) fresh
+          → (known news : News) → Met b (h + 1) n known from left news → AssetsAre (mpt b) known (Some (record { numbers = fresh; count = m; news = news }))
       assets_are fresh l from left m i z known news j =
           let all = list_all b (h + 1) n fresh from left m i z in (
             omega (arith, i.few),
@@ -180,7 +180,10 @@ module _ (p i : ℕ) (e : Extent) (map_heads map_room : List ℕ) (at : i ≡ pl
   pub held_is : (o : Out Mpt) → mpt_held o (count_at i (pairs_in e.map_count map_heads)) (drop (512 * i) map_room) ≡ mpt_held o (count_at (place_for p ms) ms) (drop (512 * place_for p ms) map_room)
   held_is o = rw (place, pairs_in_lem k.pairs)
 
-  module _ (b : Bytes) (r : Assets) (fresh : List ℕ) (a : AssetsAre (mpt b) e.news (Some r) fresh) where
+  module _ (b : Bytes) (r : Assets) (a : AssetsAre (mpt b) e.news (Some r)) where
+    abbrev fresh : List ℕ
+    fresh = r.numbers
+
     pub list_lost : 64 ≤ i → MptLearnt p (mpt b) ms e map_room (lost_one (with_news e r.news)) map_heads map_room
     list_lost h = rw (a.1.2, ← place, le-ltb i 64 h) (k, refl, ap (λ (z : News). lost_one (with_news e z)) a.1.5)
 

@@ -2,14 +2,13 @@
 -- invariant is `Sofar`, and what is told as changed. Rests on PairLaws, on the readers at an offset, and on what a PLT's packages hold to.
 use Prim.Native.Nat.{ℕ, zero, suc, ◌+◌, ◌-◌, ◌*◌, ◌/◌, ◌≤◌, ◌<◌}
 use mathlib.Core.Path.{◌≡◌, refl, sym, ap, ap₂, ◌∙◌}
-use mathlib.Core.Bool.{Bool, true, false, cond, not, ◌&&◌, ◌||◌}
+use mathlib.Core.Bool.{Bool, true, false, cond, not, ◌&&◌}
 use mathlib.Core.List.{List, [], ◌∷◌, ◌++◌, map, append-nil}
 use mathlib.Core.Option.{Option, none, some}
-use native.Mathlib.Numerals.{add-one}
 use native.Mathlib.Omega.{arith}
 use lib.ListN.{length, take, drop, get_or, set, length-append, length-map, get_or-map}
 use lib.Arith.{lt_of_le-ne}
-use lib.Seq.{drop-cons, length-take-le, get_or-take}
+use lib.Seq.{length-take-le, get_or-take}
 use lib.Dec.{ltb, eqb}
 use borrow.Author.Tests.{ltb-true, ltb-false, lt-ltb, le-ltb, eqb-true, eq-eqb, ne_eqb}
 use Rattle.std.specs.Prelude as code
@@ -32,8 +31,8 @@ use Rattle.tables.specs.declared.packages.Package as read
 use Rattle.meaning.proofs.ListLaws.{clash, and_both, both_true}
 use Rattle.meaning.proofs.SoundnessKept.{insert_rise, plt_holds}
 use Rattle.learning.specs.Kept.{pairs_in, Pairs, KeptPackages}
-use Rattle.learning.specs.News.{also, change_news, unlisted_news, unlisted, lists_service, plt_news, same_numbers, same_pairs}
-use Rattle.learning.specs.Learnt.{with_news, before, SlotIs, taken, PackagesAre, PltLearnt}
+use Rattle.learning.specs.News.{also, change_news, unlisted_news, unlisted, plt_news, same_numbers, same_pairs}
+use Rattle.learning.specs.Learnt.{with_news, before, Rising, SlotIs, taken, PackagesAre, PltLearnt}
 use Rattle.learning.specs.declared.Extent.{Extent}
 use Rattle.learning.specs.declared.News.{News}
 use Rattle.learning.specs.declared.packages.Services.{Services}
@@ -149,29 +148,38 @@ module _ (s p : ℕ) where
           rw (lt-ltb s q.0 (lt_of_le-ne l (λ e. n (sym e))))
 
 -- a package, as one number v, in its slot
-module _ (N s p v n at : ℕ) (xs : List ℕ) (small : p < 65536) (packed : v ≡ s * 65536 + p) (place : at ≡ before s (pairs_in n xs)) where
+module _ (s p v n at : ℕ) (xs : List ℕ) (small : p < 65536) (packed : v ≡ s * 65536 + p) (place : at ≡ before s (pairs_in n xs)) where
   whole : pack_pair (s, p) ≡ v
   unfolding pack_pair
   whole = sym packed
 
-  slot_for : {ps : List (ℕ × ℕ)} → Pairs N ps n xs → at ≡ before s ps
+  slot_for : {ps : List (ℕ × ℕ)} → Pairs 255 ps n xs → at ≡ before s ps
   slot_for k = place ∙ ap (before s) (pairs_in_lem k)
 
   -- its service was there
-  pub added_over : at < n → get_or xs at 0 / 65536 ≡ s → (ps : List (ℕ × ℕ)) → Pairs N ps n xs → Pairs N (insert_package s p ps) n (set xs at v)
-  added_over h e ps k =
+  pub added_over : at < n → get_or xs at 0 / 65536 ≡ s → (ps : List (ℕ × ℕ)) → Rising ps n xs → Rising (insert_package s p ps) n (set xs at v)
+  added_over h e ps r =
+      let k = r.pairs in
       let q = slot_for k in
       let l : at < length ps = omega (arith, k.count) in
-      pairs_as (pairs_put k (s, p) small at (omega arith) (omega (arith, k.few)))
-      (rw q (insert_over s p ps (rw q at l) (rw q at (first_at k at h ∙ e)))) (omega arith) (ap (set xs at) whole)
+      record {
+        pairs =
+            pairs_as (pairs_put k (s, p) small at (omega arith) (omega (arith, k.few)))
+            (rw q (insert_over s p ps (rw q at l) (rw q at (first_at k at h ∙ e)))) (omega arith) (ap (set xs at) whole);
+        rise = insert_rise s p ps r.rise;
+      }
 
   -- it was not
-  pub added_new : at ≤ n → n < N → (at < n → get_or xs at 0 / 65536 ≡ s → ⊥) → (ys : List ℕ) → ys ≡ take (at + 1) xs ++ (take (n - at) (drop at xs) ++ drop (n + 1) xs)
-      → (ps : List (ℕ × ℕ)) → Pairs N ps n xs → Pairs N (insert_package s p ps) (n + 1) (set ys at v)
-  added_new h f d ys w ps k =
+  pub added_new : at ≤ n → n < 255 → (at < n → get_or xs at 0 / 65536 ≡ s → ⊥) → (ys : List ℕ) → ys ≡ take (at + 1) xs ++ (take (n - at) (drop at xs) ++ drop (n + 1) xs)
+      → (ps : List (ℕ × ℕ)) → Rising ps n xs → Rising (insert_package s p ps) (n + 1) (set ys at v)
+  added_new h f d ys w ps r =
+      let k = r.pairs in
       let q = slot_for k in
       let other : at < length ps → (get_or ps at (0, 0)).0 ≡ s → ⊥ = λ l e. let m : at < n = omega (arith, k.count) in d m (sym (first_at k at m) ∙ e) in
-      pairs_as (pairs_insert k (s, p) small at h f ys w) (rw q (insert_new s p ps (rw q at other))) refl (ap (set ys at) whole)
+      record {
+        pairs = pairs_as (pairs_insert k (s, p) small at h f ys w) (rw q (insert_new s p ps (rw q at other))) refl (ap (set ys at) whole);
+        rise = insert_rise s p ps r.rise;
+      }
 
 -- ---- one package after another
 
@@ -186,11 +194,6 @@ unfolding packages_in
 packages_more [] x ps = refl
 packages_more (y ∷ pre) x ps = packages_more pre x (add_package (service_of y.name) y.carrier ps)
 
-add_rise : (s q : Option ℕ) (ps : List (ℕ × ℕ)) → rising (firsts ps) ≡ true → rising (firsts (add_package s q ps)) ≡ true
-add_rise none q ps r = r
-add_rise (some s) none ps r = r
-add_rise (some s) (some p) ps r = insert_rise s p ps r
-
 -- no count
 pub plt_none : (b : Bytes) → length b ≡ 0 → plt b ≡ none
 unfolding plt
@@ -201,8 +204,7 @@ plt_none b h = rw (u8_none b 0 (omega arith))
 pub record Sofar (b : Bytes) (all left from n : ℕ) (xs : List ℕ) : Type 0 where
   pub pre : List Package
   pub reads : plt b ≡ behind pre (many left package_entry (drop from b))
-  pub pairs : Pairs 255 (packages_in pre []) n xs
-  pub rise : rising (firsts (packages_in pre [])) ≡ true
+  pub kept : Rising (packages_in pre []) n xs
   pub few : n + left ≤ 255
   pub counted : length pre + left ≡ all
 
@@ -213,8 +215,7 @@ module _ (b : Bytes) where
       record {
         pre = [];
         reads = rw (u8_at_lem b 0 1 h (omega arith) refl, q) (behind_nothing (many (get_or b 0 0) package_entry (drop 1 b)));
-        pairs = k;
-        rise = refl;
+        kept = record { pairs = k; rise = refl };
         few = omega arith;
         counted = omega arith;
       }
@@ -226,27 +227,27 @@ module _ (b : Bytes) where
 
     -- one more
     pub turn : (r : read.Package) → 0 < left → PackageIs b from (Some r) → (m : ℕ) (ys : List ℕ)
-        → ((ps : List (ℕ × ℕ)) → Pairs 255 ps n xs → Pairs 255 (taken r.name r.carrier ps) m ys) → m ≤ n + 1 → Sofar b all (left - 1) r.end m ys
+        → ((ps : List (ℕ × ℕ)) → Rising ps n xs → Rising (taken r.name r.carrier ps) m ys) → m ≤ n + 1 → Sofar b all (left - 1) r.end m ys
     turn r h p m ys k l =
         let row : Package = record { name = p.2.0; carrier = p.2.1; bytes_of = take (r.end - from) (drop from b) } in
         let ps = packages_in i.pre [] in
         record {
           pre = i.pre ++ row ∷ [];
           reads = i.reads ∙ rw (many_next package_entry (drop from b) left row (drop r.end b) h p.2.2) (behind_one i.pre row (many (left - 1) package_entry (drop r.end b)));
-          pairs =
-              pairs_as (k ps i.pairs)
-              (ap₂ (λ (a q : code.Option ℕ). taken a q ps) p.2.3 p.2.4 ∙ taken_is (service_of p.2.0) p.2.1 ps ∙ sym (packages_more i.pre row [])) refl refl;
-          rise = rw (packages_more i.pre row []) (add_rise (service_of p.2.0) p.2.1 ps i.rise);
+          kept =
+              let q : taken r.name r.carrier ps ≡ packages_in (i.pre ++ row ∷ []) [] =
+              ap₂ (λ (a q : code.Option ℕ). taken a q ps) p.2.3 p.2.4 ∙ taken_is (service_of p.2.0) p.2.1 ps ∙ sym (packages_more i.pre row []) in
+              rw q at (k ps i.kept);
           few = omega (arith, i.few);
           counted = omega (arith, i.counted, length-append i.pre (row ∷ []));
         }
 
     -- none left
-    pub all_read : left ≡ 0 → PackagesAre (plt b) (Some (record { count = n; unlisted = not (eqb n all) })) xs
+    pub all_read : left ≡ 0 → PackagesAre (plt b) (Some (record { packages = xs; count = n; unlisted = not (eqb n all) }))
     unfolding many unlisted
     all_read z =
         let every : all ≡ length i.pre = omega (arith, i.counted) in
-        (i.pre, drop from b, rw (i.reads, z, append-nil i.pre), i.pairs, ap₂ (λ (a c : ℕ). not (eqb a c)) i.pairs.count every)
+        (i.pre, drop from b, rw (i.reads, z, append-nil i.pre), i.kept.pairs, ap₂ (λ (a c : ℕ). not (eqb a c)) i.kept.pairs.count every)
 
 -- ---- what a PLT makes of what is known
 
@@ -259,9 +260,12 @@ module _ (b : Bytes) (e : Extent) (ps : List (ℕ × ℕ)) (xs : List ℕ) (k : 
   pub plt_unread : plt b ≡ none → PltLearnt (plt b) ps e e xs
   plt_unread h = rw h (refl, k)
 
-  module _ (services : Services) (fresh : List ℕ) (r : PackagesAre (plt b) (Some services) fresh) where
+  module _ (services : Services) (r : PackagesAre (plt b) (Some services)) where
     abbrev n : ℕ
     n = services.count
+
+    abbrev fresh : List ℕ
+    fresh = services.packages
 
     abbrev apart : Bool
     apart = services.unlisted
@@ -317,19 +321,3 @@ module _ (b : Bytes) (e : Extent) (ps : List (ℕ × ℕ)) (xs : List ℕ) (k : 
           extent_is (record { seen = true; package_count = n; map_count = e.map_count; fragment_count = e.fragment_count; leading = e.leading; lost = e.lost; news = now_changed met }) true (length found)
               _ refl r.3.count (news_are true (now_changed met) told (met_changed e.news (unlisted_news apart))),
         )
-
--- ---- a service among the packages
-
-module _ (s n : ℕ) (xs : List ℕ) (i : ℕ) (h : i < n) (l : i < length xs) where
-  one_more : lists_service s (pairs_in (n - i) (drop i xs)) ≡ (eqb (get_or xs i 0 / 65536) s || lists_service s (pairs_in (n - (i + 1)) (drop (i + 1) xs)))
-  unfolding lists_service pair_of
-  one_more =
-      let m : n - i ≡ suc (n - (i + 1)) = omega arith in
-      let d : drop i xs ≡ get_or xs i 0 ∷ drop (i + 1) xs = rw (add-one i) (drop-cons xs i 0 l) in
-      ap₂ (λ (c : ℕ) (ys : List ℕ). lists_service s (pairs_in c ys)) m d
-
-  pub lists_here : get_or xs i 0 / 65536 ≡ s → lists_service s (pairs_in (n - i) (drop i xs)) ≡ true
-  lists_here e = one_more ∙ rw (eq-eqb (get_or xs i 0 / 65536) s e)
-
-  pub lists_next : (get_or xs i 0 / 65536 ≡ s → ⊥) → lists_service s (pairs_in (n - i) (drop i xs)) ≡ lists_service s (pairs_in (n - (i + 1)) (drop (i + 1) xs))
-  lists_next e = one_more ∙ rw (ne_eqb (get_or xs i 0 / 65536) s e)

@@ -7,11 +7,12 @@ use mathlib.Core.List.{List, [], ◌∷◌, ◌++◌, map, map-append, append_as
 use native.Mathlib.Nat.{sub-zero, zero-sub, suc-sub-suc}
 use native.Mathlib.Numerals.{add-one}
 use native.Mathlib.Omega.{arith}
-use lib.ListN.{length, take, drop, get_or, set, replicate, length-append, length-map, length-replicate, length-drop, length-set, drop_of_length-le, take-append-drop, get_or-append, get_or-map}
-use lib.Seq.{length-take-le, take-append-le, take-set-lt, take-suc-set, set_split, set-append_left, append_snoc, drop-cons, get_or-take}
+use lib.ListN.{length, take, drop, get_or, set, replicate, length-append, length-map, length-replicate, length-drop, drop_of_length-le, get_or-map}
+use lib.Seq.{length-take-le, take-append-le, take-set-lt, take-suc-set, set_split, set-append_left, append_snoc, get_or-take}
 use lib.Dec.{eqb}
 use lib.Pointwise.{pointwise}
 use borrow.Author.Tests.{eq-eqb, eqb-true}
+use Rattle.std.specs.List.{copy_within}
 use Rattle.meaning.specs.Record.{slots, pack_pair, pair_of}
 use Rattle.meaning.specs.Soundness.{SecondsBelow}
 use Rattle.meaning.proofs.SoundnessLaws.{slots_used, used, pair_pack}
@@ -86,44 +87,9 @@ open_put xs r i v h =
     ∙ ap (λ (z : List ℕ). z ++ r) (sym (take-set-lt (suc i) xs i v (omega arith)) ∙ take-suc-set xs i v h)
     ∙ append_snoc (take i xs) v r)
 
--- A slot is opened at `at` one at a time, from above: those from i on are moved.
-pub record Opened (d : List ℕ) (n at : ℕ) (e : List ℕ) (i : ℕ) : Type 0 where
-  pub above : at ≤ i
-  pub within : i ≤ n
-  pub same_length : length e ≡ length d
-  pub are : e ≡ take (i + 1) d ++ (take (n - i) (drop i d) ++ drop (n + 1) d)
-
-module _ (d : List ℕ) (n at : ℕ) (in_n : at ≤ n) (in_d : n < length d) where
-  pub opened_none : Opened d n at d n
-  opened_none =
-      let z : n - n ≡ 0 = omega arith in
-      record { above = in_n; within = omega arith; same_length = refl; are = rw z (sym (take-append-drop (n + 1) d)) }
-
-  module _ (e : List ℕ) (i : ℕ) (k : Opened d n at e i) where
-    -- what is moved next still stands where it stood
-    pub opened_next : at < i → Opened d n at (set e i (get_or e (i - 1) 0)) (i - 1)
-    opened_next h =
-        let l : i ≤ n = k.within in
-        let a : i - 1 + 1 ≡ i = omega arith in
-        let b : n - (i - 1) ≡ suc (n - i) = omega arith in
-        let c : suc (i - 1) ≡ i = omega arith in
-        let x = get_or d (i - 1) 0 in
-        let r = take (n - i) (drop i d) ++ drop (n + 1) d in
-        let w : length (take (i + 1) d) ≡ i + 1 = length-take-le (i + 1) d (omega arith) in
-        let g : get_or e (i - 1) 0 ≡ x =
-        ap (λ (z : List ℕ). get_or z (i - 1) 0) k.are ∙ get_or-append (take (i + 1) d) r 0 (i - 1) (omega arith) ∙ get_or-take (i + 1) d (i - 1) 0 (omega arith) in
-        let t : drop (i - 1) d ≡ x ∷ drop i d = drop-cons d (i - 1) 0 (omega arith) ∙ ap (λ (z : ℕ). x ∷ drop z d) c in
-        record {
-          above = omega arith;
-          within = omega arith;
-          same_length = length-set e i (get_or e (i - 1) 0) ∙ k.same_length;
-          are = ap₂ (λ (y : List ℕ) (z : ℕ). set y i z) k.are g ∙ open_put d r i x (omega arith) ∙ rw (a, b, t);
-        }
-
-    pub opened_all : i ≤ at → e ≡ take (at + 1) d ++ (take (n - at) (drop at d) ++ drop (n + 1) d)
-    opened_all h =
-        let q : i ≡ at = omega (arith, k.above) in
-        rw q at k.are
+-- those from a slot on moved one up
+pub opened : (xs : List ℕ) (at n : ℕ) → at ≤ n → copy_within xs at n (at + 1) ≡ take (at + 1) xs ++ (take (n - at) (drop at xs) ++ drop (n + 1) xs)
+opened xs at n h = let e : at + 1 + (n - at) ≡ n + 1 = omega arith in rw (append_assoc, e)
 
 -- ---- pairs in an array
 

@@ -6,6 +6,7 @@ use Rattle.meaning.specs.Bytes.{Bytes}
 use Rattle.meaning.specs.Readers.{Out}
 use Rattle.meaning.specs.Tables.{Entry, Mpt, Package, kind_number}
 use Rattle.meaning.specs.Learn.{asset_numbers, over, place_for, listed, insert_package, packages_in}
+use Rattle.meaning.specs.Soundness.{rising, firsts}
 use Rattle.meaning.specs.declared.Part.{Part}
 use Rattle.learning.specs.Kept.{pairs_in, Pairs, KeptPackages, KeptMaps}
 use Rattle.learning.specs.News.{also, kinds_in, unlisted, plt_news, same_list, list_news}
@@ -29,6 +30,11 @@ abbrev pub SlotIs : ℕ → ℕ → List ℕ → Result ℕ ℕ → Type 0
 SlotIs s n xs (Ok at) = (at ≡ before s (pairs_in n xs)) × (at < n) × (get_or xs at 0 / 65536 ≡ s)
 SlotIs s n xs (Err at) = (at ≡ before s (pairs_in n xs)) × (at ≤ n) × (at < n → get_or xs at 0 / 65536 ≢ s)
 
+-- Pairs in the slots of a PLT's packages, services rising.
+pub record Rising (ps : List (ℕ × ℕ)) (n : ℕ) (xs : List ℕ) : Type 0 where
+  pub pairs : Pairs 255 ps n xs
+  pub rise : rising (firsts ps) ≡ true
+
 -- One more package, if it has a service and an identifier.
 abbrev pub taken : code.Option ℕ → code.Option ℕ → List (ℕ × ℕ) → List (ℕ × ℕ)
 taken None c ps = ps
@@ -36,10 +42,10 @@ taken (Some s) None ps = ps
 taken (Some s) (Some p) ps = insert_package s p ps
 
 -- The packages of a PLT's body that have a service and an identifier, in an array of their own, and whether those are not all.
-abbrev pub PackagesAre : Out (List Package) → code.Option Services → List ℕ → Type 0
-PackagesAre o (Some r) xs =
-    (ys : List Package) × (more : Bytes) × (o ≡ some (ys, more)) × Pairs 255 (packages_in ys []) r.count xs × (r.unlisted ≡ unlisted ys)
-PackagesAre o None xs = o ≡ none
+abbrev pub PackagesAre : Out (List Package) → code.Option Services → Type 0
+PackagesAre o (Some r) =
+    (ys : List Package) × (more : Bytes) × (o ≡ some (ys, more)) × Pairs 255 (packages_in ys []) r.count r.packages × (r.unlisted ≡ unlisted ys)
+PackagesAre o None = o ≡ none
 
 -- What a PLT makes of the extent and of the packages.
 abbrev pub PltLearnt : Out (List Package) → List (ℕ × ℕ) → Extent → Extent → List ℕ → Type 0
@@ -59,11 +65,11 @@ PltLearnt (some (ys, more)) ps e r xs =
 -- ---- an MPT
 
 -- The listed assets of an MPT's body, as numbers at the front of an array of their own, and what is new with the kinds of all.
-abbrev pub AssetsAre : Out Mpt → News → code.Option Assets → List ℕ → Type 0
-AssetsAre o known (Some r) xs =
+abbrev pub AssetsAre : Out Mpt → News → code.Option Assets → Type 0
+AssetsAre o known (Some r) =
     (r.count ≤ 255)
-    × ((m : Mpt) × (more : Bytes) × (o ≡ some (m, more)) × (r.count ≡ length (listed m.entries)) × (take (2 * r.count) xs ≡ asset_numbers (listed m.entries)) × (r.news ≡ also known (kinds_in m.entries)))
-AssetsAre o known None xs = o ≡ none
+    × ((m : Mpt) × (more : Bytes) × (o ≡ some (m, more)) × (r.count ≡ length (listed m.entries)) × (take (2 * r.count) r.numbers ≡ asset_numbers (listed m.entries)) × (r.news ≡ also known (kinds_in m.entries)))
+AssetsAre o known None = o ≡ none
 
 -- The two numbers of an asset, if it has an identifier.
 abbrev pub numbers_of : code.Option ℕ → Part → List ℕ

@@ -14,6 +14,7 @@ use octets::wide;
 use tables::assets::{Asset, asset_at, mpt_front};
 
 // The place of an identifier's list among the first `n`: where it stands, or `n`.
+// Stays: a number, no Option, since the definition's `place_for` is one: with no list there the place is where a new one goes.
 pub fn place_for(map_heads: &[u32; 64], n: usize, id: u16) -> usize
     requires { n ≤ 64 }
     ensures { (result ≡ place_for id (pairs_in n map_heads.now)) × (result ≤ n) }
@@ -24,23 +25,11 @@ pub fn place_for(map_heads: &[u32; 64], n: usize, id: u16) -> usize
         .unwrap_or(n)
 }
 
+// The number of a kind in the map room.
 fn kind_number(part: Part) -> u16
     ensures { result ≡ kind_number part }
 {
     part as u16
-}
-
-// One more asset behind `n`, if it has an identifier; answers how many there are.
-fn list_asset(fresh: &mut [u16; 510], n: usize, asset: Asset) -> usize
-    requires { n < 255 }
-    ensures { (take (2 * result) fresh.new ≡ take (2 * n) fresh.old ++ numbers_of asset.carrier asset.part) × (n ≤ result) × (result ≤ n + 1) }
-{
-    let Some(id) = asset.carrier else {
-        return n;
-    };
-    fresh[2 * n] = id;
-    fresh[2 * n + 1] = kind_number(asset.part);
-    n + 1
 }
 
 // What is new, and that an asset of this kind stands there.
@@ -57,29 +46,53 @@ fn with_kind(n: News, part: Part) -> News
     }
 }
 
-// The assets of an MPT's body: how many are listed, and what is new with the kinds of all.
+// The assets of an MPT's body as far as they are read: the numbers of those that are listed, an identifier and a kind for each, and what is
+// new with the kinds of all.
+// Stays: an array and a count, since there is no heap (fixed memory), so no Vec.
 #[derive(Clone, Copy)]
 pub struct Assets {
+    pub numbers: [u16; 510],
     pub count: usize,
     pub news: News,
 }
 
-// The listed assets of an MPT's body.
-fn assets_of(b: &[u8], known: News, fresh: &mut [u16; 510]) -> Option<Assets>
-    ensures { AssetsAre (mpt b.now) known result fresh.new }
+impl Assets {
+    // One more asset, listed if it has an identifier.
+    fn take(&mut self, asset: Asset)
+        requires { self.old.count < 255 }
+        ensures listed { take (2 * self.new.count) self.new.numbers ≡ take (2 * self.old.count) self.old.numbers ++ numbers_of asset.carrier asset.part }
+        ensures few { self.new.count ≤ self.old.count + 1 }
+        ensures told { self.new.news ≡ also self.old.news (kind_news asset.part) }
+        ensures all { length self.new.numbers ≡ 510 }
+    {
+        self.news = with_kind(self.news, asset.part);
+        let Some(id) = asset.carrier else {
+            return;
+        };
+        self.numbers[2 * self.count] = id;
+        self.numbers[2 * self.count + 1] = kind_number(asset.part);
+        self.count += 1;
+    }
+}
+
+// The listed assets of an MPT's body, and what is new beside what was known.
+fn assets_of(b: &[u8], known: News) -> Option<Assets>
+    ensures { AssetsAre (mpt b.now) known result }
 {
     let front = mpt_front(b)?;
     let all = wide(*b.get(front)?);
+    let mut assets = Assets {
+        numbers: [0; 510],
+        count: 0,
+        news: known,
+    };
     let mut from = front + 1;
-    let mut count = 0;
-    let mut news = known;
     for _ in 0..all {
         let asset = asset_at(b, from)?;
         from = asset.end;
-        news = with_kind(news, asset.part);
-        count = list_asset(fresh, count, asset);
+        assets.take(asset);
     }
-    Some(Assets { count, news })
+    Some(assets)
 }
 
 // Writes the first `n` numbers to the map room from `base` on.
@@ -94,21 +107,20 @@ fn list_to(fresh: &[u16; 510], n: usize, map_room: &mut [u16], base: usize)
 fn keep_list(
     i: usize,
     id: u16,
-    n: usize,
-    fresh: &[u16; 510],
+    assets: &Assets,
     e: Extent,
     map_heads: &mut [u32; 64],
     map_room: &mut [u16],
 ) -> Extent
-    requires { (i < 64) × (n ≤ 255) × (i ≤ e.map_count) × (e.map_count ≤ 64) × (length map_room.old ≡ 32768) }
-    ensures { HeadsAre i id n fresh.now e map_heads.old map_room.old result map_heads.new map_room.new }
+    requires { (i < 64) × (assets.now.count ≤ 255) × (i ≤ e.map_count) × (e.map_count ≤ 64) × (length map_room.old ≡ 32768) }
+    ensures { HeadsAre i id assets.now.count assets.now.numbers e map_heads.old map_room.old result map_heads.new map_room.new }
 {
     let head = Pair {
         first: id,
-        second: n as u16,
+        second: assets.count as u16,
     };
     map_heads[i] = head.into();
-    list_to(fresh, 2 * n, map_room, 512 * i);
+    list_to(&assets.numbers, 2 * assets.count, map_room, 512 * i);
     Extent {
         map_count: e.map_count.max(i + 1),
         news: changed(e.news),
@@ -185,13 +197,12 @@ pub fn mpt(b: &[u8], id: u16, e: Extent, map_heads: &mut [u32; 64], map_room: &m
     if let Some(news) = held_news_at(b, i, e, map_heads, map_room) {
         return with_news(e, news);
     }
-    let mut fresh = [0; 510];
-    let Some(assets) = assets_of(b, e.news, &mut fresh) else {
+    let Some(assets) = assets_of(b, e.news) else {
         return e;
     };
     let known = with_news(e, assets.news);
     if 64 <= i {
         return lose_one(known);
     }
-    keep_list(i, id, assets.count, &fresh, known, map_heads, map_room)
+    keep_list(i, id, &assets, known, map_heads, map_room)
 }

@@ -15,31 +15,30 @@ returns-in_err-get c =
 pub loop-init : goal.loop-init
 loop-init c =
     let all : c.wide-all.result - 0 ≡ c.wide-all.result = omega arith in
-    rw all (list_start _ _ _ _ c.wide-all.ensures.1, record { met = refl }, c.told-fresh)
+    rw all (list_start _ _ _ _ c.wide-all.ensures.1, record { met = refl }, refl)
 
 pub returns-in_err-asset : goal.returns-in_err-asset
 returns-in_err-asset c =
-    let b = c.args.b.now in
     let w = c.wide-all in
     let l = c.loop in
     let there = c.in_ok-get.ensures.lookup.3 in
     rw c.from_residual-in_err-asset.ensures
-    (entries_none b c.in_ok-front.front c.in_ok-front.ensures there.0 w.result (w.ensures.0 ∙ there.1 0) w.ensures.1 l.fresh l.from (w.result - l.counter) l.count
-    l.invariant.0 (omega arith) c.in_err-asset.ensures)
+    (entries_none c.args.b.now c.in_ok-front.front c.in_ok-front.ensures there.0 w.result (w.ensures.0 ∙ there.1 0) w.ensures.1 l.assets.numbers l.from (w.result - l.counter)
+    l.assets.count l.invariant.0 (omega arith) c.in_err-asset.ensures)
 
-pub list_asset-count-requires : goal.list_asset-count-requires
-list_asset-count-requires c = omega (arith, c.loop.invariant.0.few)
+pub take-requires : goal.take-requires
+take-requires c = omega (arith, c.loop.invariant.0.few)
 
 pub loop-preserved : goal.loop-preserved
 loop-preserved c =
     let l = c.loop in
-    let q = c.list_asset-count in
+    let q = c.take in
     let one_less : c.wide-all.result - (l.counter + 1) ≡ c.wide-all.result - l.counter - 1 = omega arith in
     let asset = c.in_ok-asset.ensures in
     rw one_less (
-      list_next _ _ _ l.fresh l.from _ l.count l.invariant.0 c.in_ok-asset.asset q.new.fresh q.result (omega arith) asset q.ensures.0 q.ensures.2,
-      rw c.with_kind-news.ensures (met_next _ _ _ _ l.from _ l.news l.invariant.1 c.in_ok-asset.asset (omega arith) asset),
-      q.array_long,
+      list_next _ _ _ l.assets.numbers l.from _ l.assets.count l.invariant.0 c.in_ok-asset.asset q.new.self.numbers q.new.self.count (omega arith) asset q.ensures.listed q.ensures.few,
+      rw q.ensures.told (met_next _ _ _ _ l.from _ l.assets.news l.invariant.1 c.in_ok-asset.asset (omega arith) asset),
+      q.ensures.all,
     )
 
 pub returns : goal.returns
@@ -47,5 +46,5 @@ returns c =
     let w = c.wide-all in
     let l = c.loop in
     let there = c.in_ok-get.ensures.lookup.3 in
-    assets_are _ c.in_ok-front.front c.in_ok-front.ensures there.0 w.result (w.ensures.0 ∙ there.1 0) w.ensures.1 l.fresh l.invariant.2 l.from _ l.count l.invariant.0 (omega arith) _
-    l.news l.invariant.1
+    assets_are _ c.in_ok-front.front c.in_ok-front.ensures there.0 w.result (w.ensures.0 ∙ there.1 0) w.ensures.1 l.assets.numbers l.invariant.2 l.from _ l.assets.count l.invariant.0
+    (omega arith) _ l.assets.news l.invariant.1

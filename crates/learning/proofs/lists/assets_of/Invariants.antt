@@ -7,6 +7,6 @@ use Rattle.learning.proofs.lists.assets_of.Given as goal
 
 abbrev pub invariant-loop : goal.invariant-loop
 invariant-loop l =
-    Listing l.b l.initial.from l.all l.fresh l.from (l.all - l.counter) l.count
-    × Met l.b l.initial.from l.all l.initial.news l.from (l.all - l.counter) l.news
-    × (length l.fresh ≡ 510)
+    Listing l.b l.initial.from l.all l.assets.numbers l.from (l.all - l.counter) l.assets.count
+    × Met l.b l.initial.from l.all l.fn.known l.from (l.all - l.counter) l.assets.news
+    × (length l.assets.numbers ≡ 510)

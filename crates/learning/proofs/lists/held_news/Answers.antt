@@ -1,11 +1,10 @@
-use borrow.Author.Tests.{eq-eqb, ne_eqb}
+use borrow.Author.Tests.{eqb-true, eqb-false, eq-eqb, ne_eqb}
 use Prim.Native.Nat.{◌+◌, ◌-◌}
 use mathlib.Core.Path.{◌≡◌, refl, sym, ◌∙◌}
 use mathlib.Core.Bool.{true, false, ◌&&◌}
 use native.Mathlib.Omega.{arith}
 use lib.Dec.{eqb}
-use lib.ListN.{get_or}
-use Rattle.std.proofs.lemmas.Bool.Decides.{nat_tests}
+use lib.ListN.{length, get_or}
 use Rattle.meaning.specs.Tables.{kind_number}
 use Rattle.meaning.proofs.ListLaws.{and_false}
 use Rattle.learning.proofs.HeldLaws.{hold_start, hold_cut, hold_all, hold_less, hold_past, hold_more, hold_other, hold_next}
@@ -76,14 +75,13 @@ loop-preserved c =
 pub returns-then-not-is_empty : goal.returns-then-not-is_empty
 returns-then-not-is_empty c =
     let l = c.loop in
-    let e = c.if-not-is_empty.ensures in
-    hold_less _ _ l.from _ l.rest.now l.invariant.0 (omega arith) (grind (arith, nat_tests))
+    hold_less _ _ l.from _ l.rest.now l.invariant.0 (omega arith) (eqb-false (length l.rest.now) 0 (sym c.if-not-is_empty.ensures))
 
 pub returns : goal.returns
 returns c =
     let w = c.wide-all in
     let l = c.loop in
     let there = c.in_ok-get.ensures.lookup.3 in (
-      hold_all _ _ l.from _ l.rest.now l.invariant.0 (omega arith) (grind (arith, nat_tests)),
+      hold_all _ _ l.from _ l.rest.now l.invariant.0 (omega arith) (eqb-true (length l.rest.now) 0 (sym c.if-not-is_empty.ensures)),
       met_mpt _ c.in_ok-front.front c.in_ok-front.ensures there.0 w.result (w.ensures.0 ∙ there.1 0) w.ensures.1 _ l.from _ l.news l.invariant.1 (omega arith),
     )

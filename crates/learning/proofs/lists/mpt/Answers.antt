@@ -26,7 +26,7 @@ returns-then-i-ge64 c = λ ms k.
     let a = c.args in
     let w = c.place_for-i in
     rw (c.lose_one.ensures, c.with_news-known.ensures)
-    (list_lost a.id w.result a.e a.map_heads.now a.map_room.now w.ensures.0 ms k a.b.now _ _ (rw c.in-Some-assets_of.is at c.assets_of.ensures) (omega arith))
+    (list_lost a.id w.result a.e a.map_heads.now a.map_room.now w.ensures.0 ms k a.b.now _ (rw c.in-Some-assets_of.is at c.assets_of.ensures) (omega arith))
 
 pub keep_list-requires : goal.keep_list-requires
 keep_list-requires c =
@@ -40,5 +40,5 @@ pub returns : goal.returns
 returns c = λ ms k.
     let a = c.args in
     let w = c.place_for-i in
-    list_kept a.id w.result a.e a.map_heads.now a.map_room.now w.ensures.0 ms k a.b.now _ _ (rw c.in-Some-assets_of.is at c.assets_of.ensures) (omega arith)
+    list_kept a.id w.result a.e a.map_heads.now a.map_room.now w.ensures.0 ms k a.b.now _ (rw c.in-Some-assets_of.is at c.assets_of.ensures) (omega arith)
     (rw c.in_default.is at c.held_news_at.ensures) _ _ _ (rw c.with_news-known.ensures at c.keep_list.ensures)

@@ -16,6 +16,6 @@ returns c =
     let xs = take a.n a.map_heads.now in
     let l : length xs ≡ a.n = length-take-le a.n a.map_heads.now (omega arith) in
     let found =
-    position_from_yields_List (λ x. eqb (x / 65536) a.id) _ _ _ c.position.ensures.ran (YieldsList-from_slice xs cc) (λ x b q k. search (rules, tests)) in
+    position_from_yields_List (λ x. eqb (x / 65536) a.id) _ _ _ c.position.ensures.ran (YieldsList-from_slice xs c.iter.ensures.rest) (λ x b q k. search (rules, tests)) in
     let at = found_or _ c.position.result xs a.n l found in
     rw c.unwrap_or.ensures (at.0 ∙ sym (place_is a.id xs), at.1)

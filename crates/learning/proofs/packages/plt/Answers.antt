@@ -1,11 +1,7 @@
 use mathlib.Core.Path.{◌∙◌, sym}
 use native.Mathlib.Omega.{arith}
-use Rattle.learning.proofs.PairLaws.{pairs_none}
 use Rattle.learning.proofs.PackageLaws.{plt_unread, plt_known, plt_new}
 use Rattle.learning.proofs.packages.plt.Goals as goal
-
-pub packages_of-requires : goal.packages_of-requires
-packages_of-requires c = pairs_none 255
 
 pub returns-in_default : goal.returns-in_default
 returns-in_default c =
@@ -24,7 +20,7 @@ returns-then-is_known c =
     let a = c.args in
     let r = rw c.in-Some.is at c.packages_of.ensures in
     let told = rw c.with_news-known.ensures at c.is_known.ensures in
-    rw (c.with_news-known.ensures, c.with_unlisted.ensures) (plt_known a.b.now a.e ps a.packages.now k _ _ r (sym told ∙ c.if-is_known.true))
+    rw (c.with_news-known.ensures, c.with_unlisted.ensures) (plt_known a.b.now a.e ps a.packages.now k _ r (sym told ∙ c.if-is_known.true))
 
 pub returns : goal.returns
 returns c =
@@ -32,4 +28,4 @@ returns c =
     let a = c.args in
     let r = rw c.in-Some.is at c.packages_of.ensures in
     let told = rw c.with_news-known.ensures at c.is_known.ensures in
-    rw (c.changed.ensures, c.with_news-known.ensures, c.with_unlisted.ensures) (plt_new a.b.now a.e ps a.packages.now k _ _ r (sym told ∙ c.if-is_known.false))
+    rw (c.changed.ensures, c.with_news-known.ensures, c.with_unlisted.ensures) (plt_new a.b.now a.e ps a.packages.now k _ r (sym told ∙ c.if-is_known.false))
