@@ -17,7 +17,7 @@ returns-then-not-picks g c =
 pub slice_bounds-by_assets-end : goal.slice_bounds-by_assets-end
 slice_bounds-by_assets-end g c =
     let a = c.args in
-    list_within a.map_count c.place_for-i.result a.kept.now.map_heads a.map_room.now c.requires c.if-i-map_count.true
+    omega (arith, list_within a.map_count c.place_for-i.result a.kept.now.map_heads a.map_room.now c.requires c.if-i-map_count.true)
 
 pub returns-then-i-map_count : goal.returns-then-i-map_count
 returns-then-i-map_count g c =
