@@ -3,7 +3,8 @@
 ghost use Rattle.std.specs.Prelude.{◌≤◌, length};
 
 use crate::clauses::Clause;
-use meaning::{Options, Service};
+use learning::Kept;
+use meaning::{Limits, Options, Service};
 use recorder::Filter;
 use recorder::sound::is_sound;
 use std::array::from_fn;
@@ -37,9 +38,7 @@ fn in_rooms(filter: Filter, work: usize, total: usize, map_room: usize) -> Lent 
 
 fn limited(f: Filter, work: usize, total: usize, most: usize) -> Filter {
     Filter {
-        work,
-        total,
-        most,
+        limits: Limits { work, total, most },
         ..f
     }
 }
@@ -87,7 +86,7 @@ fn with_packages(f: Filter, package_count: usize, first: &[u32]) -> Filter
     packages[0..first.len()].copy_from_slice(first);
     Filter {
         package_count,
-        packages,
+        kept: Kept { packages, ..f.kept },
         ..f
     }
 }
@@ -99,7 +98,7 @@ fn with_maps(f: Filter, map_count: usize, first: &[u32]) -> Filter
     map_heads[0..first.len()].copy_from_slice(first);
     Filter {
         map_count,
-        map_heads,
+        kept: Kept { map_heads, ..f.kept },
         ..f
     }
 }
@@ -111,7 +110,7 @@ fn with_fragments(f: Filter, fragment_count: usize, first: &[u64]) -> Filter
     fragment_heads[0..first.len()].copy_from_slice(first);
     Filter {
         fragment_count,
-        fragment_heads,
+        kept: Kept { fragment_heads, ..f.kept },
         ..f
     }
 }
