@@ -1,6 +1,6 @@
 -- Narrowing by demand 1: the lowest number that applies, and nothing changed where it is refused; and what a result tells of a change is what
 -- the definition changes. Rests on the promise of the three narrowings.
-use Rattle.std.specs.Prelude.{Ok, Err}
+use Rattle.std.specs.Prelude.{Ok, Err, Some, None}
 use Prim.Native.Nat.{ℕ, ◌≤◌}
 use mathlib.Core.Path.{◌≡◌, refl, sym, ap, ap₂, ◌∙◌, subst}
 use mathlib.Core.Bool.{Bool, true, false, cond, not}
@@ -95,12 +95,12 @@ module _ (n : Bytes) (c : Option Change) (d : Bytes) where
 result_with : (a b : Bool) (c : Option Change) (d : Bytes) → (r : narrow.Narrowed) × (d' : Bytes) × NarrowedAs (cond a (cond b 0 6) 5) c d d' r.narrowing r.stayed r.went
 unfolding change_made number_of narrowing_number narrowing_changed narrowing_length
 result_with true true none d = (
-  record { narrowing = (Ok None); stayed = none_of_each; went = none_of_each },
+  record { narrowing = Ok None; stayed = none_of_each; went = none_of_each },
   d,
   record { number_is = refl; changed_is = refl; written = wrote_none d 0; stays_are = refl; goes_are = refl },
 )
 result_with true true (some c) d = (
-  record { narrowing = Narrowing.Changed (length c.out); stayed = c.stays; went = c.goes },
+  record { narrowing = Ok (Some (length c.out)); stayed = c.stays; went = c.goes },
   c.out ++ drop (length c.out) d,
   record { number_is = refl; changed_is = refl; written = overwritten c.out d (length c.out) refl; stays_are = refl; goes_are = refl },
 )

@@ -38,9 +38,7 @@ use Rattle.demands.proofs.Narrowings.{narrow_unique}
 
 abbrev pub filter_of : Record → Filter
 filter_of r = record {
-  work = r.limits.work;
-  total = r.limits.total;
-  most = r.limits.most;
+  limits = r.limits;
   modes = r.modes;
   options = r.options;
   held_count = r.held_count;
@@ -49,10 +47,12 @@ filter_of r = record {
   map_count = r.map_count;
   fragment_count = r.fragment_count;
   leading = r.leading;
-  data_set = r.data_set;
-  packages = r.packages;
-  map_heads = r.map_heads;
-  fragment_heads = r.fragment_heads;
+  kept = record {
+    data_set = record { words = r.data_set };
+    packages = r.packages;
+    map_heads = r.map_heads;
+    fragment_heads = r.fragment_heads;
+  };
 }
 
 filter_back : (f : Filter) → filter_of (record_in f) ≡ f

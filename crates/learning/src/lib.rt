@@ -37,7 +37,7 @@ pub struct Extent {
 }
 
 // What a record keeps of a broadcast beside its numbers: the data set, packages and map heads as pairs packed in one number, fragment heads.
-#[derive(Clone, Copy)]
+#[derive(Clone, Copy, PartialEq, Eq)]
 pub struct Kept {
     pub data_set: IdSet,
     pub packages: [u32; 255],

@@ -2,14 +2,15 @@
 #![tactic(auto)]
 
 // Which service a recording is of: each one of the broadcast, or the one with this number.
-#[derive(Clone, Copy)]
+// Stays: an Option is no plainer, since its None would read as no service where each one is meant.
+#[derive(Clone, Copy, PartialEq, Eq)]
 pub enum Service {
     Every,
     Only(u16),
 }
 
 // What is wanted: a service, and the four wishes; `other` are assets that are neither captions nor carousels.
-#[derive(Clone, Copy)]
+#[derive(Clone, Copy, PartialEq, Eq)]
 pub struct Options {
     pub service: Service,
     pub caption: bool,
@@ -19,13 +20,13 @@ pub struct Options {
 }
 
 // What the filter does beyond 01, each mode off or on; all off is 01's filter. In `plain_ip` tables are narrowed in plain IP packets too.
-#[derive(Clone, Copy)]
+#[derive(Clone, Copy, PartialEq, Eq)]
 pub struct Modes {
     pub plain_ip: bool,
 }
 
 // The limits of a start: the lengths of the work room and of the fragment room, and the most bytes of one message.
-#[derive(Clone, Copy)]
+#[derive(Clone, Copy, PartialEq, Eq)]
 pub struct Limits {
     pub work: usize,
     pub total: usize,
@@ -49,7 +50,7 @@ pub enum Step {
 }
 
 // What a call reports.
-#[derive(Clone, Copy)]
+#[derive(Clone, Copy, PartialEq, Eq)]
 pub struct Counts {
     pub bytes: usize,
     pub accepted: usize,

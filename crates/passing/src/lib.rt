@@ -289,6 +289,7 @@ fn row_at(run: &[u8], from: usize, limit: usize, set: &IdSet, is_ready: bool) ->
 {
     let mut at = from;
     let mut count: usize = 0;
+    // Stays: `at` is no index, it goes on by the length of each packet that is found; a range has no such step, so `for` is no plainer.
     while at - from < 256 {
         let here = at;
         match next(run, here, limit) {

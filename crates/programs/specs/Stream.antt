@@ -1,6 +1,6 @@
 -- What becomes of a chunk, how far a stream has come, and what an input leaves to be told: the definition's calls for chunks that were
 -- read. Which bytes they have no contract can say, so they are said to be there.
-use Rattle.std.specs.Prelude.{ℕ, ◌≤◌, ◌≡◌, Bool, cond, true, false, List, ◌++◌, length, take, eqb, Option, Some, None, IsSome}
+use Rattle.std.specs.Prelude.{ℕ, ◌≤◌, ◌≡◌, Bool, cond, true, false, List, ◌++◌, length, take, eqb, Option, Some, None, IsSome, Err}
 use Rattle.meaning.specs.Bytes.{Bytes}
 use Rattle.meaning.specs.Writing.{Wrote}
 use Rattle.meaning.specs.Wishes.{wants_assets, all_off}
