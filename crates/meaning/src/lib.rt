@@ -2,14 +2,14 @@
 #![tactic(auto)]
 
 // Which service a recording is of: each one of the broadcast, or the one with this number.
-#[derive(Clone, Copy)]
+#[derive(Clone, Copy, PartialEq, Eq)]
 pub enum Service {
     Every,
     Only(u16),
 }
 
 // What is wanted: a service, and the four wishes; `other` are assets that are neither captions nor carousels.
-#[derive(Clone, Copy)]
+#[derive(Clone, Copy, PartialEq, Eq)]
 pub struct Options {
     pub service: Service,
     pub caption: bool,
@@ -19,7 +19,7 @@ pub struct Options {
 }
 
 // What the filter does beyond 01, each mode off or on; all off is 01's filter. In `plain_ip` tables are narrowed in plain IP packets too.
-#[derive(Clone, Copy)]
+#[derive(Clone, Copy, PartialEq, Eq)]
 pub struct Modes {
     pub plain_ip: bool,
 }
@@ -49,7 +49,7 @@ pub enum Step {
 }
 
 // What a call reports.
-#[derive(Clone, Copy)]
+#[derive(Clone, Copy, PartialEq, Eq)]
 pub struct Counts {
     pub bytes: usize,
     pub accepted: usize,

@@ -28,7 +28,7 @@ use soundness::{good_fragment_room, good_map_room, good_work_room, wants_assets}
 
 // The record, as specs/Record.antt of `meaning` has it. In one that a start or a push that is not refused hands back, unused slots are zero;
 // in one handed in they may hold anything (D9), and `dropped` leaves them as they are.
-#[derive(Clone, Copy)]
+#[derive(Clone, Copy, PartialEq, Eq)]
 pub struct Filter {
     // The start's limits: the lengths of the work room and of the fragment room, and the most bytes of one message.
     pub work: usize,

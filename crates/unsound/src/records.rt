@@ -1,14 +1,12 @@
 // The records: for each clause one that a number makes unsound by this clause alone, or sound. So the two records of a clause differ in
 // this number only, by one where that is enough. Over the record of a start: W 4,096, so P is 2,048, T and M 16.
+ghost use Rattle.std.specs.Prelude.{◌≤◌, length};
+
+use crate::clauses::Clause;
 use meaning::{Options, Service};
 use recorder::Filter;
 use recorder::sound::is_sound;
-
-// How many clauses there are: 01's, and that of 02 [1]. That of a drop set carried in the record is none of them: ours carries none.
-pub const CLAUSES: usize = 24;
-
-// The clause of T above its range.
-pub const T_ABOVE: usize = 9;
+use std::array::from_fn;
 
 // The start's W, its T, which is its M too, and the length of the map room.
 pub const W: usize = 4096;
@@ -26,43 +24,6 @@ pub struct Lent {
     pub map_room: usize,
 }
 
-// The number that makes a clause's record unsound, and the nearest with which it is sound.
-#[derive(Clone, Copy)]
-pub struct Numbers {
-    pub unsound: usize,
-    pub sound: usize,
-}
-
-fn two(unsound: usize, sound: usize) -> Numbers {
-    Numbers { unsound, sound }
-}
-
-pub fn numbers_of(clause: usize) -> Numbers {
-    match clause {
-        0 | 1 => two(4097, 4096),
-        2 | 3 => two(17, 16),
-        4 => two(32769, 32768),
-        5 => two(32767, 32768),
-        6 => two(4095, 4096),
-        7 => two(131079, 131078),
-        8 => two(0, 1),
-        T_ABOVE => two(16777217, 16777216),
-        10 => two(0, 1),
-        11 => two(17, 16),
-        12 => two(2048, 2047),
-        13 => two(1, 0),
-        14 => two(256, 255),
-        15 => two(257, 256),
-        16 => two(65, 64),
-        17 => two(256, 255),
-        18 => two(2, 3),
-        19 => two(1, 3),
-        20 | 21 => two(7, 8),
-        22 => two(9, 8),
-        _ => two(0, 1),
-    }
-}
-
 // ---- rooms and limits
 
 fn in_rooms(filter: Filter, work: usize, total: usize, map_room: usize) -> Lent {
@@ -75,25 +36,11 @@ fn in_rooms(filter: Filter, work: usize, total: usize, map_room: usize) -> Lent 
 }
 
 fn limited(f: Filter, work: usize, total: usize, most: usize) -> Filter {
-    let mut g = f;
-    g.work = work;
-    g.total = total;
-    g.most = most;
-    g
-}
-
-// Of a room that is longer than the start's the lent length is the number, of one that is shorter the record's. Where T is the number,
-// M is 1: the least that can be in range.
-fn with_rooms(f: Filter, clause: usize, n: usize) -> Lent {
-    match clause {
-        0 => in_rooms(f, n, T, MAPS),
-        1 => in_rooms(limited(f, n, T, T), W, T, MAPS),
-        2 => in_rooms(f, W, n, MAPS),
-        3 => in_rooms(limited(f, W, n, T), W, T, MAPS),
-        4 | 5 => in_rooms(f, W, T, n),
-        6 | 7 => in_rooms(limited(f, n, T, T), n, T, MAPS),
-        8 => in_rooms(limited(f, W, n, 1), W, n, MAPS),
-        _ => in_rooms(limited(f, W, T, n), W, T, MAPS),
+    Filter {
+        work,
+        total,
+        most,
+        ..f
     }
 }
 
@@ -104,24 +51,20 @@ pub fn total_sound(f: Filter, total: usize) -> bool {
 
 // ---- held bytes and wishes
 
-fn holding(f: Filter, n: usize) -> Filter {
-    let mut g = f;
-    g.held_count = n;
-    g
+fn holding(f: Filter, held_count: usize) -> Filter {
+    Filter { held_count, ..f }
 }
 
 // All that is no asset, carousels, and captions and other assets by these wishes. With both it copies all.
 fn wanting(f: Filter, caption: bool, other: bool) -> Filter {
-    let o = Options {
+    let options = Options {
         service: Service::Every,
         caption,
         carousel: true,
         eit: true,
         other,
     };
-    let mut g = f;
-    g.options = o;
-    g
+    Filter { options, ..f }
 }
 
 // ---- packages, maps, fragments
@@ -136,128 +79,94 @@ fn head(id: usize, length: usize) -> u64 {
     (id % 65536 * 281474976710656 + length % 65536) as u64
 }
 
-// All slots, their services or identifiers rising from 1.
-fn rise32(xs: &mut [u32]) {
-    let mut i: usize = 0;
-    while i < xs.len() {
-        xs[i] = pair(i % 65536 + 1, 0);
-        i += 1;
-    }
-}
-
-// The same of fragments, without a byte.
-fn rise64(xs: &mut [u64]) {
-    let mut i: usize = 0;
-    while i < xs.len() {
-        xs[i] = head(i % 65536 + 1, 0);
-        i += 1;
-    }
-}
-
-fn with_packages(f: Filter, n: usize, packages: [u32; 255]) -> Filter {
-    let mut g = f;
-    g.package_count = n;
-    g.packages = packages;
-    g
-}
-
-fn with_maps(f: Filter, n: usize, map_heads: [u32; 64]) -> Filter {
-    let mut g = f;
-    g.map_count = n;
-    g.map_heads = map_heads;
-    g
-}
-
-fn with_fragments(f: Filter, n: usize, fragment_heads: [u64; 256]) -> Filter {
-    let mut g = f;
-    g.fragment_count = n;
-    g.fragment_heads = fragment_heads;
-    g
-}
-
-// So many packages, all slots used.
-fn packages_of(f: Filter, n: usize) -> Filter {
+// So many packages, the first of them these.
+fn with_packages(f: Filter, package_count: usize, first: &[u32]) -> Filter
+    requires { length first.now ≤ 255 }
+{
     let mut packages = [0u32; 255];
-    rise32(&mut packages);
-    with_packages(f, n, packages)
+    packages[0..first.len()].copy_from_slice(first);
+    Filter {
+        package_count,
+        packages,
+        ..f
+    }
 }
 
-fn fragments_of(f: Filter, n: usize) -> Filter {
+fn with_maps(f: Filter, map_count: usize, first: &[u32]) -> Filter
+    requires { length first.now ≤ 64 }
+{
+    let mut map_heads = [0u32; 64];
+    map_heads[0..first.len()].copy_from_slice(first);
+    Filter {
+        map_count,
+        map_heads,
+        ..f
+    }
+}
+
+fn with_fragments(f: Filter, fragment_count: usize, first: &[u64]) -> Filter
+    requires { length first.now ≤ 256 }
+{
     let mut fragment_heads = [0u64; 256];
-    rise64(&mut fragment_heads);
-    with_fragments(f, n, fragment_heads)
+    fragment_heads[0..first.len()].copy_from_slice(first);
+    Filter {
+        fragment_count,
+        fragment_heads,
+        ..f
+    }
+}
+
+// So many packages, all slots used, their services rising from 1.
+fn packages_of(f: Filter, n: usize) -> Filter {
+    let all: [u32; 255] = from_fn(|i| pair(i % 65536 + 1, 0));
+    with_packages(f, n, &all)
 }
 
 fn maps_of(f: Filter, n: usize) -> Filter {
-    let mut map_heads = [0u32; 64];
-    rise32(&mut map_heads);
-    with_maps(f, n, map_heads)
+    let all: [u32; 64] = from_fn(|i| pair(i % 65536 + 1, 0));
+    with_maps(f, n, &all)
 }
 
-// One map with so many assets.
-fn map_counting(f: Filter, n: usize) -> Filter {
-    let mut map_heads = [0u32; 64];
-    map_heads[0] = pair(7, n);
-    with_maps(f, 1, map_heads)
-}
-
-// Service 2, then this one, with a higher identifier.
-fn services(f: Filter, n: usize) -> Filter {
-    let mut packages = [0u32; 255];
-    packages[0] = pair(2, 7);
-    packages[1] = pair(n, 9);
-    with_packages(f, 2, packages)
-}
-
-// Maps of identifiers 7, 9 and this one.
-fn map_identifiers(f: Filter, n: usize) -> Filter {
-    let mut map_heads = [0u32; 64];
-    map_heads[0] = pair(7, 1);
-    map_heads[1] = pair(9, 1);
-    map_heads[2] = pair(n, 1);
-    with_maps(f, 3, map_heads)
-}
-
-// Fragments of identifiers 7, 9 and this one, a byte each.
-fn fragment_identifiers(f: Filter, n: usize) -> Filter {
-    let mut fragment_heads = [0u64; 256];
-    fragment_heads[0] = head(7, 1);
-    fragment_heads[1] = head(9, 1);
-    fragment_heads[2] = head(n, 1);
-    with_fragments(f, 3, fragment_heads)
-}
-
-// A fragment of 8 bytes, and one of so many.
-fn fragment_lengths(f: Filter, n: usize) -> Filter {
-    let mut fragment_heads = [0u64; 256];
-    fragment_heads[0] = head(7, 8);
-    fragment_heads[1] = head(9, n);
-    with_fragments(f, 2, fragment_heads)
+// The same of fragments, without a byte.
+fn fragments_of(f: Filter, n: usize) -> Filter {
+    let all: [u64; 256] = from_fn(|i| head(i % 65536 + 1, 0));
+    with_fragments(f, n, &all)
 }
 
 // ---- by clause
 
-// The record of a clause that is of the record alone.
-fn changed(f: Filter, clause: usize, n: usize) -> Filter {
+// The record of a clause that is of the record alone: one map with so many assets; service 2, then this one, with a higher identifier; maps
+// of identifiers 7, 9 and this one; fragments of identifiers 7, 9 and this one, a byte each; a fragment of 8 bytes, and one of so many.
+fn changed(f: Filter, clause: Clause, n: usize) -> Filter {
     match clause {
-        12 => holding(f, n),
-        13 => holding(wanting(f, true, true), n),
-        14 => packages_of(f, n),
-        15 => fragments_of(f, n),
-        16 => maps_of(f, n),
-        17 => map_counting(f, n),
-        18 | 19 => services(f, n),
-        20 => map_identifiers(f, n),
-        21 => fragment_identifiers(f, n),
-        22 => fragment_lengths(f, n),
+        Clause::Held => holding(f, n),
+        Clause::HeldInCopyAll => holding(wanting(f, true, true), n),
+        Clause::Packages => packages_of(f, n),
+        Clause::Fragments => fragments_of(f, n),
+        Clause::Maps => maps_of(f, n),
+        Clause::MapCount => with_maps(f, 1, &[pair(7, n)]),
+        Clause::ServiceEqual | Clause::ServiceFalling => {
+            with_packages(f, 2, &[pair(2, 7), pair(n, 9)])
+        }
+        Clause::MapTwice => with_maps(f, 3, &[pair(7, 1), pair(9, 1), pair(n, 1)]),
+        Clause::FragmentTwice => with_fragments(f, 3, &[head(7, 1), head(9, 1), head(n, 1)]),
+        Clause::FragmentLengths => with_fragments(f, 2, &[head(7, 8), head(9, n)]),
         _ => wanting(f, false, n != 0),
     }
 }
 
-// The record of a clause with its number, and the rooms for it.
-pub fn lent_with(f: Filter, clause: usize, n: usize) -> Lent {
-    if clause < 12 {
-        return with_rooms(f, clause, n);
+// The record of a clause with its number, and the rooms for it. Of a room that is longer than the start's the lent length is the number, of
+// one that is shorter the record's. Where T is the number, M is 1: the least that can be in range.
+pub fn lent_with(f: Filter, clause: Clause, n: usize) -> Lent {
+    match clause {
+        Clause::WorkRoomLonger => in_rooms(f, n, T, MAPS),
+        Clause::WorkRoomShorter => in_rooms(limited(f, n, T, T), W, T, MAPS),
+        Clause::FragmentRoomLonger => in_rooms(f, W, n, MAPS),
+        Clause::FragmentRoomShorter => in_rooms(limited(f, W, n, T), W, T, MAPS),
+        Clause::MapRoomLonger | Clause::MapRoomShorter => in_rooms(f, W, T, n),
+        Clause::WBelow | Clause::WAbove => in_rooms(limited(f, n, T, T), n, T, MAPS),
+        Clause::TBelow | Clause::TAbove => in_rooms(limited(f, W, n, 1), W, n, MAPS),
+        Clause::MBelow | Clause::MAboveT => in_rooms(limited(f, W, T, n), W, T, MAPS),
+        _ => in_rooms(changed(f, clause, n), W, T, MAPS),
     }
-    in_rooms(changed(f, clause, n), W, T, MAPS)
 }
