@@ -35,6 +35,7 @@ pub const BODIES: usize = 1048576;
 pub const MAP_ROOM: usize = 33000;
 
 // The rooms beside that of a chunk: the filter's three, and the output.
+// Stays: a chunk is lent by itself, since a check knows the lengths of four array fields behind a reference and not of a fifth.
 #[derive(Drop)]
 pub struct Rooms {
     pub work: [u8; WORK],

@@ -180,10 +180,7 @@ pub fn narrow_payload(
     };
     let n = payload_to(payload, changed, pid, o, out, 0);
     let pa = changed.pa;
-    answer_of(
-        Ok(Some(n)),
-        count_tables(&payload[9..pa.end], pa.tables, o),
-    )
+    answer_of(Ok(Some(n)), count_tables(&payload[9..pa.end], pa.tables, o))
 }
 
 // The packet `p`, whose payload is `payload`, narrowed, at `to` of the output.

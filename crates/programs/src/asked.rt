@@ -50,6 +50,7 @@ pub fn asked_of(head: &[u8]) -> Result<Options, Refusal>
 }
 
 // The number of a refusal.
+// Stays: `From<Refusal> for u8` is refused here (`orphan-impl`); it would stand in `meaning`, which has no code that runs.
 #[tactic(auto, unfolding(meaning::specs::Refusals::number_of))]
 pub fn number_of(r: Refusal) -> u8
     ensures { result ≡ number_of r }

@@ -18,6 +18,7 @@ fn digit(n: usize) -> u8
 }
 
 // Writes a number in at most `most` decimal digits at `to`; answers the offset past them.
+// Stays: `write!` to an `InlineText` promises the text or a cut one (`IsTextOrCut`), `put_sums` its bytes; a writer over a slice is longer.
 fn put_digits(out: &mut [u8], to: usize, most: usize, n: usize) -> usize
     requires { to + most ≤ length out.old }
     ensures { Wrote (digits most n) out.old to out.new result }

@@ -52,6 +52,7 @@ fn read_some(rt: HostRuntime, buf: &mut [u8]) -> Result<usize>
 }
 
 // Reads until the slice is full or the input ends.
+// Stays: the step is what a call moved, here and in `written`; no range counts it.
 fn filled(rt: HostRuntime, buf: &mut [u8]) -> Result<usize>
     ensures { IfOk result (λ n. n ≤ length buf.new) }
 {

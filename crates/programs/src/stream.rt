@@ -30,6 +30,7 @@ const MAP_ROOM: usize = 32768;
 const LINE: usize = 170;
 
 // The rooms that a program lends beside a chunk: the filter's three, and the output of a call.
+// Stays: a chunk is lent by itself, since a check knows the lengths of four array fields behind a reference and not of a fifth.
 #[derive(Drop)]
 pub struct Rooms {
     pub work: [u8; ROOM],

@@ -83,26 +83,8 @@ fn in_parts(
     let o = t.options;
     let mut set = first_drops(o, &kept.data_set);
     let s = decided(e, o, kept, map_room, &mut set);
-    let x = packets(
-        first,
-        s,
-        t,
-        kept,
-        map_room,
-        bodies,
-        &mut set,
-        out,
-    );
-    let y = packets(
-        second,
-        x.progress,
-        t,
-        kept,
-        map_room,
-        bodies,
-        &mut set,
-        out,
-    );
+    let x = packets(first, s, t, kept, map_room, bodies, &mut set, out);
+    let y = packets(second, x.progress, t, kept, map_room, bodies, &mut set, out);
     InParts {
         progress: y.progress,
         first_at: x.at,
@@ -180,16 +162,7 @@ pub fn carry_out(
         return all_held(b.held_count, chunk, e, work);
     };
     let n = copy(&chunk[0..k], work, b.held_count);
-    let x = in_parts(
-        &work[0..n],
-        &chunk[k..],
-        e,
-        t,
-        kept,
-        map_room,
-        bodies,
-        out,
-    );
+    let x = in_parts(&work[0..n], &chunk[k..], e, t, kept, map_room, bodies, out);
     held_on(x, n, &chunk[k..], work)
 }
 
@@ -206,11 +179,7 @@ pub struct Lengths {
 }
 
 // Why a call is refused: its record, then the chunk's length, then the output's.
-pub fn call_answer(
-    b: Begun,
-    kept: &Kept,
-    n: Lengths,
-) -> Answer
+pub fn call_answer(b: Begun, kept: &Kept, n: Lengths) -> Answer
     ensures { answer_number result ≡ cond (parts_sound b.limits b.options b.held_count b.extent kept.now.packages kept.now.map_heads kept.now.fragment_heads n.work n.bodies n.map_room) (length_refusal n.work b.held_count n.chunk n.out) 4 }
 {
     let w = n.work;

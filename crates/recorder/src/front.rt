@@ -64,13 +64,7 @@ pub fn counts_of(bytes: usize) -> Counts
 }
 
 // Before the first packet the drop set is worked out, from the set that the rules begin with.
-pub fn decided(
-    e: Extent,
-    o: Options,
-    kept: &Kept,
-    map_room: &[u16],
-    set: &mut IdSet,
-) -> Progress
+pub fn decided(e: Extent, o: Options, kept: &Kept, map_room: &[u16], set: &mut IdSet) -> Progress
     requires { ((k : Known) × (ds : Words) × Keeps k e ds kept.now.packages kept.now.map_heads map_room.now) }
     ensures { (ds : Words) → SetIs (λ q. not o.carousel && in_set ds q) set.old.words → DecidedAs o e ds kept.now.packages kept.now.map_heads map_room.now set.new.words result }
 {

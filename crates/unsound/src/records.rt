@@ -98,7 +98,10 @@ fn with_maps(f: Filter, map_count: usize, first: &[u32]) -> Filter
     map_heads[0..first.len()].copy_from_slice(first);
     Filter {
         map_count,
-        kept: Kept { map_heads, ..f.kept },
+        kept: Kept {
+            map_heads,
+            ..f.kept
+        },
         ..f
     }
 }
@@ -110,7 +113,10 @@ fn with_fragments(f: Filter, fragment_count: usize, first: &[u64]) -> Filter
     fragment_heads[0..first.len()].copy_from_slice(first);
     Filter {
         fragment_count,
-        kept: Kept { fragment_heads, ..f.kept },
+        kept: Kept {
+            fragment_heads,
+            ..f.kept
+        },
         ..f
     }
 }
