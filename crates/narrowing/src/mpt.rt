@@ -105,7 +105,7 @@ pub fn mpt_without(b: &[u8], o: Options) -> Option<MptChange>
 
 // The new body, written at `to`.
 pub fn mpt_to(b: &[u8], change: MptChange, o: Options, out: &mut [u8], to: usize) -> usize
-    requires { MptLess o b.now change × (to + length b.now ≤ length out.old) }
+    requires { ((size : ℕ) × MptLess o b.now (record change { size = size })) × (to + length b.now ≤ length out.old) }
     ensures { Wrote (Option.get_or (mpt_without o b.now) b.now) out.old to out.new result }
 {
     let front = change.front;

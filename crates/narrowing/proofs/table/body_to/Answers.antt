@@ -3,7 +3,7 @@ use Rattle.narrowing.proofs.table.body_to.Goals as goal
 
 pub mpt_to-requires : goal.mpt_to-requires
 mpt_to-requires c =
-    ((as_mpt c.requires.0.0 c.args.o c.args.b.now c.args.change c.requires.0.1 _ c.in-Mpt.is).1, c.requires.1)
+    ((_, (as_mpt c.requires.0.0 c.args.o c.args.b.now c.args.change c.requires.0.1 _ c.in-Mpt.is).1), c.requires.1)
 
 pub plt_to-requires : goal.plt_to-requires
 plt_to-requires c =
