@@ -8,7 +8,7 @@ ghost use Rattle.cases.specs.Calls.{lengths_of, NextFits, ReadAs, dropped_bytes}
 use crate::streams::{Asked, asked_at, call_in, dropped_in, head_fits, read_front, start_in};
 use crate::{BODIES, INPUT, MAP_ROOM, OUTPUT, Rooms, WORK};
 use octets::{be16, be32, put8, put32};
-use programs::asked::{answer_number, is_done};
+use programs::asked::answer_number;
 use programs::pipe::{fill_all, write_all};
 use recorder::Filter;
 use std::rt::HostRuntime;
@@ -142,8 +142,7 @@ fn started(rt: HostRuntime, h: Asked, chunk: &mut [u8; INPUT], rooms: &mut Rooms
     requires { Fits h }
 {
     let s = start_in(rt, h, rooms)?;
-    let a = s.answer;
-    if !is_done(a) {
+    if s.answer.is_err() {
         return read_past(rt, h.calls, chunk);
     }
     operations(rt, s.filter, h, chunk, rooms)

@@ -8,7 +8,7 @@ ghost use Rattle.cases.specs.Streams.{asked_at, head_fits, Fits, FitTold, Length
 use crate::{BODIES, INPUT, MAP_ROOM, OUTPUT, Rooms, WORK, modes_of, put_three};
 use meaning::{Counts, Modes, Options};
 use octets::{be16, be32, id16, put8, put32};
-use programs::asked::{answer_number, is_done, options_of};
+use programs::asked::{answer_number, options_of};
 use programs::pipe::{fill_all, write_all};
 use recorder::{Dropped, Filter, Pushed, Started, start};
 use std::rt::HostRuntime;
@@ -226,8 +226,7 @@ fn started(
     requires { Fits h × (4 * h.calls ≤ length lengths.now) × LengthsFit lengths.now h.calls 131200 }
 {
     let s = start_in(rt, h, rooms)?;
-    let a = s.answer;
-    if !is_done(a) {
+    if s.answer.is_err() {
         return read_past(rt, lengths, h.calls, chunk);
     }
     calls(rt, s.filter, h, lengths, chunk, rooms)

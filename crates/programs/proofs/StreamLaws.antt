@@ -1,6 +1,6 @@
 -- A stream from its start over chunk after chunk to its end, and what is left to be told of an input. Rests on ProgramLaws and SeriesLaws
 -- of `meaning`: no call of a program is refused, and one chunk more is one call more.
-use Rattle.std.specs.Prelude.{Option, Some, None, Ok, Err}
+use Rattle.std.specs.Prelude.{Option, Some, None, Ok, Err, is_ok, unwrap_or}
 use Prim.Native.Nat.{ℕ, zero, suc, ◌-◌, ◌≤◌}
 use mathlib.Core.Path.{◌≡◌, refl, sym, ap, ◌∙◌, subst}
 use mathlib.Core.Bool.{Bool, cond, true, false, false≢true}
@@ -11,7 +11,7 @@ use lib.Dec.{eqb}
 use borrow.Author.Tests.{eqb-true}
 use Rattle.meaning.specs.Bytes.{Bytes}
 use Rattle.meaning.specs.Writing.{Wrote}
-use Rattle.meaning.specs.Refusals.{number_of, answer_number}
+use Rattle.meaning.specs.Refusals.{Answer, number_of, answer_number}
 use Rattle.meaning.specs.Wishes.{wants_assets, all_off}
 use Rattle.meaning.specs.Rooms.{good_work_room, good_fragment_room, good_map_room}
 use Rattle.meaning.specs.Record.{State, Record, record_of, state_of}
@@ -45,6 +45,17 @@ use Rattle.programs.specs.Asked.{asked_of}
 use Rattle.programs.specs.Lines.{well_line, line_by, last_line}
 use Rattle.programs.specs.Stream.{first_of, to_write, RoomsLong, TakenAs, Left, WrittenAs, ended_as, NextAs, goes_on, sums_refusal, Come, ComeIn, Goes, begun_as, ending_of, unasked_as, run_refusal, Ran, HeadedAs, RanBy, line_for, WroteLine, Told}
 use Rattle.programs.proofs.AskedLaws.{refusal_asked, options_asked}
+
+-- ---- what came, and an answer by whether it is done
+
+pub came_is : (came : Option ℕ) → came_of came ≡ unwrap_or came 0
+came_is (Some n) = refl
+came_is None = refl
+
+pub ok_done : (a : Answer) → is_ok a ≡ eqb (answer_number a) 0
+unfolding answer_number
+ok_done (Ok x) = refl
+ok_done (Err r) = sym (refused_told r)
 
 -- ---- a start
 

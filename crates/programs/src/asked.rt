@@ -78,10 +78,3 @@ pub fn answer_number(a: Answer) -> u8
         Err(r) => number_of(r),
     }
 }
-
-// Whether an answer is no refusal.
-pub fn is_done(a: Answer) -> bool
-    ensures { result ≡ eqb (answer_number a) 0 }
-{
-    answer_number(a) == 0
-}

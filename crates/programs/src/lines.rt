@@ -5,7 +5,7 @@ ghost use Rattle.meaning.specs.Writing.{Wrote};
 ghost use Rattle.meaning.specs.Programs.{digits, item, refused_line, sums_line};
 ghost use Rattle.programs.specs.Lines.{last_line};
 
-use crate::asked::{answer_number, is_done};
+use crate::asked::answer_number;
 use meaning::{Answer, Counts};
 use octets::{copy, put8};
 
@@ -95,13 +95,11 @@ pub fn put_last(e: Ending, writes: Writes, out: &mut [u8]) -> usize
     requires { 170 ≤ length out.old }
     ensures { Wrote (last_line e writes) out.old 0 out.new result }
 {
-    let a = e.answer;
-    if !is_done(a) {
-        return put_refused(answer_number(a), out);
+    if e.answer.is_err() {
+        return put_refused(answer_number(e.answer), out);
     }
-    let sums = e.sums;
     match writes {
         Writes::Stream => 0,
-        Writes::Sums => put_sums(sums, e.held_count, out),
+        Writes::Sums => put_sums(e.sums, e.held_count, out),
     }
 }

@@ -11,7 +11,7 @@ ghost use Rattle.recorder.specs.Filter.{record_in};
 ghost use Rattle.programs.specs.Pipe.{came_of};
 ghost use Rattle.programs.specs.Stream.{first_of, to_write, RoomsLong, TakenAs, WrittenAs, NextAs, goes_on, Goes, begun_as, ComeIn, Left, ending_of, unasked_as, Ran, HeadedAs, HeadIn, RanBy, Told};
 
-use crate::asked::{asked_of, is_done};
+use crate::asked::asked_of;
 use crate::lines::{Ending, Writes, put_last};
 use crate::pipe::{fill, write_all, write_last};
 use meaning::{Answer, Counts, Modes, Options, Refusal};
@@ -51,13 +51,11 @@ pub struct Standing {
 }
 
 // The first refusal of two answers.
+#[tactic(auto, unfolding(meaning::specs::Refusals::answer_number))]
 fn first_of(a: Answer, b: Answer) -> Answer
     ensures { answer_number result ≡ first_of (answer_number a) (answer_number b) }
 {
-    if is_done(a) {
-        return b;
-    }
-    a
+    a.and(b)
 }
 
 // One chunk, without writing what goes on: the call, and its counts added. A refused call has none.
@@ -138,8 +136,7 @@ fn next(
 fn goes_on(x: Standing, came: Option<usize>) -> bool
     ensures { result ≡ goes_on x came }
 {
-    let a = x.answer;
-    came.unwrap_or(0) != 0 && is_done(a)
+    came.unwrap_or(0) != 0 && x.answer.is_ok()
 }
 
 // All chunks in turn, each with the record that the one before handed back. A refusal ends the program, and so does a failure.
