@@ -82,6 +82,7 @@ impl TryFrom<u8> for CaseKind {
     }
 }
 
+// Stays: the format of the answers (docs/ARCHITECTURE.md) has a number, a flag and a length for each, and these three give them.
 #[tactic(auto, unfolding(meaning::specs::Refusals::narrowing_number))]
 fn refused_number(n: Narrowing) -> u8
     ensures { result ≡ narrowing_number n }

@@ -15,6 +15,8 @@ use octets::wide;
 use tables::assets::{asset_at, mpt_front};
 use tables::pa::{Table, is_mpt, table_at};
 
+// The place of a kind in a row.
+// Stays: a row is an array, so that its places are numbers, and 01 names the array.
 fn kind_of(part: Part) -> usize
     ensures { (result ≡ kind_number part) × (result < 3) }
 {

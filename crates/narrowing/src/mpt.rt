@@ -30,6 +30,7 @@ pub struct MptChange {
     pub size: usize,
 }
 
+// Stays: `rules` asks the same. A crate under both would be `meaning`, which holds data and no code, so that its definitions are tried by themselves.
 pub fn wanted(o: Options, part: Part) -> bool
     ensures { result ≡ wanted o part }
 {

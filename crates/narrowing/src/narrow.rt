@@ -20,6 +20,7 @@ use tables::pa::{Table, pa_tables, table_at};
 use tlv::{mmtp_of, packet_payload};
 
 // What narrowing answers. The rows count captions, carousels and others.
+// Stays: 01 names this form, the two rows flat in the answer, and `Refusing` of `demands` says that both are zero where it is refused.
 #[derive(Clone, Copy)]
 pub struct Narrowed {
     pub narrowing: Narrowing,

@@ -69,6 +69,7 @@ pub fn number_of(r: Refusal) -> u8
 }
 
 // The number of an answer, 0 where it is no refusal.
+// Stays: 01 gives the numbers, and the programs write them.
 #[tactic(auto, unfolding(meaning::specs::Refusals::answer_number))]
 pub fn answer_number(a: Answer) -> u8
     ensures { result ≡ answer_number a }

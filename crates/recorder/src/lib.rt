@@ -37,7 +37,7 @@ pub struct Filter {
     pub options: Options,
     // How many bytes are held, at the front of the work room.
     pub held_count: usize,
-    // Whether a PLT was seen.
+    // Whether a PLT was seen. Stays: flag and counts beside the arrays, as the definition `Record` has them, since that is how 02 stores it.
     pub seen: bool,
     pub package_count: usize,
     pub map_count: usize,

@@ -42,6 +42,7 @@ fn kind_of(number: u16) -> Part
     }
 }
 
+// Stays: `narrowing.mpt.wanted` asks the same, and says why it is asked twice.
 fn wanted(o: Options, part: Part) -> bool
     ensures { result ≡ wanted o part }
 {

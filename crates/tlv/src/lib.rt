@@ -194,6 +194,7 @@ fn idle(run: &[u8], at: usize) -> bool
 }
 
 // From `at` on past blocks in which no packet starts. Three bytes more are left, so that a header fits at each byte.
+// Stays: it stops at a block that is not idle, and where it stopped is the answer, which a chain over blocks would count again.
 fn blocks_end(run: &[u8], at: usize) -> usize
     requires { at ≤ length run.now }
     ensures { NoStart run.now at result }

@@ -79,6 +79,7 @@ fn head(id: usize, length: usize) -> u64 {
 }
 
 // So many packages, the first of them these.
+// Stays: the three differ in the field that they fill, and a field cannot be a parameter.
 fn with_packages(f: Filter, package_count: usize, first: &[u32]) -> Filter
     requires { length first.now ≤ 255 }
 {
