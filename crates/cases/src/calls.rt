@@ -28,7 +28,6 @@ pub enum Next {
 }
 
 fn lengths_of(s: &[u8; 8]) -> Lengths
-    requires { length s.now ≡ 8 }
     ensures { result ≡ lengths_of s.now }
 {
     Lengths {

@@ -11,7 +11,6 @@ mod records;
 use crate::calls::{Told, calls_with, start_in};
 use crate::clauses::{CLAUSES, Clause};
 use crate::records::{lent_with, total_sound};
-use programs::asked::is_done;
 use programs::pipe::{close_output, write_all};
 use recorder::Filter;
 use std::rt::HostRuntime;
@@ -104,12 +103,10 @@ fn all_clauses(rt: HostRuntime, f: Filter, rooms: &mut Rooms) -> Option<()> {
 // A start, then all clauses with changes of its record.
 fn started(rt: HostRuntime, rooms: &mut Rooms) -> Option<()> {
     let s = start_in(rooms);
-    let a = s.answer;
-    if !is_done(a) {
+    if s.answer.is_err() {
         return write_all(rt, b"the start is refused\n");
     }
-    let f = s.filter;
-    all_clauses(rt, f, rooms)
+    all_clauses(rt, s.filter, rooms)
 }
 
 fn main(rt: HostRuntime) {

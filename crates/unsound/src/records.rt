@@ -4,6 +4,7 @@ ghost use Rattle.std.specs.Prelude.{◌≤◌, length};
 
 use crate::clauses::Clause;
 use learning::Kept;
+use learning::pairs::Pair;
 use meaning::{Limits, Options, Service};
 use recorder::Filter;
 use recorder::sound::is_sound;
@@ -70,7 +71,11 @@ fn wanting(f: Filter, caption: bool, other: bool) -> Filter {
 
 // Two numbers of 16 bits in one: service and identifier, or identifier and count.
 fn pair(first: usize, second: usize) -> u32 {
-    (first % 65536 * 65536 + second % 65536) as u32
+    let packed = Pair {
+        first: (first % 65536) as u16,
+        second: (second % 65536) as u16,
+    };
+    packed.into()
 }
 
 // A fragment's identifier and length, its flags 0.
