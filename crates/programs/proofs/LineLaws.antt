@@ -1,6 +1,7 @@
 -- Numbers as text: how long they are, and that a digit stands alone or behind those of a tenth; which line is the last. Rests on what was
 -- written (Writes of `meaning`).
 use Prim.Native.Nat.{ℕ, zero, suc, ◌+◌, ◌-◌, ◌/◌, ◌%◌, ◌≤◌, ◌<◌}
+use Rattle.std.specs.Prelude.{Some, None}
 use mathlib.Core.Path.{◌≡◌, refl}
 use mathlib.Core.Bool.{Bool, true, false, cond}
 use mathlib.Core.List.{[], ◌∷◌, ◌++◌}
@@ -85,15 +86,19 @@ sums_put c held_count p w x k h l n = wrote_then (wrote_then (wrote_then (wrote_
 
 -- ---- the last line
 
+pub last_failed : (writes : Writes) → last_line None writes ≡ []
+unfolding last_line
+last_failed writes = refl
+
 module _ (e : Ending) (writes : Writes) where
-  pub last_refused : eqb (answer_number e.answer) 0 ≡ false → last_line e writes ≡ refused_line (answer_number e.answer)
+  pub last_refused : eqb (answer_number e.answer) 0 ≡ false → last_line (Some e) writes ≡ refused_line (answer_number e.answer)
   unfolding last_line
   last_refused a = rw a
 
-  pub last_written : eqb (answer_number e.answer) 0 ≡ true → writes ≡ Writes.Stream → last_line e writes ≡ []
+  pub last_written : eqb (answer_number e.answer) 0 ≡ true → writes ≡ Writes.Stream → last_line (Some e) writes ≡ []
   unfolding last_line
   last_written a w = rw (a, w)
 
-  pub last_sums : eqb (answer_number e.answer) 0 ≡ true → writes ≡ Writes.Sums → last_line e writes ≡ sums_line e.sums e.held_count
+  pub last_sums : eqb (answer_number e.answer) 0 ≡ true → writes ≡ Writes.Sums → last_line (Some e) writes ≡ sums_line e.sums e.held_count
   unfolding last_line
   last_sums a w = rw (a, w)

@@ -303,7 +303,7 @@ line_same n m writes c d h k e p q = go (eqb n 0) refl
 
 module _ {rooms rooms' : Rooms} where
   -- An ending's is that of its input.
-  line_is : (e : Ending) (head : Bytes) (cs : List Bytes) → Ran head cs rooms e rooms' → (writes : Writes) → last_line e writes ≡ line_for writes head cs
+  line_is : (e : Ending) (head : Bytes) (cs : List Bytes) → Ran head cs rooms e rooms' → (writes : Writes) → last_line (Some e) writes ≡ line_for writes head cs
   unfolding last_line line_for
   line_is e head cs r writes =
       let x = program_calls all_off (input_options head) cs in
@@ -320,7 +320,7 @@ module _ {rooms rooms' : Rooms} where
     rooms_left = r.rooms_left;
   }
 
-  pub told_as : {e : Ending} {writes : Writes} {line line' : Bytes} {n : ℕ} → ((head : Bytes) × (cs : List Bytes) × Ran head cs rooms e rooms') → Wrote (last_line e writes) line 0 line' n
+  pub told_as : {e : Ending} {writes : Writes} {line line' : Bytes} {n : ℕ} → ((head : Bytes) × (cs : List Bytes) × Ran head cs rooms e rooms') → Wrote (last_line (Some e) writes) line 0 line' n
       → Told writes rooms line (Some n) rooms' line'
   told_as {e} {writes} {line} {line'} {n} r w = told_with r.2 (subst (λ (l : Bytes). Wrote l line 0 line' n) (line_is e r.0 r.1 r.2 writes) w)
 

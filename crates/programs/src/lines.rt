@@ -91,11 +91,14 @@ pub enum Writes {
     Sums,
 }
 
-// Writes the last line of a program; answers its length, 0 where there is none.
-pub fn put_last(e: Ending, writes: Writes, out: &mut [u8]) -> usize
+// Writes the last line of a program, none where a read or a write failed; answers its length, 0 where there is none.
+pub fn put_last(ending: Option<Ending>, writes: Writes, out: &mut [u8]) -> usize
     requires { 170 ≤ length out.old }
-    ensures { Wrote (last_line e writes) out.old 0 out.new result }
+    ensures { Wrote (last_line ending writes) out.old 0 out.new result }
 {
+    let Some(e) = ending else {
+        return 0;
+    };
     if e.answer.is_err() {
         return put_refused(answer_number(e.answer), out);
     }

@@ -297,7 +297,7 @@ fn told(
     ensures { Told writes rooms.old line.old result rooms.new line.new }
 {
     let e = run(rt, writes, chunk, rooms)?;
-    Some(put_last(e, writes, line))
+    Some(put_last(Some(e), writes, line))
 }
 
 // A stream through a filter: it writes the filtered stream, or else a line of sums.
