@@ -25,7 +25,7 @@ pub struct News {
 // How much is known: how many packages, maps and fragments there are, and whether a PLT was seen. How many of the fragments lead: their
 // bodies stand at the front of the fragment room. How many maps were lost on the way, and what is new. The flags stand together: a gap
 // behind each would be copied too, in pieces that wait for each other.
-// Stays: the record keeps counts, a flag and arrays apart, as the definition `Record` has them, since that is how 02 stores it.
+// Stays: counts and a flag stand apart from the arrays, as in the definition `Record`; no heap, so no Vec.
 #[derive(Clone, Copy)]
 pub struct Extent {
     pub package_count: usize,

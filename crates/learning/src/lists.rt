@@ -26,7 +26,7 @@ pub fn place_for(map_heads: &[u32; 64], n: usize, id: u16) -> usize
 }
 
 // The number of a kind in the map room.
-// Stays: the map room is numbers, and 02 fixes how they are stored.
+// Stays: the map room is numbers, and the definition `kind_number` says which.
 fn kind_number(part: Part) -> u16
     ensures { result ≡ kind_number part }
 {

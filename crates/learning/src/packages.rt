@@ -13,7 +13,7 @@ use octets::wide;
 use tables::packages::{Package, package_at};
 
 // The packages of a PLT's body as far as they are read, in as many slots; and whether those are not all.
-// Stays: an array and a count, as the record keeps them for C, which all of it is copied to; no heap, so no Vec.
+// Stays: an array and a count, as the record keeps them, since there is no heap (fixed memory), so no Vec.
 #[derive(Clone, Copy)]
 pub struct Services {
     pub packages: [u32; 255],

@@ -76,7 +76,6 @@ pub fn put_sums(c: Counts, held_count: usize, out: &mut [u8]) -> usize
 }
 
 // What is left of an input to be told: the answer, the sums, and how many bytes are held.
-// Stays: `Ran` says what sums and held bytes are where the last call is refused, too.
 #[derive(Clone, Copy)]
 pub struct Ending {
     pub answer: Answer,

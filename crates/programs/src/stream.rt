@@ -42,7 +42,7 @@ pub struct Rooms {
 // ---- one chunk
 
 // How far a stream has come: what was answered last, how many bytes the last call wrote, the sums, and the record to go on with.
-// Stays: a refusal ends the stream, yet `Come` says what sums and record are then, so that all stand beside the answer.
+// Stays: a refusal ends the stream, yet `Come` says what record there is then and `TakenAs` what sums, so that all stand beside the answer.
 #[derive(Clone, Copy)]
 pub struct Standing {
     pub answer: Answer,

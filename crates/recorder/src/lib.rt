@@ -37,7 +37,8 @@ pub struct Filter {
     pub options: Options,
     // How many bytes are held, at the front of the work room.
     pub held_count: usize,
-    // Whether a PLT was seen. Stays: flag and counts beside the arrays, as the definition `Record` has them, since that is how 02 stores it.
+    // Whether a PLT was seen.
+    // Stays: a flag and counts beside the arrays, as in the definition `Record`, which `record_in` makes of this; no heap, so no Vec.
     pub seen: bool,
     pub package_count: usize,
     pub map_count: usize,
@@ -144,7 +145,7 @@ pub struct Pushed {
 }
 
 // How many identifiers the rules drop, 0 where the record is refused, and the record, which is the one given.
-// Stays: as of a push; refused, the count is 0.
+// Stays: `Refusing.ask` says that the count is 0 where it is refused, and the record the one given.
 #[derive(Clone, Copy)]
 pub struct Dropped {
     pub answer: Answer,
