@@ -38,6 +38,8 @@ pub struct Extent {
 }
 
 // What a record keeps of a broadcast beside its numbers: the data set, packages and map heads as pairs packed in one number, fragment heads.
+// Laid out as C has it, so that the bench can lend it.
+#[repr(C)]
 #[derive(Clone, Copy, PartialEq, Eq)]
 pub struct Kept {
     pub data_set: IdSet,

@@ -78,17 +78,50 @@ pub fn copy(src: &[u8], out: &mut [u8], to: usize) -> usize
     end
 }
 
+// The 64 bytes of `lent` from `from` on.
+fn lifted(lent: &[u8], from: usize) -> [u8; 64]
+    requires { from + 64 ≤ length lent.now }
+    ensures { result ≡ take 64 (drop from lent.now) }
+{
+    let mut block = [0u8; 64];
+    copy(&lent[from..from + 64], &mut block, 0);
+    block
+}
+
+// Moves whole blocks of 64 of the `n` bytes. Each block is read before it is written, so that it goes by vectors where the stretches
+// overlap; the library's `copy_within` goes byte by byte there. Answers how many bytes were moved.
+fn blocks_down(lent: &mut [u8], from: usize, n: usize, to: usize) -> usize
+    requires { (to ≤ from) × (from + n ≤ length lent.old) }
+    ensures { (result ≡ n - n % 64) × Wrote (take result (drop from lent.old)) lent.old to lent.new (to + result) }
+{
+    let mut i: usize = 0;
+    while 64 <= n - i {
+        let block = lifted(lent, from + i);
+        copy(&block, lent, to + i);
+        i += 64;
+    }
+    i
+}
+
+// Moves `n` bytes, one by one.
+fn bytes_down(lent: &mut [u8], from: usize, n: usize, to: usize) -> usize
+    requires { (to ≤ from) × (from + n ≤ length lent.old) }
+    ensures { Wrote (take n (drop from lent.old)) lent.old to lent.new result }
+{
+    lent.copy_within(from..from + n, to);
+    to + n
+}
+
 // Moves `n` bytes of `lent` from `from` down to `to`; the two stretches may overlap. Answers the offset past them.
 pub fn move_down(lent: &mut [u8], from: usize, n: usize, to: usize) -> usize
     requires { (to ≤ from) × (from + n ≤ length lent.old) }
     ensures { Wrote (take n (drop from lent.old)) lent.old to lent.new result }
 {
-    // The library would write each byte onto itself, one by one.
     if from == to {
         return to + n;
     }
-    lent.copy_within(from..from + n, to);
-    to + n
+    let k = blocks_down(lent, from, n, to);
+    bytes_down(lent, from + k, n - k, to + k)
 }
 
 // Moves `n` bytes of `lent` from `from` up to `to`; the two stretches may overlap. Answers the offset past them.

@@ -20,7 +20,8 @@ fn word_ones(w: u64) -> u32
     u64::count_ones(w)
 }
 
-// A set of packet identifiers: one bit for each, in 1,024 words.
+// A set of packet identifiers: one bit for each, in 1,024 words. Laid out as C has it, so that the bench can lend one.
+#[repr(C)]
 #[derive(Clone, Copy, PartialEq, Eq)]
 pub struct IdSet {
     pub words: [u64; 1024],
