@@ -44,9 +44,7 @@ pub fn sum_of(t: Counts, c: Counts) -> Counts
 pub fn tally(t: &mut Counts, c: Counts) -> Answer
     ensures { TalliedAs t.old c t.new result }
 {
-    let Some(sum) = added(*t, c) else {
-        return Err(Refusal::Tally);
-    };
-    *t = sum;
-    Ok(())
+    let answer = tally_answer(*t, c);
+    *t = sum_of(*t, c);
+    answer
 }
