@@ -15,7 +15,7 @@ ghost use Rattle.rules.specs.Changes.{SetIs, Changed, comes, goes, Way, insertin
 
 use learning::lists::place_for;
 use learning::{Extent, Kept};
-use meaning::{Options, Part, Service};
+use meaning::{Options, Service};
 use octets::IdSet;
 
 // ---- wishes
@@ -30,26 +30,16 @@ fn is_ours(s: Service, service: u32) -> bool
     }
 }
 
-// The kind that a number in the map room stands for.
+// Whether an asset whose kind has this number in the map room is wanted. `narrowing.mpt.wanted` asks the same of the kind itself.
+// Stays: turned into the kind first, the number is matched twice for each asset, and `decide_on` takes a third more instructions.
 #[tactic(auto, unfolding(meaning::specs::Tables::kind_of), using(crate::proofs::AssetRules::kind_other))]
-fn kind_of(number: u16) -> Part
-    ensures { result ≡ kind_of number }
+fn wants(o: Options, number: u16) -> bool
+    ensures { result ≡ wanted o (kind_of number) }
 {
     match number {
-        0 => Part::Caption,
-        1 => Part::Carousel,
-        _ => Part::Other,
-    }
-}
-
-// Stays: `narrowing.mpt.wanted` asks the same, and says why it is asked twice.
-fn wanted(o: Options, part: Part) -> bool
-    ensures { result ≡ wanted o part }
-{
-    match part {
-        Part::Caption => o.caption,
-        Part::Carousel => o.carousel,
-        Part::Other => o.other,
+        0 => o.caption,
+        1 => o.carousel,
+        _ => o.other,
     }
 }
 
@@ -57,7 +47,7 @@ fn wanted(o: Options, part: Part) -> bool
 fn stays(o: Options, ours: bool, number: u16) -> bool
     ensures { result ≡ (ours && wanted o (kind_of number)) }
 {
-    ours && wanted(o, kind_of(number))
+    ours && wants(o, number)
 }
 
 // ---- what packages put into the set, and take out of it
