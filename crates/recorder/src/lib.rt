@@ -254,11 +254,11 @@ impl Filter {
             chunk: chunk.len(),
             out: out.len(),
         };
-        let mut kept = self.kept;
-        let a = call_answer(b, &kept, n);
+        let a = call_answer(b, &self.kept, n);
         if a.is_err() {
             return not_pushed(a, self);
         }
+        let mut kept = self.kept;
         clear_unused(b.extent, &mut kept);
         let r = carry_out(b, chunk, &mut kept, map_room, bodies, work, out);
         hand_back(a, b, r, kept)
