@@ -56,6 +56,11 @@ abbrev pub Left : {A : Type 0} → (A → Type 0) → Option A → Type 0
 Left P (Some x) = P x
 Left {A} P None = (x : A) × P x
 
+-- What stands after a step, where the step did not fail.
+abbrev pub standing_if : Option (Unit {0}) → Standing → Option Standing
+standing_if (Some done) x = Some x
+standing_if None x = None
+
 -- Then the bytes are written, where that is asked for. Where nothing is to be written no write fails.
 pub record WrittenAs (writes : Writes) (r : Record) (sums : Counts) (chunk : Bytes) (rooms : Rooms) (y : Option Standing) (rooms' : Rooms) : Type 0 where
   pub standing : Standing

@@ -4,7 +4,7 @@
 // say which bytes are moved.
 ghost use Rattle.std.specs.Prelude.{◌≡◌, ◌≤◌, length, Ok, Some, IfOk};
 ghost use Rattle.std.specs.Result.{result_ok};
-ghost use Rattle.programs.specs.Pipe.{came_of};
+ghost use Rattle.programs.specs.Pipe.{came_of, is_full};
 
 use std::fmt::InlineText;
 use std::fs::{File, metadata};
@@ -75,12 +75,20 @@ pub fn fill(rt: HostRuntime, buf: &mut [u8]) -> Option<usize>
     told(rt, "reading the input", filled(rt, buf))
 }
 
+// Whether so many bytes came as the slice has.
+fn is_full(came: Option<usize>, buf: &[u8]) -> bool
+    ensures { result ≡ is_full came (length buf.now) }
+{
+    came == Some(buf.len())
+}
+
 // Fills a slice; none where the input had fewer bytes, or a read failed.
 pub fn fill_all(rt: HostRuntime, buf: &mut [u8]) -> Option<()> {
-    if fill(rt, buf)? < buf.len() {
-        return None;
+    let came = fill(rt, buf);
+    if is_full(came, buf) {
+        return Some(());
     }
-    Some(())
+    None
 }
 
 // One write, begun again where a signal interrupted it; answers how many bytes were taken. One that takes nothing though it does not fail

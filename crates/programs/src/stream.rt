@@ -9,7 +9,7 @@ ghost use Rattle.meaning.specs.Refusals.{answer_number};
 ghost use Rattle.meaning.specs.Calls.{counts_of};
 ghost use Rattle.recorder.specs.Filter.{record_in};
 ghost use Rattle.programs.specs.Pipe.{came_of};
-ghost use Rattle.programs.specs.Stream.{first_of, to_write, RoomsLong, TakenAs, WrittenAs, NextAs, goes_on, Goes, begun_as, ComeIn, Left, ending_of, unasked_as, Ran, HeadedAs, HeadIn, RanBy, Told};
+ghost use Rattle.programs.specs.Stream.{first_of, to_write, RoomsLong, TakenAs, standing_if, WrittenAs, NextAs, goes_on, Goes, begun_as, ComeIn, Left, ending_of, unasked_as, Ran, HeadedAs, HeadIn, RanBy, Told};
 
 use crate::asked::asked_of;
 use crate::lines::{Ending, Writes, put_last};
@@ -59,9 +59,10 @@ fn first_of(a: Answer, b: Answer) -> Answer
     a.and(b)
 }
 
-// One chunk, without writing what goes on: the call, and its counts added. A refused call has none.
-fn take_in(f: Filter, sums: Counts, chunk: &[u8], rooms: &mut Rooms) -> Standing
-    ensures taken { TakenAs (record_in f) sums chunk.now rooms.old result rooms.new }
+// One chunk, without writing what goes on: the call, and its counts added. A refused call has none. What stands is lent: the record is
+// large, and each step by value would copy it.
+fn take_in(x: &mut Standing, chunk: &[u8], rooms: &mut Rooms)
+    ensures taken { TakenAs (record_in x.old.filter) x.old.sums chunk.now rooms.old x.new rooms.new }
     ensures long { RoomsLong rooms.new }
 {
     let Rooms {
@@ -70,16 +71,12 @@ fn take_in(f: Filter, sums: Counts, chunk: &[u8], rooms: &mut Rooms) -> Standing
         map_room,
         out,
     } = rooms;
-    let p = f.push(chunk, work, bodies, map_room, out);
+    let p = x.filter.push(chunk, work, bodies, map_room, out);
     let c = p.counts;
-    let a = p.answer;
-    let filter = p.filter;
-    Standing {
-        answer: first_of(a, tally_answer(sums, c)),
-        bytes: c.bytes,
-        sums: sum_of(sums, c),
-        filter,
-    }
+    x.answer = first_of(p.answer, tally_answer(x.sums, c));
+    x.bytes = c.bytes;
+    x.sums = sum_of(x.sums, c);
+    x.filter = p.filter;
 }
 
 // Writes the bytes where that is asked for.
@@ -92,43 +89,41 @@ fn write_out(rt: HostRuntime, writes: Writes, bytes: &[u8]) -> Option<()>
     }
 }
 
-// One chunk; what goes on is written where that is asked for.
+// One chunk; what goes on is written where that is asked for. None where a write failed.
 fn one_chunk(
     rt: HostRuntime,
-    x: Standing,
+    x: &mut Standing,
     writes: Writes,
     chunk: &[u8],
     rooms: &mut Rooms,
-) -> Option<Standing>
-    ensures written { WrittenAs writes (record_in x.filter) x.sums chunk.now rooms.old result rooms.new }
+) -> Option<()>
+    ensures written { WrittenAs writes (record_in x.old.filter) x.old.sums chunk.now rooms.old (standing_if result x.new) rooms.new }
     ensures long { RoomsLong rooms.new }
 {
-    let f = x.filter;
-    let sums = x.sums;
-    let y = take_in(f, sums, chunk, rooms);
-    let n = y.bytes;
-    write_out(rt, writes, &rooms.out[0..n])?;
-    Some(y)
+    take_in(x, chunk, rooms);
+    let n = x.bytes;
+    write_out(rt, writes, &rooms.out[0..n])
 }
 
 // ---- all chunks
 
-// A stream by what was read: the bytes that came are the next chunk, and where none came it has ended.
+// A stream by what was read: the bytes that came are the next chunk, and where none came it has ended. None where a read or a write
+// failed.
 fn next(
     rt: HostRuntime,
-    x: Standing,
+    x: &mut Standing,
     came: Option<usize>,
     writes: Writes,
     chunk: &[u8],
     rooms: &mut Rooms,
-) -> Option<Standing>
+) -> Option<()>
     requires { came_of came ≤ length chunk.now }
-    ensures next { NextAs writes x came chunk.now rooms.old result rooms.new }
+    ensures next { NextAs writes x.old came chunk.now rooms.old (standing_if result x.new) rooms.new }
     ensures long { RoomsLong rooms.new }
 {
     let n = came?;
     if n == 0 {
-        return Some(x);
+        return Some(());
     }
     one_chunk(rt, x, writes, &chunk[0..n], rooms)
 }
@@ -154,7 +149,7 @@ fn pass(
     let mut x = first;
     for _ in 0..u64::MAX {
         let came = fill(rt, chunk);
-        x = next(rt, x, came, writes, chunk, rooms)?;
+        next(rt, &mut x, came, writes, chunk, rooms)?;
         if !goes_on(x, came) {
             return Some(x);
         }
