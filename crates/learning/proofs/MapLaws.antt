@@ -80,9 +80,9 @@ pub record Listing (b : Bytes) (at count : ℕ) (fresh : List ℕ) (from left n 
   pub few : n + left ≤ 255
 
 module _ (b : Bytes) (at count : ℕ) where
-  pub list_start : (fresh : List ℕ) → count < 256 → Listing b at count fresh at count 0
+  pub list_start : (fresh : List ℕ) (n : ℕ) → n ≡ 0 → count < 256 → Listing b at count fresh at count n
   unfolding asset_numbers listed
-  list_start fresh h = record { pre = []; reads = behind_nothing (many count entry (drop at b)); numbers = refl; few = omega arith }
+  list_start fresh n z h = record { pre = []; reads = behind_nothing (many count entry (drop at b)); numbers = rw z refl; few = omega (arith, z) }
 
   module _ (fresh : List ℕ) (from left n : ℕ) (i : Listing b at count fresh from left n) where
     pub list_next : (q : Asset) (fresh' : List ℕ) (r : ℕ) → 0 < left → AssetIs b from (Some q)
@@ -129,7 +129,7 @@ module _ (b : Bytes) where
       entries_none fresh from left m i l q = rw (mpt_many, list_cut b (h + 1) n fresh from left m i l q)
 
       pub assets_are : (fresh : List ℕ) → length fresh ≡ 510 → (from left m : ℕ) → Listing b (h + 1) n fresh from left m → left ≡ 0
-          → (known news : News) → Met b (h + 1) n known from left news → AssetsAre (mpt b) known (Some (record { numbers = fresh; count = m; news = news }))
+          → (known news : News) → Met b (h + 1) n known from left news → AssetsAre (mpt b) known (record { numbers = fresh; count = m; news = news }) (Some tt)
       assets_are fresh l from left m i z known news j =
           let all = list_all b (h + 1) n fresh from left m i z in (
             omega (arith, i.few),
@@ -180,7 +180,7 @@ module _ (p i : ℕ) (e : Extent) (map_heads map_room : List ℕ) (at : i ≡ pl
   pub held_is : (o : Out Mpt) → mpt_held o (count_at i (pairs_in e.map_count map_heads)) (drop (512 * i) map_room) ≡ mpt_held o (count_at (place_for p ms) ms) (drop (512 * place_for p ms) map_room)
   held_is o = rw (place, pairs_in_lem k.pairs)
 
-  module _ (b : Bytes) (r : Assets) (a : AssetsAre (mpt b) e.news (Some r)) where
+  module _ (b : Bytes) (r : Assets) (a : AssetsAre (mpt b) e.news r (Some tt)) where
     abbrev fresh : List ℕ
     fresh = r.numbers
 

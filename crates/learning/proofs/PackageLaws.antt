@@ -209,14 +209,14 @@ pub record Sofar (b : Bytes) (all left from n : ℕ) (xs : List ℕ) : Type 0 wh
   pub counted : length pre + left ≡ all
 
 module _ (b : Bytes) where
-  pub start : (count : ℕ) (xs : List ℕ) → 0 < length b → count ≡ get_or b 0 0 → count < 256 → Pairs 255 [] 0 xs → Sofar b count count 1 0 xs
+  pub start : (count n : ℕ) (xs : List ℕ) → 0 < length b → count ≡ get_or b 0 0 → count < 256 → Pairs 255 [] n xs → Sofar b count count 1 n xs
   unfolding plt packages_in rising
-  start count xs h q l k =
+  start count n xs h q l k =
       record {
         pre = [];
         reads = rw (u8_at_lem b 0 1 h (omega arith) refl, q) (behind_nothing (many (get_or b 0 0) package_entry (drop 1 b)));
         kept = record { pairs = k; rise = refl };
-        few = omega arith;
+        few = omega (arith, k.count);
         counted = omega arith;
       }
 
@@ -243,7 +243,7 @@ module _ (b : Bytes) where
         }
 
     -- none left
-    pub all_read : left ≡ 0 → PackagesAre (plt b) (Some (record { packages = xs; count = n; unlisted = not (eqb n all) }))
+    pub all_read : left ≡ 0 → PackagesAre (plt b) (record { packages = xs; count = n; unlisted = not (eqb n all) }) (Some tt)
     unfolding many unlisted
     all_read z =
         let every : all ≡ length i.pre = omega (arith, i.counted) in
@@ -260,7 +260,7 @@ module _ (b : Bytes) (e : Extent) (ps : List (ℕ × ℕ)) (xs : List ℕ) (k : 
   pub plt_unread : plt b ≡ none → PltLearnt (plt b) ps e e xs
   plt_unread h = rw h (refl, k)
 
-  module _ (services : Services) (r : PackagesAre (plt b) (Some services)) where
+  module _ (services : Services) (r : PackagesAre (plt b) services (Some tt)) where
     abbrev n : ℕ
     n = services.count
 

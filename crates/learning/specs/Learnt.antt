@@ -1,5 +1,5 @@
 -- What the functions that read a PLT or an MPT promise, in the terms of the definitions: what the arrays hold afterwards, whatever they held.
-use Rattle.std.specs.Prelude.{ℕ, suc, max, ◌+◌, ◌*◌, ◌/◌, ◌≤◌, ◌<◌, ◌≡◌, ◌≢◌, Bool, true, false, cond, List, [], ◌∷◌, ◌++◌, length, take, drop, get_or, set, ltb, Some, None, Result, Ok, Err}
+use Rattle.std.specs.Prelude.{ℕ, suc, max, ◌+◌, ◌*◌, ◌/◌, ◌≤◌, ◌<◌, ◌≡◌, ◌≢◌, Bool, true, false, cond, List, [], ◌∷◌, ◌++◌, length, take, drop, get_or, set, ltb, Some, None, Result, Ok, Err, ⊤}
 use Rattle.std.specs.Prelude as code
 use Rattle.std.proofs.Math.Option.{Option, none, some}
 use Rattle.meaning.specs.Bytes.{Bytes}
@@ -42,10 +42,10 @@ taken (Some s) None ps = ps
 taken (Some s) (Some p) ps = insert_package s p ps
 
 -- The packages of a PLT's body that have a service and an identifier, in an array of their own, and whether those are not all.
-abbrev pub PackagesAre : Out (List Package) → code.Option Services → Type 0
-PackagesAre o (Some r) =
+abbrev pub PackagesAre : Out (List Package) → Services → code.Option ⊤ → Type 0
+PackagesAre o r (Some read) =
     (ys : List Package) × (more : Bytes) × (o ≡ some (ys, more)) × Pairs 255 (packages_in ys []) r.count r.packages × (r.unlisted ≡ unlisted ys)
-PackagesAre o None = o ≡ none
+PackagesAre o r None = o ≡ none
 
 -- What a PLT makes of the extent and of the packages.
 abbrev pub PltLearnt : Out (List Package) → List (ℕ × ℕ) → Extent → Extent → List ℕ → Type 0
@@ -65,11 +65,11 @@ PltLearnt (some (ys, more)) ps e r xs =
 -- ---- an MPT
 
 -- The listed assets of an MPT's body, as numbers at the front of an array of their own, and what is new with the kinds of all.
-abbrev pub AssetsAre : Out Mpt → News → code.Option Assets → Type 0
-AssetsAre o known (Some r) =
+abbrev pub AssetsAre : Out Mpt → News → Assets → code.Option ⊤ → Type 0
+AssetsAre o known r (Some read) =
     (r.count ≤ 255)
     × ((m : Mpt) × (more : Bytes) × (o ≡ some (m, more)) × (r.count ≡ length (listed m.entries)) × (take (2 * r.count) r.numbers ≡ asset_numbers (listed m.entries)) × (r.news ≡ also known (kinds_in m.entries)))
-AssetsAre o known None = o ≡ none
+AssetsAre o known r None = o ≡ none
 
 -- The two numbers of an asset, if it has an identifier.
 abbrev pub numbers_of : code.Option ℕ → Part → List ℕ

@@ -76,24 +76,21 @@ impl Assets {
     }
 }
 
-// The listed assets of an MPT's body, and what is new beside what was known.
-fn assets_of(b: &[u8], known: News) -> Option<Assets>
-    ensures { AssetsAre (mpt b.now) known result }
+// The listed assets of an MPT's body, and what is new beside what was known, in assets that are none yet: lent, since what is handed back is
+// copied.
+fn assets_of(b: &[u8], assets: &mut Assets) -> Option<()>
+    requires { assets.old.count ≡ 0 }
+    ensures { AssetsAre (mpt b.now) assets.old.news assets.new result }
 {
     let front = mpt_front(b)?;
     let all = wide(*b.get(front)?);
-    let mut assets = Assets {
-        numbers: [0; 510],
-        count: 0,
-        news: known,
-    };
     let mut from = front + 1;
     for _ in 0..all {
         let asset = asset_at(b, from)?;
         from = asset.end;
         assets.take(asset);
     }
-    Some(assets)
+    Some(())
 }
 
 // Writes the first `n` numbers to the map room from `base` on.
@@ -198,7 +195,12 @@ pub fn mpt(b: &[u8], id: u16, e: Extent, map_heads: &mut [u32; 64], map_room: &m
     if let Some(news) = held_news_at(b, i, e, map_heads, map_room) {
         return with_news(e, news);
     }
-    let Some(assets) = assets_of(b, e.news) else {
+    let mut assets = Assets {
+        numbers: [0; 510],
+        count: 0,
+        news: e.news,
+    };
+    let Some(()) = assets_of(b, &mut assets) else {
         return e;
     };
     let known = with_news(e, assets.news);

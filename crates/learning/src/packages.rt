@@ -3,7 +3,7 @@ ghost use Rattle.std.specs.Prelude.{◌≡◌, true, ℕ, ◌+◌, ◌-◌, ◌*
 ghost use Rattle.meaning.specs.Tables.{plt};
 ghost use Rattle.meaning.specs.Learn.{insert_package};
 ghost use Rattle.meaning.specs.Soundness.{rising, firsts};
-ghost use Rattle.learning.specs.Kept.{pairs_in, KeptPackages};
+ghost use Rattle.learning.specs.Kept.{pairs_in, Pairs, KeptPackages};
 ghost use Rattle.learning.specs.News.{also, unlisted_news, lists_service, same_numbers};
 ghost use Rattle.learning.specs.Learnt.{Rising, SlotIs, taken, PackagesAre, PltLearnt};
 
@@ -56,16 +56,12 @@ impl Services {
     }
 }
 
-// The packages of a PLT's body.
-fn packages_of(b: &[u8]) -> Option<Services>
-    ensures { PackagesAre (plt b.now) result }
+// The packages of a PLT's body, in services that are none yet: lent, since what is handed back is copied.
+fn packages_of(b: &[u8], services: &mut Services) -> Option<()>
+    requires { Pairs 255 [] services.old.count services.old.packages }
+    ensures { PackagesAre (plt b.now) services.new result }
 {
     let all = wide(*b.first()?);
-    let mut services = Services {
-        packages: [0; 255],
-        count: 0,
-        unlisted: false,
-    };
     let mut from = 1;
     for _ in 0..all {
         let package = package_at(b, from)?;
@@ -73,7 +69,7 @@ fn packages_of(b: &[u8]) -> Option<Services>
         services.take(package);
     }
     services.unlisted = services.count != all;
-    Some(services)
+    Some(())
 }
 
 // Whether these packages are what the latest PLT said.
@@ -100,7 +96,12 @@ pub fn plt(b: &[u8], e: Extent, packages: &mut [u32; 255]) -> Extent
     requires { (ps : List (ℕ × ℕ)) × KeptPackages ps e.package_count packages.old }
     ensures { (ps : List (ℕ × ℕ)) → KeptPackages ps e.package_count packages.old → PltLearnt (plt b.now) ps e result packages.new }
 {
-    let Some(services) = packages_of(b) else {
+    let mut services = Services {
+        packages: [0; 255],
+        count: 0,
+        unlisted: false,
+    };
+    let Some(()) = packages_of(b, &mut services) else {
         return e;
     };
     let known = with_news(e, with_unlisted(e.news, services.unlisted));

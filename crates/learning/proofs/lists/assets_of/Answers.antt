@@ -15,7 +15,7 @@ returns-in_err-get c =
 pub loop-init : goal.loop-init
 loop-init c =
     let all : c.wide-all.result - 0 ≡ c.wide-all.result = omega arith in
-    rw all (list_start _ _ _ _ c.wide-all.ensures.1, record { met = refl }, refl)
+    rw all (list_start _ _ _ _ _ c.requires c.wide-all.ensures.1, record { met = refl }, omega arith)
 
 pub returns-in_err-asset : goal.returns-in_err-asset
 returns-in_err-asset c =

@@ -1,7 +1,6 @@
 use Prim.Native.Nat.{◌+◌, ◌-◌}
 use mathlib.Core.Path.{◌≡◌, ◌∙◌}
 use native.Mathlib.Omega.{arith}
-use Rattle.learning.proofs.PairLaws.{pairs_none}
 use Rattle.learning.proofs.PackageLaws.{plt_none, start, broken, turn, all_read}
 use Rattle.learning.proofs.packages.packages_of.Goals as goal
 
@@ -13,7 +12,7 @@ loop-init c =
     let all : c.wide-all.result - 0 ≡ c.wide-all.result = omega arith in
     let there = c.in_ok-first.ensures.item.3 in
     let w = c.wide-all.ensures in
-    rw all (start c.args.b.now c.wide-all.result _ there.0 (w.0 ∙ there.1 0) w.1 (pairs_none 255))
+    rw all (start c.args.b.now c.wide-all.result _ _ there.0 (w.0 ∙ there.1 0) w.1 c.requires)
 
 pub returns-in_err-package : goal.returns-in_err-package
 returns-in_err-package c =

@@ -1,7 +1,11 @@
 use mathlib.Core.Path.{◌∙◌, sym}
 use native.Mathlib.Omega.{arith}
+use Rattle.learning.proofs.PairLaws.{pairs_none}
 use Rattle.learning.proofs.PackageLaws.{plt_unread, plt_known, plt_new}
 use Rattle.learning.proofs.packages.plt.Goals as goal
+
+pub packages_of-requires : goal.packages_of-requires
+packages_of-requires c = pairs_none 255
 
 pub returns-in_default : goal.returns-in_default
 returns-in_default c =
