@@ -63,10 +63,8 @@ impl Assets {
         requires { self.old.count < 255 }
         ensures listed { take (2 * self.new.count) self.new.numbers ≡ take (2 * self.old.count) self.old.numbers ++ numbers_of asset.carrier asset.part }
         ensures few { self.new.count ≤ self.old.count + 1 }
-        ensures told { self.new.news ≡ also self.old.news (kind_news asset.part) }
         ensures all { length self.new.numbers ≡ 510 }
     {
-        self.news = with_kind(self.news, asset.part);
         let Some(id) = asset.carrier else {
             return;
         };
@@ -85,11 +83,14 @@ fn assets_of(b: &[u8], assets: &mut Assets) -> Option<()>
     let front = mpt_front(b)?;
     let all = wide(*b.get(front)?);
     let mut from = front + 1;
+    let mut news = assets.news;
     for _ in 0..all {
         let asset = asset_at(b, from)?;
         from = asset.end;
+        news = with_kind(news, asset.part);
         assets.take(asset);
     }
+    assets.news = news;
     Some(())
 }
 

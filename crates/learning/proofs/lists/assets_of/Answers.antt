@@ -37,7 +37,7 @@ loop-preserved c =
     let asset = c.in_ok-asset.ensures in
     rw one_less (
       list_next _ _ _ l.assets.numbers l.from _ l.assets.count l.invariant.0 c.in_ok-asset.asset q.new.self.numbers q.new.self.count (omega arith) asset q.ensures.listed q.ensures.few,
-      rw q.ensures.told (met_next _ _ _ _ l.from _ l.assets.news l.invariant.1 c.in_ok-asset.asset (omega arith) asset),
+      rw c.with_kind-news.ensures (met_next _ _ _ _ l.from _ l.news l.invariant.1 c.in_ok-asset.asset (omega arith) asset),
       q.ensures.all,
     )
 
@@ -47,4 +47,4 @@ returns c =
     let l = c.loop in
     let there = c.in_ok-get.ensures.lookup.3 in
     assets_are _ c.in_ok-front.front c.in_ok-front.ensures there.0 w.result (w.ensures.0 ∙ there.1 0) w.ensures.1 l.assets.numbers l.invariant.2 l.from _ l.assets.count l.invariant.0
-    (omega arith) _ l.assets.news l.invariant.1
+    (omega arith) _ l.news l.invariant.1
