@@ -93,6 +93,13 @@ module _ (s n : ℕ) (xs : List ℕ) (in_xs : n ≤ length xs) (rise : rising (f
   at_slot : (i : ℕ) → i < n → get_or (take n xs) i 0 / 65536 ≡ (get_or (pairs_in n xs) i (0, 0)).0
   at_slot i h = ap (λ (z : ℕ). z / 65536) (get_or-take n xs i 0 h) ∙ sym (first_in n xs i h)
 
+  -- behind them all
+  pub behind_last : (0 < n → first (n - 1) < s) → SlotIs s n xs (Err n)
+  behind_last last =
+      let k : length (pairs_in n xs) ≡ n = in_length n xs in_xs in
+      let below : (j : ℕ) → j < n → first j < s = λ j h. grind (arith, last (omega arith), firsts_rise j (n - 1), λ (e : j ≡ n - 1). ap first e) in
+      (before_is s (pairs_in n xs) n (omega arith) (λ j h. omega (arith, below j h, first_in n xs j h)) (λ h. absurd (omega arith)), omega arith, λ h. absurd (omega arith))
+
   pub searched : (r : Result ℕ ℕ) → IsSearchInRange r (length (take n xs)) → IsBinarySearchResult (λ y. nat_cmp (y / 65536) s) (take n xs) r → SlotIs s n xs r
   searched (Ok at) in_range equal =
       let m : length (take n xs) ≡ n = length-take-le n xs in_xs in

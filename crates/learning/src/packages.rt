@@ -22,12 +22,17 @@ pub struct Services {
 }
 
 impl Services {
-    // The slot in which the package of a service is, or in which it would go.
+    // The slot in which the package of a service is, or in which it would go. In most PLTs services rise: then it is the one behind the last,
+    // and nothing is searched.
     fn slot_for(&self, service: u16) -> Result<usize, usize>
         requires { (self.now.count ≤ 255) × (rising (firsts (pairs_in self.now.count self.now.packages)) ≡ true) }
         ensures { SlotIs service self.now.count self.now.packages result }
     {
-        self.packages[..self.count].binary_search_by_key(&service, |p| Pair::from(*p).first)
+        let n = self.count;
+        if n == 0 || Pair::from(self.packages[n - 1]).first < service {
+            return Err(n);
+        }
+        self.packages[..n].binary_search_by_key(&service, |p| Pair::from(*p).first)
     }
 
     // A package in its slot.
