@@ -63,6 +63,7 @@ impl Assets {
         requires { self.old.count < 255 }
         ensures listed { take (2 * self.new.count) self.new.numbers ≡ take (2 * self.old.count) self.old.numbers ++ numbers_of asset.carrier asset.part }
         ensures few { self.new.count ≤ self.old.count + 1 }
+        ensures news_same { self.new.news ≡ self.old.news }
         ensures all { length self.new.numbers ≡ 510 }
     {
         let Some(id) = asset.carrier else {
