@@ -235,9 +235,9 @@ fn not_pushed(why: Answer, f: Filter) -> Pushed
 }
 
 impl Filter {
-    // Takes in a chunk; what goes on is written to the output. The arrays are taken out once and put back once: they are large.
+    // Takes in a chunk; what goes on is written to the output. The arrays change where they came to, and are put back once: they are large.
     pub fn push(
-        self,
+        mut self,
         chunk: &[u8],
         work: &mut [u8],
         bodies: &mut [u8],
@@ -258,10 +258,9 @@ impl Filter {
         if a.is_err() {
             return not_pushed(a, self);
         }
-        let mut kept = self.kept;
-        clear_unused(b.extent, &mut kept);
-        let r = carry_out(b, chunk, &mut kept, map_room, bodies, work, out);
-        hand_back(a, b, r, kept)
+        clear_unused(b.extent, &mut self.kept);
+        let r = carry_out(b, chunk, &mut self.kept, map_room, bodies, work, out);
+        hand_back(a, b, r, self.kept)
     }
 
     // How many identifiers the present rules drop.
